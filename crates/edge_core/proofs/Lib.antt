@@ -1,0 +1,9 @@
+pub mod Basics
+pub mod NameLaws
+pub mod Prefixes
+pub mod Listings
+pub mod Growth
+pub mod Parts
+pub mod Shelves
+pub mod Slots
+pub mod Puts
