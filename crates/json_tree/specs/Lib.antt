@@ -1,0 +1,5 @@
+pub mod Fields
+pub mod Gives
+pub mod Lists
+pub mod Pairs
+pub mod Tree

@@ -1,0 +1,109 @@
+-- The actions that JSON objects stand for (Delta Lake PROTOCOL.md, "Actions"). The least number of a faulty field is told.
+use Rattle.std.specs.Prelude.{ℕ, ◌^◌, ℤ, pos, negsuc, [], true, Option, Some, None, Result, Ok, Err, option_map, option_and_then, is_some, nat_lt, if◌then◌else◌, codes}
+use Rattle.serde_json.specs.Data.{Data}
+use Rattle.serde_json.specs.Find.{as_bool, as_str, as_object}
+use Rattle.json_tree.specs.Fields.{field, present, whole, texts, pairs}
+use Rattle.json_tree.specs.declared.fields.FieldFault.{FieldFault}
+use Rattle.log_actions.specs.declared.numbers.TheConstants.{VALUE, PROTOCOL_MIN_READER_VERSION, PROTOCOL_MIN_WRITER_VERSION, META_DATA_ID, META_DATA_NAME, META_DATA_DESCRIPTION, META_DATA_FORMAT, META_DATA_SCHEMA_STRING, META_DATA_PARTITION_COLUMNS, META_DATA_CONFIGURATION, META_DATA_CREATED_TIME, ADD_PATH, ADD_PARTITION_VALUES, ADD_SIZE, ADD_MODIFICATION_TIME, ADD_DATA_CHANGE, ADD_STATS, ADD_TAGS, REMOVE_PATH, REMOVE_DELETION_TIMESTAMP, REMOVE_DATA_CHANGE, REMOVE_PARTITION_VALUES, REMOVE_SIZE}
+use Rattle.log_actions.specs.Faults.{◌>>=◌, fault_of}
+use Rattle.log_actions.specs.declared.line_fault.LineFault.{LineFault}
+use Rattle.log_actions.specs.declared.line_fault.LineFault.TheVariants.{Field}
+use Rattle.log_actions.specs.declared.actions.AddFile.{AddFile}
+use Rattle.log_actions.specs.declared.actions.RemoveFile.{RemoveFile}
+use Rattle.log_actions.specs.declared.actions.Protocol.{Protocol}
+use Rattle.log_actions.specs.declared.actions.MetaData.{MetaData}
+use Rattle.log_actions.specs.declared.actions.Format.{Format}
+
+-- a field that has to be there
+abbrev pub required : {X : Type 0} → ℕ → Result (Option X) FieldFault → Result X LineFault
+required which (Err e) = Err (fault_of which e)
+required which (Ok None) = Err (Field which)
+required which (Ok (Some x)) = Ok x
+
+-- a field that may be absent
+abbrev pub optional : {X : Type 0} → ℕ → Result (Option X) FieldFault → Result (Option X) LineFault
+optional which (Err e) = Err (fault_of which e)
+optional which (Ok o) = Ok o
+
+-- a field with a default
+abbrev pub default_to : {X : Type 0} → ℕ → X → Result (Option X) FieldFault → Result X LineFault
+default_to which default (Err e) = Err (fault_of which e)
+default_to which default (Ok None) = Ok default
+default_to which default (Ok (Some x)) = Ok x
+
+abbrev pub count_below : ℕ → ℤ → Option ℕ
+count_below limit (pos n) = if nat_lt n limit then Some n else None
+count_below limit (negsuc n) = None
+
+-- a whole number from 0 on, below a limit
+abbrev pub count : ℕ → Data → Option ℕ
+count limit d = option_and_then (count_below limit) (whole d)
+
+-- the value of an action has to be an object
+abbrev pub as_action : Data → Result (Unit {0}) LineFault
+as_action d = if is_some (as_object d) then Ok tt else Err (Field VALUE)
+
+-- "Protocol Evolution"
+unfoldable pub protocol_of : Data → Result Protocol LineFault
+protocol_of d = do
+  o ← as_action d
+  reader ← required PROTOCOL_MIN_READER_VERSION (field (count (2 ^ 31)) (codes "minReaderVersion") d)
+  writer ← required PROTOCOL_MIN_WRITER_VERSION (field (count (2 ^ 31)) (codes "minWriterVersion") d)
+  Ok (record { min_reader = reader; min_writer = writer })
+
+-- a field with a default: none where it is of another kind
+abbrev pub or_else : {X : Type 0} → X → Result (Option X) FieldFault → Option X
+or_else default (Err e) = None
+or_else default (Ok None) = Some default
+or_else default (Ok (Some x)) = Some x
+
+-- the value of the field `format`
+unfoldable pub format_in : Data → Option Format
+format_in d =
+    if is_some (as_object d)
+    then option_and_then (λ provider. option_map (λ options. record { provider = provider; options = options })
+    (or_else [] (field pairs (codes "options") d)))
+    (or_else (codes "parquet") (field as_str (codes "provider") d))
+    else None
+
+-- the format of a table that names none
+abbrev pub parquet : Format
+parquet = record { provider = codes "parquet"; options = [] }
+
+-- "Add File and Remove File"
+unfoldable pub add_of : Data → Result AddFile LineFault
+add_of d = do
+  o ← as_action d
+  path ← required ADD_PATH (field as_str (codes "path") d)
+  values ← default_to ADD_PARTITION_VALUES [] (field pairs (codes "partitionValues") d)
+  size ← required ADD_SIZE (field (count (2 ^ 63)) (codes "size") d)
+  modified ← default_to ADD_MODIFICATION_TIME (pos 0) (field whole (codes "modificationTime") d)
+  change ← default_to ADD_DATA_CHANGE true (field as_bool (codes "dataChange") d)
+  stats ← optional ADD_STATS (field as_str (codes "stats") d)
+  tags ← optional ADD_TAGS (field pairs (codes "tags") d)
+  Ok (record { path = path; values = values; size = size; modified = modified; data_change = change; stats = stats; tags = tags; vector = is_some (present (codes "deletionVector") d) })
+
+-- "Add File and Remove File"
+unfoldable pub remove_of : Data → Result RemoveFile LineFault
+remove_of d = do
+  o ← as_action d
+  path ← required REMOVE_PATH (field as_str (codes "path") d)
+  deleted ← optional REMOVE_DELETION_TIMESTAMP (field whole (codes "deletionTimestamp") d)
+  change ← default_to REMOVE_DATA_CHANGE true (field as_bool (codes "dataChange") d)
+  values ← optional REMOVE_PARTITION_VALUES (field pairs (codes "partitionValues") d)
+  size ← optional REMOVE_SIZE (field (count (2 ^ 63)) (codes "size") d)
+  Ok (record { path = path; deleted = deleted; data_change = change; values = values; size = size; vector = is_some (present (codes "deletionVector") d) })
+
+-- "Change Metadata"
+unfoldable pub meta_data_of : Data → Result MetaData LineFault
+meta_data_of d = do
+  o ← as_action d
+  id ← required META_DATA_ID (field as_str (codes "id") d)
+  name ← optional META_DATA_NAME (field as_str (codes "name") d)
+  description ← optional META_DATA_DESCRIPTION (field as_str (codes "description") d)
+  format ← default_to META_DATA_FORMAT parquet (field format_in (codes "format") d)
+  schema ← required META_DATA_SCHEMA_STRING (field as_str (codes "schemaString") d)
+  columns ← default_to META_DATA_PARTITION_COLUMNS [] (field texts (codes "partitionColumns") d)
+  configuration ← default_to META_DATA_CONFIGURATION [] (field pairs (codes "configuration") d)
+  created ← optional META_DATA_CREATED_TIME (field whole (codes "createdTime") d)
+  Ok (record { id = id; name = name; description = description; format = format; schema = schema; columns = columns; configuration = configuration; created = created })

@@ -1,0 +1,166 @@
+// The fields of an action, and the faults by which they are told.
+ghost use Rattle.std.specs.Prelude.{◌≡◌, ◌^◌, is_some};
+ghost use Rattle.serde_json.specs.View.{view};
+ghost use Rattle.serde_json.specs.Find.{as_str};
+ghost use Rattle.json_tree.specs.Fields.{field, or_wrong, present};
+ghost use Rattle.json_tree.specs.Gives.{Gives as Found};
+ghost use Rattle.log_actions.specs.Faults.{Gives};
+ghost use Rattle.log_actions.specs.Faults as faults;
+ghost use Rattle.log_actions.specs.Reading.{as_action, count, format_in};
+ghost use Rattle.log_actions.specs.Reading as reading;
+
+use crate::{Format, LineFault, numbers};
+use json_tree::{FieldFault, Pairs, Text, member_at, pairs_at, text_at, whole_at};
+use serde_json::Value;
+use std::alloc::Global;
+
+fn fault_of(which: u16, fault: FieldFault) -> LineFault
+    ensures { result ≡ faults.fault_of which fault }
+{
+    match fault {
+        FieldFault::WrongKind => LineFault::Field { which },
+        FieldFault::NoMemory => LineFault::NoMemory,
+    }
+}
+
+/// A field that has to be there.
+pub fn required<X: Drop>(which: u16, read: Result<Option<X>, FieldFault>) -> Result<X, LineFault>
+    ensures { result ≡ reading.required which read }
+{
+    match read {
+        Ok(Some(value)) => Ok(value),
+        Ok(None) => Err(LineFault::Field { which }),
+        Err(fault) => Err(fault_of(which, fault)),
+    }
+}
+
+/// A field that may be absent.
+pub fn optional<X: Drop>(
+    which: u16,
+    read: Result<Option<X>, FieldFault>,
+) -> Result<Option<X>, LineFault>
+    ensures { result ≡ reading.optional which read }
+{
+    match read {
+        Ok(value) => Ok(value),
+        Err(fault) => Err(fault_of(which, fault)),
+    }
+}
+
+/// A field with a default.
+pub fn default_to<X: Drop>(
+    which: u16,
+    default: X,
+    read: Result<Option<X>, FieldFault>,
+) -> Result<X, LineFault>
+    ensures { result ≡ reading.default_to which default read }
+{
+    match read {
+        Ok(Some(value)) => Ok(value),
+        Ok(None) => Ok(default),
+        Err(fault) => Err(fault_of(which, fault)),
+    }
+}
+
+/// A text that has to be there.
+#[tactic(auto, using(crate::proofs::FieldReads::Gives_required))]
+pub fn required_text(
+    alloc: Global,
+    object: &Value,
+    name: &str,
+    which: u16,
+) -> Result<Text, LineFault>
+    ensures { Gives result (reading.required which (field as_str name.now (view object.now))) }
+{
+    required(which, text_at(alloc, object, name))
+}
+
+/// A text that may be absent.
+#[tactic(auto, using(crate::proofs::FieldReads::Gives_optional))]
+pub fn optional_text(
+    alloc: Global,
+    object: &Value,
+    name: &str,
+    which: u16,
+) -> Result<Option<Text>, LineFault>
+    ensures { Gives result (reading.optional which (field as_str name.now (view object.now))) }
+{
+    optional(which, text_at(alloc, object, name))
+}
+
+/// Refuses an action's value that isn't an object.
+pub fn object_of(value: &Value) -> Result<(), LineFault>
+    ensures { Gives result (as_action (view value.now)) }
+{
+    if value.is_object() {
+        Ok(())
+    } else {
+        Err(LineFault::Field {
+            which: numbers::VALUE,
+        })
+    }
+}
+
+/// A version of the protocol.
+pub fn version_at(object: &Value, name: &str) -> Result<Option<u32>, FieldFault>
+    ensures { result ≡ field (count (2 ^ 31)) name.now (view object.now) }
+{
+    match whole_at(object, name)? {
+        Some(number) => {
+            if number >= 0 && number < 0x8000_0000 {
+                Ok(Some(number as u32))
+            } else {
+                Err(FieldFault::WrongKind)
+            }
+        }
+        None => Ok(None),
+    }
+}
+
+/// A number of bytes.
+pub fn size_at(object: &Value, name: &str) -> Result<Option<u64>, FieldFault>
+    ensures { result ≡ field (count (2 ^ 63)) name.now (view object.now) }
+{
+    match whole_at(object, name)? {
+        Some(number) => match u64::try_from(number) {
+            Ok(number) => Ok(Some(number)),
+            Err(_) => Err(FieldFault::WrongKind),
+        },
+        None => Ok(None),
+    }
+}
+
+#[tactic(auto, unfolding(crate::specs::Reading::format_in))]
+fn format_of(alloc: Global, value: &Value) -> Result<Format, FieldFault>
+    ensures { Found result (or_wrong (format_in (view value.now))) }
+{
+    if !value.is_object() {
+        return Err(FieldFault::WrongKind);
+    }
+    let provider = match text_at(alloc, value, "provider")? {
+        Some(provider) => provider,
+        None => Text::of(String::from_str(alloc, "parquet")?),
+    };
+    let options = match pairs_at(alloc, value, "options")? {
+        Some(options) => options,
+        None => Pairs::new(alloc),
+    };
+    Ok(Format { provider, options })
+}
+
+/// A format of the table's files.
+pub fn format_at(alloc: Global, object: &Value, name: &str) -> Result<Option<Format>, FieldFault>
+    ensures { Found result (field format_in name.now (view object.now)) }
+{
+    match member_at(object, name) {
+        Some(value) => Ok(Some(format_of(alloc, value)?)),
+        None => Ok(None),
+    }
+}
+
+/// Whether the object has a member of that name that isn't null.
+pub fn has_member(object: &Value, name: &str) -> bool
+    ensures { result ≡ is_some (present name.now (view object.now)) }
+{
+    member_at(object, name).is_some()
+}

@@ -1,0 +1,79 @@
+// The action that a line stands for.
+ghost use Rattle.std.specs.Prelude.{◌≡◌, option_map};
+ghost use Rattle.serde_json.specs.View.{view, members_view};
+ghost use Rattle.log_actions.specs.Faults.{Gives};
+ghost use Rattle.log_actions.specs.Lines.{action_at, action_in, refuse_features, members_left, only_member as sole_member, only_one};
+
+use crate::fields::has_member;
+use crate::reading::{read_add, read_meta_data, read_protocol, read_remove};
+use crate::{Action, LineFault};
+use json_tree::{TreeFault, tree_of};
+use serde_json::{Map, Value};
+use std::alloc::Global;
+
+// The one member that isn't null.
+fn only_of(members: &Map<String, Value>) -> Option<(&str, &Value)>
+    ensures { option_map (λ m. (m.0.now, view m.1.now)) result ≡ only_one (members_left (members_view members.now.entries)) }
+{
+    let mut found = None;
+    for (name, value) in members {
+        if value.is_null() {
+            continue;
+        }
+        if found.is_some() {
+            return None;
+        }
+        found = Some((name.as_str(), value));
+    }
+    found
+}
+
+fn only_member(object: &Value) -> Option<(&str, &Value)>
+    ensures { option_map (λ m. (m.0.now, view m.1.now)) result ≡ sole_member (view object.now) }
+{
+    only_of(object.as_object()?)
+}
+
+// Refuses what isn't read yet.
+fn without_features(value: &Value) -> Result<(), LineFault>
+    ensures { Gives result (refuse_features (view value.now)) }
+{
+    if has_member(value, "readerFeatures") || has_member(value, "writerFeatures") {
+        Err(LineFault::Unread)
+    } else {
+        Ok(())
+    }
+}
+
+#[tactic(auto, unfolding(crate::specs::Lines::action_in))]
+fn read_action(alloc: Global, name: &str, value: &Value) -> Result<Option<Action>, LineFault>
+    ensures { Gives result (action_in name.now (view value.now)) }
+{
+    match name {
+        "protocol" => {
+            without_features(value)?;
+            Ok(Some(Action::Protocol(read_protocol(value)?)))
+        }
+        "metaData" => Ok(Some(Action::MetaData(read_meta_data(alloc, value)?))),
+        "add" => Ok(Some(Action::Add(read_add(alloc, value)?))),
+        "remove" => Ok(Some(Action::Remove(read_remove(alloc, value)?))),
+        "cdc" | "txn" | "commitInfo" => Err(LineFault::Unread),
+        _ => Ok(None),
+    }
+}
+
+/// The action that a line stands for; none where its one member has another name.
+pub fn action_of_line(alloc: Global, line: &[u8]) -> Result<Option<Action>, LineFault>
+    ensures { Gives result (action_at line.now) }
+{
+    let value = match tree_of(alloc, line) {
+        Ok(value) => value,
+        Err(TreeFault::NotUtf8) => return Err(LineFault::NotUtf8),
+        Err(TreeFault::NotJson) => return Err(LineFault::NotJson),
+        Err(TreeFault::NoMemory) => return Err(LineFault::NoMemory),
+    };
+    match only_member(&value) {
+        Some((name, value)) => read_action(alloc, name, value),
+        None => Err(LineFault::NotOneKey),
+    }
+}

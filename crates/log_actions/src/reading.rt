@@ -1,0 +1,152 @@
+// The actions that JSON objects stand for.
+ghost use Rattle.std.specs.Prelude.{◌≡◌, IfOk};
+ghost use Rattle.serde_json.specs.View.{view};
+ghost use Rattle.log_actions.specs.Faults.{Gives};
+ghost use Rattle.log_actions.specs.Reading.{add_of, meta_data_of, parquet, protocol_of, remove_of};
+
+use crate::fields::{
+    default_to, format_at, has_member, object_of, optional, optional_text, required, required_text,
+    size_at, version_at,
+};
+use crate::{AddFile, Format, LineFault, MetaData, Protocol, RemoveFile, numbers};
+use json_tree::{Pairs, Text, Texts, flag_at, pairs_at, texts_at, whole_at};
+use serde_json::Value;
+use std::alloc::{AllocError, Global};
+
+#[tactic(auto, unfolding(crate::specs::Reading::protocol_of))]
+pub fn read_protocol(value: &Value) -> Result<Protocol, LineFault>
+    ensures { Gives result (protocol_of (view value.now)) }
+{
+    object_of(value)?;
+    let min_reader = required(
+        numbers::PROTOCOL_MIN_READER_VERSION,
+        version_at(value, "minReaderVersion"),
+    )?;
+    let min_writer = required(
+        numbers::PROTOCOL_MIN_WRITER_VERSION,
+        version_at(value, "minWriterVersion"),
+    )?;
+    Ok(Protocol {
+        min_reader,
+        min_writer,
+    })
+}
+
+fn parquet_format(alloc: Global) -> Result<Format, AllocError>
+    ensures { IfOk result (λ f. f ≡ parquet) }
+{
+    Ok(Format {
+        provider: Text::of(String::from_str(alloc, "parquet")?),
+        options: Pairs::new(alloc),
+    })
+}
+
+#[tactic(auto, using(crate::proofs::FieldReads::Gives_required, crate::proofs::FieldReads::Gives_optional, crate::proofs::FieldReads::Gives_default_to), unfolding(crate::specs::Reading::meta_data_of))]
+pub fn read_meta_data(alloc: Global, value: &Value) -> Result<MetaData, LineFault>
+    ensures { Gives result (meta_data_of (view value.now)) }
+{
+    object_of(value)?;
+    let id = required_text(alloc, value, "id", numbers::META_DATA_ID)?;
+    let name = optional_text(alloc, value, "name", numbers::META_DATA_NAME)?;
+    let description = optional_text(alloc, value, "description", numbers::META_DATA_DESCRIPTION)?;
+    let parquet = parquet_format(alloc)?;
+    let format = default_to(
+        numbers::META_DATA_FORMAT,
+        parquet,
+        format_at(alloc, value, "format"),
+    )?;
+    let schema = required_text(
+        alloc,
+        value,
+        "schemaString",
+        numbers::META_DATA_SCHEMA_STRING,
+    )?;
+    let columns = default_to(
+        numbers::META_DATA_PARTITION_COLUMNS,
+        Texts::of(Vec::new(alloc)),
+        texts_at(alloc, value, "partitionColumns"),
+    )?;
+    let configuration = default_to(
+        numbers::META_DATA_CONFIGURATION,
+        Pairs::new(alloc),
+        pairs_at(alloc, value, "configuration"),
+    )?;
+    let created = optional(
+        numbers::META_DATA_CREATED_TIME,
+        whole_at(value, "createdTime"),
+    )?;
+    Ok(MetaData {
+        id,
+        name,
+        description,
+        format,
+        schema,
+        columns,
+        configuration,
+        created,
+    })
+}
+
+#[tactic(auto, using(crate::proofs::FieldReads::Gives_required, crate::proofs::FieldReads::Gives_optional, crate::proofs::FieldReads::Gives_default_to), unfolding(crate::specs::Reading::add_of))]
+pub fn read_add(alloc: Global, value: &Value) -> Result<AddFile, LineFault>
+    ensures { Gives result (add_of (view value.now)) }
+{
+    object_of(value)?;
+    let path = required_text(alloc, value, "path", numbers::ADD_PATH)?;
+    let values = default_to(
+        numbers::ADD_PARTITION_VALUES,
+        Pairs::new(alloc),
+        pairs_at(alloc, value, "partitionValues"),
+    )?;
+    let size = required(numbers::ADD_SIZE, size_at(value, "size"))?;
+    let modified = default_to(
+        numbers::ADD_MODIFICATION_TIME,
+        0,
+        whole_at(value, "modificationTime"),
+    )?;
+    let data_change = default_to(numbers::ADD_DATA_CHANGE, true, flag_at(value, "dataChange"))?;
+    let stats = optional_text(alloc, value, "stats", numbers::ADD_STATS)?;
+    let tags = optional(numbers::ADD_TAGS, pairs_at(alloc, value, "tags"))?;
+    let vector = has_member(value, "deletionVector");
+    Ok(AddFile {
+        path,
+        values,
+        size,
+        modified,
+        data_change,
+        stats,
+        tags,
+        vector,
+    })
+}
+
+#[tactic(auto, using(crate::proofs::FieldReads::Gives_required, crate::proofs::FieldReads::Gives_optional), unfolding(crate::specs::Reading::remove_of))]
+pub fn read_remove(alloc: Global, value: &Value) -> Result<RemoveFile, LineFault>
+    ensures { Gives result (remove_of (view value.now)) }
+{
+    object_of(value)?;
+    let path = required_text(alloc, value, "path", numbers::REMOVE_PATH)?;
+    let deleted = optional(
+        numbers::REMOVE_DELETION_TIMESTAMP,
+        whole_at(value, "deletionTimestamp"),
+    )?;
+    let data_change = default_to(
+        numbers::REMOVE_DATA_CHANGE,
+        true,
+        flag_at(value, "dataChange"),
+    )?;
+    let values = optional(
+        numbers::REMOVE_PARTITION_VALUES,
+        pairs_at(alloc, value, "partitionValues"),
+    )?;
+    let size = optional(numbers::REMOVE_SIZE, size_at(value, "size"))?;
+    let vector = has_member(value, "deletionVector");
+    Ok(RemoveFile {
+        path,
+        deleted,
+        data_change,
+        values,
+        size,
+        vector,
+    })
+}

@@ -1,0 +1,4 @@
+pub mod Reconciliation
+pub mod Support
+pub mod State
+pub mod Applied

@@ -1,0 +1,4 @@
+pub mod Log
+pub mod Names
+pub mod Reading
+pub mod Refusals

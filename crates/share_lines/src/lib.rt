@@ -1,0 +1,10 @@
+//! The lines of an answer: protocol, metaData and files (Delta Sharing PROTOCOL.md, "API Response
+//! Format in Parquet").
+#![tactic(auto)]
+
+mod lines;
+#[cfg(test)]
+mod tests;
+mod write;
+
+pub use lines::{push_file, push_meta, push_protocol};

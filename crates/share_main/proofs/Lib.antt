@@ -1,0 +1,5 @@
+mod Files
+mod Flows
+mod Runs
+mod Laws
+mod Tables

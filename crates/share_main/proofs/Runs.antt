@@ -1,0 +1,96 @@
+-- From the parts of a run to the whole.
+use Rattle.std.proofs.Common.{◌≡◌, ℕ, List, Option, Some, None, refl, sym, ap, ◌∙◌, subst, Result, Ok, Err, inl, inr}
+use Rattle.std.specs.Prelude.{Bool, true, false, take}
+use Rattle.std.specs.Bool.{OnTrue}
+use Rattle.std.specs.Io.KnownBytes.{append_known}
+use Rattle.edge_core.specs.Faults.{Rose}
+use Rattle.edge_core.specs.Objects.{Objects, Grows, Between}
+use Rattle.log_store.specs.declared.refusal.LogRefusal.{LogRefusal}
+use Rattle.share_main.specs.Ends.{note}
+use Rattle.share_main.specs.Table.{lines_in}
+use Rattle.share_main.specs.Outside.{Outside}
+use Rattle.share_main.specs.Run.{IsAtEnd, Answers, Means, Notes, Writes, IsRun}
+use Rattle.share_main.specs.Steps.{LeavesRest, Found, Prints, Runs, Tells}
+use Rattle.share_main.specs.declared.ends.End.{End}
+use Rattle.share_main.specs.declared.ends.End.TheVariants as ends
+use Rattle.share_main.specs.declared.words.Command.{Command}
+use Rattle.share_main.specs.declared.words.Command.TheVariants as command
+
+prints_rest : (text : List ℕ) (old new : Outside) (end : End) → Prints text old new end → LeavesRest old new
+prints_rest text old new ends.Done p = p.0
+prints_rest text old new ends.WriteFault p = p.0
+prints_rest text old new ends.Words p = absurd p
+prints_rest text old new ends.Input p = absurd p
+prints_rest text old new (ends.Table why) p = absurd p
+prints_rest text old new ends.ReadFault p = absurd p
+prints_rest text old new ends.StoreFault p = absurd p
+prints_rest text old new ends.NoMemory p = absurd p
+
+printed_means : (asked : Option Command) (old mid new : Outside) (text : List ℕ) (end : End) → Answers asked old new (Ok text) → mid.held ≡ old.held → mid.write_faults ≡ old.write_faults
+    → Prints text mid new end → Means asked old new end
+printed_means asked old mid new text ends.Done answers held faults p = (text, answers, subst (λ h. new.held ≡ append_known h text) held p.1)
+printed_means asked old mid new text ends.WriteFault answers held faults p =
+    (subst (λ n. Rose n new.write_faults) faults p.1, (text, answers, (p.2.0, subst (λ h. new.held ≡ append_known h (take p.2.0 text)) held p.2.1)))
+printed_means asked old mid new text ends.Words answers held faults p = absurd p
+printed_means asked old mid new text ends.Input answers held faults p = absurd p
+printed_means asked old mid new text (ends.Table why) answers held faults p = absurd p
+printed_means asked old mid new text ends.ReadFault answers held faults p = absurd p
+printed_means asked old mid new text ends.StoreFault answers held faults p = absurd p
+printed_means asked old mid new text ends.NoMemory answers held faults p = absurd p
+
+-- The lines of a table were found and printed.
+pub printed_runs : (location : List ℕ) (old mid new : Outside) (text : List ℕ) (end : End) → Found location old mid text → Prints text mid new end → Runs (Some (command.Query location)) old new end
+printed_runs location old mid new text end found p =
+    let rest = prints_rest text mid new end p in
+    let objects : mid.objects ≡ new.objects = sym (ap (λ o. o.objects) rest) in
+    record {
+      means = printed_means (Some (command.Query location)) old mid new text end (found.empty, ap (λ o. o.left) rest ∙ found.left, subst (λ o. Between old.objects o (λ os. lines_in location os ≡ Ok text)) objects found.lines) found.held found.write_faults p;
+      notes = ap (λ o. o.noted) rest ∙ found.notes;
+      note_faults = ap (λ o. o.note_faults) rest ∙ found.note_faults;
+      grows = subst (λ o. Grows old.objects o) objects found.grows;
+      same = subst (λ o. OnTrue old.alone (o ≡ old.objects)) objects found.same;
+    }
+
+-- The line on the notes comes last.
+notes_then : (old mid new : Outside) (text : List ℕ) → mid.noted ≡ old.noted → mid.note_faults ≡ old.note_faults → Notes mid new text → Notes old new text
+notes_then old mid new text noted faults (inl n) = inl (subst (λ h. new.noted ≡ append_known h text) noted n)
+notes_then old mid new text noted faults (inr (rose, (n, part))) = inr (subst (λ f. Rose f new.note_faults) faults rose, (n, subst (λ h. new.noted ≡ append_known h (take n text)) noted part))
+
+-- nothing that a cause speaks of changed
+record SameCauses (mid new : Outside) : Type 0 where
+  left : mid.left ≡ new.left
+  objects : mid.objects ≡ new.objects
+  held : mid.held ≡ new.held
+  reads : mid.read_faults ≡ new.read_faults
+  stores : mid.store_faults ≡ new.store_faults
+  writes : mid.write_faults ≡ new.write_faults
+
+answers_then : (asked : Option Command) (old mid new : Outside) (answer : Result (List ℕ) LogRefusal) → SameCauses mid new → Answers asked old mid answer → Answers asked old new answer
+answers_then None old mid new answer same a = absurd a
+answers_then (Some command.Help) old mid new answer same a = a
+answers_then (Some command.Version) old mid new answer same a = a
+answers_then (Some (command.Query location)) old mid new answer same a = (a.0, subst (λ l. l ≡ old.left) same.left a.1, subst (λ o. Between old.objects o (λ os. lines_in location os ≡ answer)) same.objects a.2)
+
+means_then : (asked : Option Command) (old mid new : Outside) (end : End) → SameCauses mid new → Means asked old mid end → Means asked old new end
+means_then asked old mid new ends.Words same m = (m.0, subst (λ h. h ≡ old.held) same.held m.1)
+means_then asked old mid new ends.Input same m = (m.0, m.1, subst (λ h. h ≡ old.held) same.held m.2)
+means_then asked old mid new ends.ReadFault same m = (m.0, subst (Rose old.read_faults) same.reads m.1, subst (λ h. h ≡ old.held) same.held m.2)
+means_then asked old mid new (ends.Table why) same m = (answers_then asked old mid new (Err why) same m.0, subst (λ h. h ≡ old.held) same.held m.1)
+means_then asked old mid new ends.StoreFault same m = (m.0, m.1, subst (Rose old.store_faults) same.stores m.2, subst (λ h. h ≡ old.held) same.held m.3)
+means_then asked old mid new ends.WriteFault same (rose, (text, answers, (n, part))) =
+    (subst (Rose old.write_faults) same.writes rose, (text, answers_then asked old mid new (Ok text) same answers, (n, subst (λ h. h ≡ append_known old.held (take n text)) same.held part)))
+means_then asked old mid new ends.NoMemory same m = subst (λ h. h ≡ old.held) same.held m
+means_then asked old mid new ends.Done same (text, answers, all) = (text, answers_then asked old mid new (Ok text) same answers, subst (λ h. h ≡ append_known old.held text) same.held all)
+
+pub told_runs : (asked : Option Command) (old mid new : Outside) (end : End) → Runs asked old mid end → Tells mid new (note end) → IsRun asked old new end
+told_runs asked old mid new end runs tells =
+    let rest = tells.rest in
+    let objects : mid.objects ≡ new.objects = sym (ap (λ o. o.objects) rest) in
+    record {
+      means = means_then asked old mid new end
+          (record { left = sym (ap (λ o. o.left) rest); objects = objects; held = sym (ap (λ o. o.held) rest); reads = sym (ap (λ o. o.read_faults) rest); stores = sym (ap (λ o. o.store_faults) rest); writes = sym (ap (λ o. o.write_faults) rest) })
+          runs.means;
+      notes = notes_then old mid new (note end) runs.notes runs.note_faults tells.notes;
+      grows = subst (λ o. Grows old.objects o) objects runs.grows;
+      same = subst (λ o. OnTrue old.alone (o ≡ old.objects)) objects runs.same;
+    }

@@ -1,0 +1,72 @@
+-- What a run does, as a plain function of its words, its input and the stored objects.
+use Rattle.std.specs.Prelude.{◌≡◌, ◌≢◌, ℕ, ◌⊎◌, List, [], ◌∷◌, ◌++◌, Option, Some, None, Result, Ok, Err, String}
+use Rattle.std.specs.declared.alloc.Global.{Global}
+use Rattle.edge_core.specs.Faults.{Rose}
+use Rattle.edge_core.specs.Objects.{Objects, Grows}
+use Rattle.log_store.specs.declared.refusal.LogRefusal.{LogRefusal}
+use Rattle.share_main.specs.Words.{command_in}
+use Rattle.share_main.specs.Ends.{status, note}
+use Rattle.share_main.specs.Table.{lines_in}
+use Rattle.share_main.specs.Outside.{Outside}
+use Rattle.share_main.specs.declared.ends.End.{End}
+use Rattle.share_main.specs.declared.ends.End.TheVariants as ends
+use Rattle.share_main.specs.declared.words.Command.{Command}
+use Rattle.share_main.specs.declared.words.Command.TheVariants as command
+use Rattle.share_main.specs.declared.words.TheConstants.{HELP, VERSION}
+
+-- a status, and what is written to the notes and to the output
+pub record Deed : Type 0 where
+  pub status : ℕ
+  pub notes : List ℕ
+  pub output : List ℕ
+
+abbrev pub printed : List ℕ → Deed
+printed text = record { status = 0; notes = []; output = text }
+
+abbrev pub refused : End → Deed
+refused end = record { status = status end; notes = note end; output = [] }
+
+abbrev pub answered : Result (List ℕ) LogRefusal → Deed
+answered (Ok text) = printed text
+answered (Err why) = refused (ends.Table why)
+
+-- a query takes no body yet, so its input is empty
+abbrev pub queried : List ℕ → List ℕ → Objects → Deed
+queried location [] objects = answered (lines_in location objects)
+queried location (b ∷ bytes) objects = refused ends.Input
+
+abbrev pub done : Option Command → List ℕ → Objects → Deed
+done None input objects = refused ends.Words
+done (Some command.Help) input objects = printed HELP.now
+done (Some command.Version) input objects = printed VERSION.now
+done (Some (command.Query location)) input objects = queried location input objects
+
+abbrev pub expected : List (String Global) → List ℕ → Objects → Deed
+expected words input objects = done (command_in words) input objects
+
+-- All is told before the call, and no count of faults rose in it.
+pub record IsCalm (old new : Outside) (input : List ℕ) (objects : Objects) (held noted : List ℕ) : Type 0 where
+  pub tells_left : old.left ≡ Some input
+  pub tells_objects : old.objects ≡ Some objects
+  pub tells_held : old.held ≡ Some held
+  pub tells_noted : old.noted ≡ Some noted
+  pub reads : Rose old.read_faults new.read_faults → ⊥
+  pub stores : Rose old.store_faults new.store_faults → ⊥
+  pub writes : Rose old.write_faults new.write_faults → ⊥
+  pub note_writes : Rose old.note_faults new.note_faults → ⊥
+
+-- The status is the deed's, and its texts stand after what was noted and held before.
+pub record Does (new : Outside) (result : ℕ) (held noted : List ℕ) (deed : Deed) : Type 0 where
+  pub status : result ≡ deed.status
+  pub notes : new.noted ≡ Some (noted ++ deed.notes)
+  pub output : new.held ≡ Some (held ++ deed.output)
+
+-- Where memory sufficed, the run does what is expected over the objects of one moment of the call.
+abbrev pub IsExact : List (String Global) → Outside → Outside → ℕ → Type 0
+IsExact words old new result = (input : List ℕ) (objects : Objects) (held noted : List ℕ) → IsCalm old new input objects held noted
+    → (result ≡ 6) ⊎ ((listed : Objects) × Grows (Some objects) (Some listed) × Grows (Some listed) new.objects × Does new result held noted (expected words input listed))
+
+-- Where nobody added an object meanwhile, that moment is the beginning of the call.
+abbrev pub IsExactAlone : List (String Global) → Outside → Outside → ℕ → Type 0
+IsExactAlone words old new result = (input : List ℕ) (objects : Objects) (held noted : List ℕ) → IsCalm old new input objects held noted → new.objects ≡ old.objects
+    → (result ≡ 6) ⊎ Does new result held noted (expected words input objects)

@@ -1,0 +1,7 @@
+pub mod Words
+pub mod Ends
+pub mod Table
+pub mod Outside
+pub mod Run
+pub mod Steps
+pub mod Expected

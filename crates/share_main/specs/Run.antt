@@ -1,0 +1,68 @@
+-- What one run does to the outside, and why it ended so.
+use Rattle.std.specs.Prelude.{◌≡◌, ℕ, ◌⊎◌, List, [], ◌∷◌, take, Option, Some, None, IfSome, Result, Ok, Err, ⊤}
+use Rattle.std.specs.Bool.{OnTrue}
+use Rattle.std.specs.Io.KnownBytes.{append_known}
+use Rattle.edge_core.specs.Faults.{Rose}
+use Rattle.edge_core.specs.Objects.{Grows, Between}
+use Rattle.log_store.specs.declared.refusal.LogRefusal.{LogRefusal}
+use Rattle.share_main.specs.Ends.{note}
+use Rattle.share_main.specs.Outside.{Outside}
+use Rattle.share_main.specs.Table.{lines_in}
+use Rattle.share_main.specs.declared.ends.End.{End}
+use Rattle.share_main.specs.declared.ends.End.TheVariants as ends
+use Rattle.share_main.specs.declared.words.Command.{Command}
+use Rattle.share_main.specs.declared.words.Command.TheVariants as command
+use Rattle.share_main.specs.declared.words.TheConstants.{HELP, VERSION}
+
+-- the input is at its end; something is left of it; each where it tells
+abbrev pub IsAtEnd : Outside → Type 0
+IsAtEnd outside = IfSome outside.left (λ bytes. bytes ≡ [])
+
+abbrev pub IsSomething : List ℕ → Type 0
+IsSomething [] = ⊥
+IsSomething (b ∷ bytes) = ⊤
+
+abbrev pub HasMore : Outside → Type 0
+HasMore outside = IfSome outside.left IsSomething
+
+-- the text was written to the output
+abbrev pub Writes : Outside → Outside → List ℕ → Type 0
+Writes old new text = new.held ≡ append_known old.held text
+
+abbrev pub WritesNothing : Outside → Outside → Type 0
+WritesNothing old new = new.held ≡ old.held
+
+-- the text was written to the notes, or a front of it where a write to them failed
+abbrev pub Notes : Outside → Outside → List ℕ → Type 0
+Notes old new text = (new.noted ≡ append_known old.noted text) ⊎ (Rose old.note_faults new.note_faults × ((n : ℕ) × (new.noted ≡ append_known old.noted (take n text))))
+
+abbrev pub IsQuery : Option Command → Type 0
+IsQuery None = ⊥
+IsQuery (Some command.Help) = ⊥
+IsQuery (Some command.Version) = ⊥
+IsQuery (Some (command.Query location)) = ⊤
+
+-- What the command is answered. A query whose input is at its end is answered the lines of the table as the store was at one moment of the call, or why there are none.
+abbrev pub Answers : Option Command → Outside → Outside → Result (List ℕ) LogRefusal → Type 0
+Answers None old new answer = ⊥
+Answers (Some command.Help) old new answer = answer ≡ Ok HELP.now
+Answers (Some command.Version) old new answer = answer ≡ Ok VERSION.now
+Answers (Some (command.Query location)) old new answer = IsAtEnd old × (new.left ≡ old.left) × Between old.objects new.objects (λ objects. lines_in location objects ≡ answer)
+
+-- Why a run of the command ends so, and what it has written to the output then. Want of memory needs no cause.
+abbrev pub Means : Option Command → Outside → Outside → End → Type 0
+Means asked old new ends.Words = (asked ≡ None) × WritesNothing old new
+Means asked old new ends.Input = IsQuery asked × HasMore old × WritesNothing old new
+Means asked old new ends.ReadFault = IsQuery asked × Rose old.read_faults new.read_faults × WritesNothing old new
+Means asked old new (ends.Table why) = Answers asked old new (Err why) × WritesNothing old new
+Means asked old new ends.StoreFault = IsQuery asked × IsAtEnd old × Rose old.store_faults new.store_faults × WritesNothing old new
+Means asked old new ends.WriteFault = Rose old.write_faults new.write_faults × ((text : List ℕ) × Answers asked old new (Ok text) × ((n : ℕ) × Writes old new (take n text)))
+Means asked old new ends.NoMemory = WritesNothing old new
+Means asked old new ends.Done = (text : List ℕ) × Answers asked old new (Ok text) × Writes old new text
+
+-- One run of the command: why it ended so, what it noted, and that it stored nothing.
+pub record IsRun (asked : Option Command) (old new : Outside) (end : End) : Type 0 where
+  pub means : Means asked old new end
+  pub notes : Notes old new (note end)
+  pub grows : Grows old.objects new.objects
+  pub same : OnTrue old.alone (new.objects ≡ old.objects)

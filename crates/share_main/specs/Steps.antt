@@ -1,0 +1,57 @@
+-- What the steps of a run do, one after another.
+use Rattle.std.specs.Prelude.{◌≡◌, ℕ, List, take, Option, Some, Result, Ok, Err, String, string_bytes}
+use Rattle.std.specs.Bool.{OnTrue}
+use Rattle.std.specs.declared.alloc.Global.{Global}
+use Rattle.edge_core.specs.Faults.{Rose}
+use Rattle.edge_core.specs.Objects.{Grows, Between}
+use Rattle.share_main.specs.Outside.{Outside}
+use Rattle.share_main.specs.Run.{IsAtEnd, Means, Notes, Writes}
+use Rattle.share_main.specs.Table.{lines_in}
+use Rattle.share_main.specs.declared.ends.End.{End}
+use Rattle.share_main.specs.declared.ends.End.TheVariants as ends
+use Rattle.share_main.specs.declared.words.Command.{Command}
+use Rattle.share_main.specs.declared.words.Command.TheVariants as command
+
+-- nothing but the output changed
+abbrev pub LeavesRest : Outside → Outside → Type 0
+LeavesRest old new = new ≡ record old { held = new.held; write_faults = new.write_faults }
+
+-- the text was written whole, or a front of it where a write failed
+abbrev pub Prints : List ℕ → Outside → Outside → End → Type 0
+Prints text old new ends.Done = LeavesRest old new × Writes old new text
+Prints text old new ends.WriteFault = LeavesRest old new × Rose old.write_faults new.write_faults × ((n : ℕ) × Writes old new (take n text))
+Prints text old new ends.Words = ⊥
+Prints text old new ends.Input = ⊥
+Prints text old new (ends.Table why) = ⊥
+Prints text old new ends.ReadFault = ⊥
+Prints text old new ends.StoreFault = ⊥
+Prints text old new ends.NoMemory = ⊥
+
+-- One run of the command: why it ended so, and that it stored nothing and noted nothing yet.
+pub record Runs (asked : Option Command) (old new : Outside) (end : End) : Type 0 where
+  pub means : Means asked old new end
+  pub notes : new.noted ≡ old.noted
+  pub note_faults : new.note_faults ≡ old.note_faults
+  pub grows : Grows old.objects new.objects
+  pub same : OnTrue old.alone (new.objects ≡ old.objects)
+
+-- The lines of a table were found, and nothing is written yet.
+pub record Found (location : List ℕ) (old new : Outside) (text : List ℕ) : Type 0 where
+  pub empty : IsAtEnd old
+  pub left : new.left ≡ old.left
+  pub lines : Between old.objects new.objects (λ objects. lines_in location objects ≡ Ok text)
+  pub grows : Grows old.objects new.objects
+  pub same : OnTrue old.alone (new.objects ≡ old.objects)
+  pub held : new.held ≡ old.held
+  pub write_faults : new.write_faults ≡ old.write_faults
+  pub notes : new.noted ≡ old.noted
+  pub note_faults : new.note_faults ≡ old.note_faults
+
+abbrev pub Finds : List ℕ → Outside → Outside → Result (String Global) End → Type 0
+Finds location old new (Ok text) = Found location old new (string_bytes text)
+Finds location old new (Err end) = Runs (Some (command.Query location)) old new end
+
+-- the text was written to the notes, and nothing else changed
+pub record Tells (old new : Outside) (text : List ℕ) : Type 0 where
+  pub notes : Notes old new text
+  pub rest : new ≡ record old { noted = new.noted; note_faults = new.note_faults }

@@ -1,0 +1,40 @@
+-- What the words of the command line ask for.
+use Rattle.std.specs.Prelude.{ℕ, ◌≤◌, ⊤, ◌&&◌, ◌||◌, List, [], ◌∷◌, length, Bool, not, Option, Some, None, option_map, String, string_bytes, bytes_eq, codes, nat_le, nat_eq, if◌then◌else◌}
+use Rattle.std.specs.List.{starts_with}
+use Rattle.std.specs.declared.alloc.Global.{Global}
+use Rattle.edge_core.specs.Names.{is_name}
+use Rattle.share_main.specs.declared.words.Command.{Command}
+use Rattle.share_main.specs.declared.words.Command.TheVariants as command
+
+-- a name whose first segment is the folder in which the server keeps its own records
+abbrev pub is_own : List ℕ → Bool
+is_own text = bytes_eq text (codes "_share_log") || starts_with nat_eq text (codes "_share_log/")
+
+-- the place of a table: a name of at most 256 bytes that isn't the server's own
+abbrev pub is_location : List ℕ → Bool
+is_location text = not (is_own text) && (nat_le (length text) 256 && is_name text)
+
+abbrev pub location_in : List ℕ → Option (List ℕ)
+location_in text = if is_location text then Some text else None
+
+-- `--help` or `--version`
+abbrev pub option_in : List ℕ → Option Command
+option_in word = if bytes_eq word (codes "--help") then Some command.Help else if bytes_eq word (codes "--version") then Some command.Version else None
+
+-- `query LOCATION`
+abbrev pub query_in : List ℕ → List ℕ → Option Command
+query_in word location = if bytes_eq word (codes "query") then option_map command.Query (location_in location) else None
+
+-- the command of the words, none where they are no row of the table
+abbrev pub command_in : List (String Global) → Option Command
+command_in [] = None
+command_in (word ∷ []) = option_in (string_bytes word)
+command_in (word ∷ location ∷ []) = query_in (string_bytes word) (string_bytes location)
+command_in (word ∷ location ∷ more ∷ words) = None
+
+-- a location is at most 256 bytes long
+abbrev pub IsGood : Option Command → Type 0
+IsGood None = ⊤
+IsGood (Some command.Help) = ⊤
+IsGood (Some command.Version) = ⊤
+IsGood (Some (command.Query location)) = length location ≤ 256

@@ -1,0 +1,284 @@
+// From stored bytes to printed lines, over an outside in memory.
+use crate::run::{Edge, run};
+use crate::words::{HELP, VERSION};
+use edge_core::{MemSink, MemSource, MemStore, Name, Stored};
+use std::alloc::{AllocError, Global};
+use std::process::Abort;
+use step_count::Steps;
+
+type Memory = Edge<MemSource, MemSink, MemSink, MemStore, ()>;
+
+const OPENING: &str =
+    "{\"protocol\":{\"minReaderVersion\":1,\"minWriterVersion\":2}}\n{\"metaData\":{\"id\":\"m1\",\"format\":{\"provider\":\"parquet\",\"options\":{}},\"schemaString\":\"{\\\"type\\\":\\\"struct\\\",\\\"fields\\\":[]}\",\"partitionColumns\":[],\"configuration\":{},\"createdTime\":1}}\n";
+
+const ADD_OF_SIZE_1: &str =
+    "{\"add\":{\"path\":\"a\",\"partitionValues\":{},\"size\":1,\"modificationTime\":1,\"dataChange\":true}}\n";
+
+const REMOVE: &str = "{\"remove\":{\"path\":\"a\",\"deletionTimestamp\":1,\"dataChange\":true}}\n";
+
+const ADD_OF_SIZE_2: &str =
+    "{\"add\":{\"path\":\"a\",\"partitionValues\":{},\"size\":2,\"modificationTime\":1,\"dataChange\":true}}\n";
+
+const PRINTED_OPENING: &str =
+    "{\"protocol\":{\"minReaderVersion\":1}}\n{\"metaData\":{\"format\":{\"provider\":\"parquet\"},\"id\":\"m1\",\"partitionColumns\":[],\"schemaString\":\"{\\\"type\\\":\\\"struct\\\",\\\"fields\\\":[]}\"}}\n";
+
+const PRINTED_FILE: &str =
+    "{\"file\":{\"id\":\"a\",\"partitionValues\":{},\"size\":2,\"url\":\"a\"}}\n";
+
+// What fails at its first call.
+#[derive(Clone, Copy, PartialEq, Eq)]
+enum Failing {
+    Nothing,
+    Input,
+    Store,
+    Output,
+    Notes,
+}
+
+// A run over table t, and what it is to do.
+#[derive(Clone, Copy)]
+struct Case<'a> {
+    words: &'a [&'a str],
+    input: &'a str,
+    // the lines of its commits, version after version
+    commits: &'a [&'a [&'a str]],
+    // the name of one more object, without bytes
+    other: &'a str,
+    failing: Failing,
+    status: u8,
+    output: &'a [&'a str],
+    notes: &'a str,
+}
+
+const QUERY: Case<'static> = Case {
+    words: &["query", "t"],
+    input: "",
+    commits: &[],
+    other: "",
+    failing: Failing::Nothing,
+    status: 0,
+    output: &[],
+    notes: "",
+};
+
+fn words_of(alloc: Global, texts: &[&str]) -> Result<Vec<String>, AllocError> {
+    let mut words = Vec::new(alloc);
+    for text in texts {
+        words.push(String::from_str(alloc, text)?)?;
+    }
+    Ok(words)
+}
+
+fn joined(alloc: Global, texts: &[&str]) -> Result<Vec<u8>, AllocError> {
+    let mut bytes = Vec::new(alloc);
+    for text in texts {
+        bytes.extend_from_slice(text.as_bytes())?;
+    }
+    Ok(bytes)
+}
+
+fn first_call(alloc: Global, fails: bool) -> Result<Vec<u64>, AllocError> {
+    let mut calls = Vec::new(alloc);
+    if fails {
+        calls.push(0)?;
+    }
+    Ok(calls)
+}
+
+fn stock(store: &mut MemStore, name: String, bytes: Vec<u8>) {
+    if let Some(name) = Name::of(name) {
+        store.stock(Stored { name, bytes });
+    }
+}
+
+fn store_of(alloc: Global, case: &Case<'_>) -> Result<MemStore, AllocError> {
+    let mut store = MemStore::new(alloc, 8, 4_096, Vec::new(alloc))?;
+    for (version, lines) in case.commits.iter().enumerate() {
+        let name = format!(in alloc; "t/_delta_log/{version:020}.json")?;
+        stock(&mut store, name, joined(alloc, lines)?);
+    }
+    if !case.other.is_empty() {
+        stock(
+            &mut store,
+            String::from_str(alloc, case.other)?,
+            Vec::new(alloc),
+        );
+    }
+    let fails = first_call(alloc, case.failing == Failing::Store)?;
+    Ok(store.with_fails(fails, Vec::new(alloc)))
+}
+
+// Room for what the cases write, which goes out in pieces of at most 7 bytes at first.
+fn sink(alloc: Global, fails: bool) -> Result<MemSink, AllocError> {
+    let mut sizes = Vec::new(alloc);
+    sizes.push(1)?;
+    sizes.push(7)?;
+    let sink = MemSink::new(alloc, 4_096, 16)?.with_sizes(sizes);
+    Ok(sink.with_fails(first_call(alloc, fails)?))
+}
+
+fn source(alloc: Global, case: &Case<'_>) -> Result<MemSource, AllocError> {
+    let bytes = Vec::from_slice(alloc, case.input.as_bytes())?;
+    let fails = first_call(alloc, case.failing == Failing::Input)?;
+    Ok(MemSource::new(alloc, bytes).with_fails(fails))
+}
+
+fn edge_of(alloc: Global, case: &Case<'_>) -> Result<Memory, AllocError> {
+    Ok(Edge {
+        input: source(alloc, case)?,
+        output: sink(alloc, case.failing == Failing::Output)?,
+        notes: sink(alloc, case.failing == Failing::Notes)?,
+        store: store_of(alloc, case)?,
+        steps: Steps::new(),
+    })
+}
+
+// Runs the case, and looks at the status, the output and the notes.
+fn expect(rt: &impl Abort, alloc: Global, case: &Case<'_>) -> Result<(), AllocError> {
+    let words = words_of(alloc, case.words)?;
+    let output = joined(alloc, case.output)?;
+    let mut edge = edge_of(alloc, case)?;
+    assert_eq!(rt; run(alloc, &words, &mut edge), case.status);
+    assert_eq!(rt; edge.output.bytes(), output.as_slice());
+    assert_eq!(rt; edge.notes.bytes(), case.notes.as_bytes());
+    Ok(())
+}
+
+fn expect_all(rt: &impl Abort, alloc: Global, cases: &[Case<'_>]) -> Result<(), AllocError> {
+    for case in cases {
+        expect(rt, alloc, case)?;
+    }
+    Ok(())
+}
+
+const WRONG_WORDS: [&[&str]; 8] = [
+    &[],
+    &["query"],
+    &["query", "t", "t"],
+    &["Query", "t"],
+    &["query", "/t"],
+    &["query", "_share_log"],
+    &["query", "_share_log/t"],
+    &["--help", "t"],
+];
+
+#[test]
+fn prints_the_latest_version(rt: HostRuntime) -> Result<(), AllocError> {
+    let opened = Case {
+        commits: &[&[OPENING]],
+        output: &[PRINTED_OPENING],
+        ..QUERY
+    };
+    let file = [PRINTED_OPENING, PRINTED_FILE];
+    let commits: [&[&str]; 3] = [&[OPENING, ADD_OF_SIZE_1], &[REMOVE], &[ADD_OF_SIZE_2]];
+    let changed = Case {
+        commits: &commits,
+        output: &file,
+        ..QUERY
+    };
+    let beside = Case {
+        other: "t/_delta_log/_last_checkpoint",
+        commits: &commits,
+        output: &file,
+        ..QUERY
+    };
+    expect_all(&rt, rt.alloc(), &[opened, changed, beside])
+}
+
+#[test]
+fn answers_words_and_input(rt: HostRuntime) -> Result<(), AllocError> {
+    for words in WRONG_WORDS {
+        let wrong = Case {
+            words,
+            input: "{",
+            commits: &[&[OPENING]],
+            status: 2,
+            notes: "share: words\n",
+            ..QUERY
+        };
+        expect(&rt, rt.alloc(), &wrong)?;
+    }
+    let help = Case {
+        words: &["--help"],
+        input: "{",
+        output: &[HELP],
+        ..QUERY
+    };
+    let version = Case {
+        words: &["--version"],
+        input: "{",
+        output: &[VERSION],
+        ..QUERY
+    };
+    let input = Case {
+        input: "{",
+        commits: &[&[OPENING]],
+        status: 3,
+        notes: "share: input\n",
+        ..QUERY
+    };
+    expect_all(&rt, rt.alloc(), &[help, version, input])
+}
+
+#[test]
+fn says_why_a_table_is_not_read(rt: HostRuntime) -> Result<(), AllocError> {
+    for other in ["", "t/a.parquet", "t/_delta_log/99999999999999999999.json"] {
+        let none = Case {
+            other,
+            status: 4,
+            notes: "share: table: no commits\n",
+            ..QUERY
+        };
+        expect(&rt, rt.alloc(), &none)?;
+    }
+    let not_read = Case {
+        status: 4,
+        notes: "share: table: not read yet\n",
+        ..QUERY
+    };
+    let gap = Case {
+        commits: &[&[OPENING]],
+        other: "t/_delta_log/00000000000000000002.json",
+        ..not_read
+    };
+    let unopened = Case {
+        commits: &[&[ADD_OF_SIZE_1]],
+        ..not_read
+    };
+    let twice = Case {
+        commits: &[&[OPENING, ADD_OF_SIZE_1, REMOVE]],
+        ..not_read
+    };
+    expect_all(&rt, rt.alloc(), &[gap, unopened, twice])
+}
+
+#[test]
+fn tells_which_part_failed(rt: HostRuntime) -> Result<(), AllocError> {
+    let opened = Case {
+        commits: &[&[OPENING]],
+        status: 5,
+        ..QUERY
+    };
+    let input = Case {
+        failing: Failing::Input,
+        notes: "share: read fault\n",
+        ..opened
+    };
+    let store = Case {
+        failing: Failing::Store,
+        notes: "share: store fault\n",
+        ..opened
+    };
+    let output = Case {
+        failing: Failing::Output,
+        notes: "share: write fault\n",
+        ..opened
+    };
+    let notes = Case {
+        failing: Failing::Notes,
+        input: "{",
+        status: 3,
+        ..opened
+    };
+    expect_all(&rt, rt.alloc(), &[input, store, output, notes])
+}

@@ -1,0 +1,76 @@
+// The words of the command line.
+ghost use Rattle.std.specs.Prelude.{◌≡◌, ◌≤◌, IfOk, IfSome, length, string_bytes};
+ghost use Rattle.share_main.specs.Words.{IsGood, command_in, is_own as begins_with_own, location_in, option_in, query_in};
+
+use edge_core::Name;
+use std::alloc::{AllocError, Global};
+
+/// What `--help` prints.
+pub const HELP: &str =
+    "usage: share query LOCATION\n       share --help | --version\n\nquery prints the protocol, metaData and file lines of the Delta table in the folder\nLOCATION at its latest version. LOCATION is a path below the current folder. Standard\ninput must be empty.\n";
+
+/// What `--version` prints.
+pub const VERSION: &str = "share 0.1.0\n";
+
+/// A command, with what its words name.
+#[derive(Drop)]
+pub enum Command {
+    /// `--help`: print the usage.
+    Help,
+    /// `--version`: print the version.
+    Version,
+    /// `query LOCATION`: print the lines of the table there.
+    Query(Name),
+}
+
+fn is_own(text: &str) -> bool
+    ensures { result ≡ begins_with_own text.now }
+{
+    text == "_share_log" || text.as_bytes().starts_with(b"_share_log/".as_slice())
+}
+
+fn location_of(alloc: Global, text: &str) -> Result<Option<Name>, AllocError>
+    ensures location { IfOk result (λ location. location ≡ location_in text.now) }
+    ensures short { IfOk result (λ location. IfSome location (λ name. length name ≤ 256)) }
+{
+    if is_own(text) || text.len() > 256 {
+        return Ok(None);
+    }
+    Ok(Name::of(String::from_str(alloc, text)?))
+}
+
+fn option_of(word: &str) -> Option<Command>
+    ensures command { result ≡ option_in word.now }
+    ensures good { IsGood result }
+{
+    match word {
+        "--help" => Some(Command::Help),
+        "--version" => Some(Command::Version),
+        _ => None,
+    }
+}
+
+fn query_of(alloc: Global, word: &str, location: &str) -> Result<Option<Command>, AllocError>
+    ensures command { IfOk result (λ command. command ≡ query_in word.now location.now) }
+    ensures good { IfOk result IsGood }
+{
+    if word != "query" {
+        return Ok(None);
+    }
+    match location_of(alloc, location)? {
+        Some(location) => Ok(Some(Command::Query(location))),
+        None => Ok(None),
+    }
+}
+
+/// The command of the words, none where they are no row of the table of words.
+pub fn command_of(alloc: Global, words: &[String]) -> Result<Option<Command>, AllocError>
+    ensures command { IfOk result (λ command. command ≡ command_in words.now) }
+    ensures good { IfOk result IsGood }
+{
+    match words {
+        [word] => Ok(option_of(word.as_str())),
+        [word, location] => query_of(alloc, word.as_str(), location.as_str()),
+        _ => Ok(None),
+    }
+}
