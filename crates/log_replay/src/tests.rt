@@ -58,6 +58,74 @@ fn replayed(
     Ok(replay(alloc, commits, steps))
 }
 
+// The logs that aren't read, and why.
+const REFUSED: [(&[&[&str]], ReplayRefusal); 7] = [
+    (&[&[ADD_A], &[PROTOCOL, META]], ReplayRefusal::NoProtocol),
+    (&[&[PROTOCOL], &[META]], ReplayRefusal::NoMetaData),
+    (
+        &[&[PROTOCOL, META], &[READER_4, MAPPED]],
+        ReplayRefusal::Unsupported {
+            version: 1,
+            cause: Cause::Reader,
+        },
+    ),
+    (
+        &[&[PROTOCOL, MAPPED]],
+        ReplayRefusal::Unsupported {
+            version: 0,
+            cause: Cause::Mapping,
+        },
+    ),
+    (
+        &[&[PROTOCOL, NOT_MAPPED], &[], &[VECTOR, ORC]],
+        ReplayRefusal::Unsupported {
+            version: 2,
+            cause: Cause::Vector,
+        },
+    ),
+    (
+        &[&[PROTOCOL, META], &[ORC], &[META]],
+        ReplayRefusal::Unsupported {
+            version: 1,
+            cause: Cause::Format,
+        },
+    ),
+    (
+        &[&[PROTOCOL, META, VECTOR], &[READER_4]],
+        ReplayRefusal::Unsupported {
+            version: 0,
+            cause: Cause::Vector,
+        },
+    ),
+];
+
+fn expect_refusal(
+    rt: &impl Abort,
+    alloc: Global,
+    log: &[&[&str]],
+    refusal: ReplayRefusal,
+) -> Result<(), Fail> {
+    let mut steps = Steps::new();
+    match replayed(rt, alloc, log, &mut steps)? {
+        Ok(_) => assert!(rt; false),
+        Err(told) => assert_eq!(rt; told, refusal),
+    }
+    Ok(())
+}
+
+// Looks at the table of the first test.
+fn expect_table(rt: &impl Abort, snapshot: &Snapshot) {
+    assert_eq!(rt; snapshot.version(), 2);
+    assert!(rt; !snapshot.is_empty());
+    assert_eq!(rt; snapshot.protocol().min_writer, 2);
+    assert_eq!(rt; snapshot.meta().id.as_str(), "m2");
+    assert!(rt; snapshot.has("a") && snapshot.has("b") && !snapshot.has("c"));
+    assert!(rt; snapshot.len() == 2);
+    assert_eq!(rt; snapshot.file(0).path.as_str(), "a");
+    assert_eq!(rt; snapshot.file(0).size, 2);
+    assert_eq!(rt; snapshot.file(1).path.as_str(), "b");
+}
+
 #[test]
 fn the_last_add_is_live(rt: HostRuntime) -> Result<(), Fail> {
     let log: [&[&str]; 3] = [
@@ -66,56 +134,17 @@ fn the_last_add_is_live(rt: HostRuntime) -> Result<(), Fail> {
         &[ADD_A_AGAIN],
     ];
     let mut steps = Steps::new();
-    let Ok(snapshot) = replayed(&rt, rt.alloc(), &log, &mut steps)? else {
-        assert!(rt; false);
-        return Ok(());
-    };
-    assert_eq!(rt; snapshot.version(), 2);
-    assert_eq!(rt; snapshot.len(), 2);
-    assert!(rt; !snapshot.is_empty());
-    assert_eq!(rt; snapshot.protocol().min_writer, 2);
-    assert_eq!(rt; snapshot.meta().id.as_str(), "m2");
-    if snapshot.len() == 2 {
-        assert_eq!(rt; snapshot.file(0).path.as_str(), "a");
-        assert_eq!(rt; snapshot.file(0).size, 2);
-        assert_eq!(rt; snapshot.file(1).path.as_str(), "b");
+    match replayed(&rt, rt.alloc(), &log, &mut steps)? {
+        Ok(snapshot) => expect_table(&rt, &snapshot),
+        Err(_) => assert!(rt; false),
     }
-    assert!(rt; snapshot.has("a"));
-    assert!(rt; snapshot.has("b"));
-    assert!(rt; !snapshot.has("c"));
     Ok(())
 }
 
 #[test]
 fn the_first_cause_is_told(rt: HostRuntime) -> Result<(), Fail> {
-    let unsupported = |version, cause| ReplayRefusal::Unsupported { version, cause };
-    let logs: [(&[&[&str]], ReplayRefusal); 7] = [
-        (&[&[ADD_A], &[PROTOCOL, META]], ReplayRefusal::NoProtocol),
-        (&[&[PROTOCOL], &[META]], ReplayRefusal::NoMetaData),
-        (
-            &[&[PROTOCOL, META], &[READER_4, MAPPED]],
-            unsupported(1, Cause::Reader),
-        ),
-        (&[&[PROTOCOL, MAPPED]], unsupported(0, Cause::Mapping)),
-        (
-            &[&[PROTOCOL, NOT_MAPPED], &[], &[VECTOR, ORC]],
-            unsupported(2, Cause::Vector),
-        ),
-        (
-            &[&[PROTOCOL, META], &[ORC], &[META]],
-            unsupported(1, Cause::Format),
-        ),
-        (
-            &[&[PROTOCOL, META, VECTOR], &[READER_4]],
-            unsupported(0, Cause::Vector),
-        ),
-    ];
-    for (log, refusal) in logs {
-        let mut steps = Steps::new();
-        match replayed(&rt, rt.alloc(), log, &mut steps)? {
-            Ok(_) => assert!(rt; false),
-            Err(told) => assert_eq!(rt; told, refusal),
-        }
+    for (log, refusal) in REFUSED {
+        expect_refusal(&rt, rt.alloc(), log, refusal)?;
     }
     Ok(())
 }
