@@ -1,0 +1,20 @@
+// Why a payload isn't read.
+ghost use Rattle.std.specs.Prelude.{◌≡◌};
+ghost use Rattle.page_token.specs.declared.fault.Fault.TheVariants.{NoMemory};
+
+use std::alloc::AllocError;
+
+#[derive(Clone, Copy, Debug, PartialEq, Eq)]
+pub(crate) enum Fault {
+    // The bytes are no payload.
+    NotSpelt,
+    NoMemory,
+}
+
+impl From<AllocError> for Fault {
+    ghost from_gives = { λ _ e. e ≡ NoMemory };
+
+    fn from(_error: AllocError) -> Fault {
+        Fault::NoMemory
+    }
+}

@@ -1,0 +1,14 @@
+//! Page tokens: where a listing or a query goes on, as a text that only who has the key can make.
+#![tactic(auto)]
+
+mod cursor;
+mod fault;
+mod payload;
+mod reading;
+mod token;
+
+pub use cursor::{Asked, Cursor, ListKind};
+pub use token::{cursor_of, one_cursor, spell};
+
+#[cfg(test)]
+mod tests;

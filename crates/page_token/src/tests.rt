@@ -1,0 +1,146 @@
+// Tokens under a key of 32 bytes 0x01. The tags are from Python's `hmac`, and the base64 text from its `base64`.
+ghost use Rattle.std.specs.Prelude.{◌<◌, ◌^◌, IfOk};
+ghost use Rattle.page_token.specs.Payload.{IsAskedInRange, IsInRange};
+
+use super::*;
+use json_tree::Text;
+use std::alloc::{AllocError, Global};
+use std::test::Fail;
+
+const KEY: [u8; 32] = [1; 32];
+
+// The files of table `t1`, from the third on.
+const FILES: &str =
+    "MTpxLDI6cjEsMjpzMSwyOnNjLDI6dDEsMToxLDE6MSwxOmwsMTo0LDE6LSwxOjIs.04aa3aa693939c9e9f4a4a65fb6f43143d02659344725a5cc4178441b39c63fb";
+
+// All tables of a share, after `sc/t1`.
+const ALL_TABLES: &str =
+    "MTphLDI6cjEsMjpzMSwwOiw1OnNjL3QxLA.c392b0b7396a62f0ef9db0a04d96ab5ecda65760723999c42d495b496bebff86";
+
+// Changes asked for from version 0 to five nanoseconds before 1970.
+const FEED: &str =
+    "MTpmLDI6cjEsMjpzMSwyOnNjLDI6dDEsMTo3LDE6MywyOnYwLDM6bS01LDE6MCwxOTo5MjIzMzcyMDM2ODU0Nzc1ODA3LDI6MTIs.61b783fe66fc4cecbc3581ccfc591873d5b3d1ce1d58bcbdc5240ccd9f4e05da";
+
+// The files that a moment and a predicate ask for.
+const HINTED: &str =
+    "MTpxLDI6cjEsMjpzMSwyOnNjLDI6dDEsMToxLDE6MSwyMDptMTcwMDAwMDAwMDAwMDAwMDAwMCwxOjQsMTY6K3sib3AiOiJpc051bGwifSwxOjAs.475146ac294b46ed36e93729468827a4ace41eb1f4eba949a87de19850791278";
+
+fn text(alloc: Global, text: &str) -> Result<Text, AllocError> {
+    Ok(Text::of(String::from_str(alloc, text)?))
+}
+
+fn files(alloc: Global, asked: Asked, hint: Option<Text>, place: u64) -> Result<Cursor, AllocError>
+    requires asked { IsAskedInRange asked }
+    requires place { place < 2 ^ 63 }
+    ensures { IfOk result IsInRange }
+{
+    Ok(Cursor::Files {
+        recipient: text(alloc, "r1")?,
+        share: text(alloc, "s1")?,
+        schema: text(alloc, "sc")?,
+        table: text(alloc, "t1")?,
+        grant: 1,
+        binding: 1,
+        asked,
+        version: 4,
+        hint,
+        place,
+    })
+}
+
+#[test]
+fn spells_files(rt: HostRuntime) -> Result<(), Fail> {
+    let alloc = rt.alloc();
+    let cursor = files(alloc, Asked::Latest, None, 2)?;
+    assert!(rt; spell(alloc, &KEY, &cursor)?.as_str() == FILES);
+    Ok(())
+}
+
+#[test]
+fn spells_a_moment_and_a_hint(rt: HostRuntime) -> Result<(), Fail> {
+    let alloc = rt.alloc();
+    let hint = Some(text(alloc, "{\"op\":\"isNull\"}")?);
+    let cursor = files(alloc, Asked::Moment(1_700_000_000_000_000_000), hint, 0)?;
+    assert!(rt; spell(alloc, &KEY, &cursor)?.as_str() == HINTED);
+    Ok(())
+}
+
+#[test]
+fn spells_a_listing(rt: HostRuntime) -> Result<(), Fail> {
+    let alloc = rt.alloc();
+    let cursor = Cursor::List {
+        kind: ListKind::AllTables,
+        recipient: text(alloc, "r1")?,
+        share: text(alloc, "s1")?,
+        schema: text(alloc, "")?,
+        after: text(alloc, "sc/t1")?,
+    };
+    assert!(rt; spell(alloc, &KEY, &cursor)?.as_str() == ALL_TABLES);
+    Ok(())
+}
+
+#[test]
+fn spells_a_feed(rt: HostRuntime) -> Result<(), Fail> {
+    let alloc = rt.alloc();
+    let cursor = Cursor::Feed {
+        recipient: text(alloc, "r1")?,
+        share: text(alloc, "s1")?,
+        schema: text(alloc, "sc")?,
+        table: text(alloc, "t1")?,
+        grant: 7,
+        binding: 3,
+        asked_from: Asked::Version(0),
+        asked_to: Asked::Moment(-5),
+        from: 0,
+        to: (1 << 63) - 1,
+        place: 12,
+    };
+    assert!(rt; spell(alloc, &KEY, &cursor)?.as_str() == FEED);
+    Ok(())
+}
+
+// The place of the cursor that the token stands for, and 100 for a listing.
+fn place_in(alloc: Global, token: &str) -> Result<Option<u64>, AllocError> {
+    match cursor_of(alloc, &KEY, token)? {
+        Some(Cursor::Files { place, .. }) => Ok(Some(place)),
+        Some(Cursor::Feed { place, .. }) => Ok(Some(place)),
+        Some(Cursor::List { .. }) => Ok(Some(100)),
+        None => Ok(None),
+    }
+}
+
+// With ample memory what is spelt is read; the contract says as what.
+#[test]
+fn reads_tokens(rt: HostRuntime) -> Result<(), Fail> {
+    let alloc = rt.alloc();
+    for (token, place) in [(FILES, 2), (HINTED, 0), (FEED, 12), (ALL_TABLES, 100)] {
+        assert_eq!(rt; place_in(alloc, token)?, Some(place));
+    }
+    Ok(())
+}
+
+#[test]
+fn refuses_other_texts(rt: HostRuntime) -> Result<(), Fail> {
+    let alloc = rt.alloc();
+    assert!(rt; cursor_of(alloc, &[2; 32], FILES)?.is_none());
+    for other in [
+        "",
+        ".",
+        // Padded.
+        "MTpxLDI6cjEsMjpzMSwyOnNjLDI6dDEsMToxLDE6MSwxOmwsMTo0LDE6LSwxOjIs=.04aa3aa693939c9e9f4a4a65fb6f43143d02659344725a5cc4178441b39c63fb",
+        // The tag in upper-case digits.
+        "MTpxLDI6cjEsMjpzMSwyOnNjLDI6dDEsMToxLDE6MSwxOmwsMTo0LDE6LSwxOjIs.04AA3AA693939C9E9F4A4A65FB6F43143D02659344725A5CC4178441B39C63FB",
+        // The tag under another key.
+        "MTpxLDI6cjEsMjpzMSwyOnNjLDI6dDEsMToxLDE6MSwxOmwsMTo0LDE6LSwxOjIs.21af0317563b2c85e4728f0c39b304835455d801329a4c498707816b35e3e83b",
+        // Another base64 spelling of the bytes.
+        "MTphLDI6cjEsMjpzMSwwOiw1OnNjL3QxLB.c392b0b7396a62f0ef9db0a04d96ab5ecda65760723999c42d495b496bebff86",
+        // With their right tags: the place `02`, the place 2^63, a byte at the end, and a recipient that isn't UTF-8.
+        "MTpxLDI6cjEsMjpzMSwyOnNjLDI6dDEsMToxLDE6MSwxOmwsMTo0LDE6LSwyOjAyLA.4c6b9e35aa6b5014ee77108fddff0a361a4cf8d602a8d0e42fec62443588251c",
+        "MTpxLDI6cjEsMjpzMSwyOnNjLDI6dDEsMToxLDE6MSwxOmwsMTo0LDE6LSwxOTo5MjIzMzcyMDM2ODU0Nzc1ODA4LA.6dfbe7de3101376a2a6c02664c56ff77eb633aac104d4f16e079ad6226bb9839",
+        "MTpxLDI6cjEsMjpzMSwyOnNjLDI6dDEsMToxLDE6MSwxOmwsMTo0LDE6LSwxOjIseA.41b9dd7ed8a687ef640a17bd29c54d5c89ab8205d4230631f5649fab7cb5eb8f",
+        "MTpjLDE6_ywyOnMxLDA6LDA6LA.bde9adf42feaf2013c17b70f6aa9051b5318948f5415266eb13d5479f4401602",
+    ] {
+        assert!(rt; cursor_of(alloc, &KEY, other)?.is_none(), "{other}");
+    }
+    Ok(())
+}
