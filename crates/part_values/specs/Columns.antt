@@ -8,6 +8,7 @@ use Rattle.part_values.specs.declared.columns.Column.{Column}
 use Rattle.part_values.specs.declared.value.PartType.{PartType}
 use Rattle.part_values.specs.declared.value.PartType.TheVariants as kind
 
+-- a column as a pair
 abbrev pub column_of : Column → List ℕ × PartType
 column_of c = (c.name, c.kind)
 
@@ -43,6 +44,7 @@ is_text (Some t) s = bytes_eq t s
 abbrev pub kind_by : List ℕ → Data → Option PartType
 kind_by column field = if is_text (text_in (codes "name") field) column then Some (kind_of field) else None
 
+-- the first of two, if there is one
 abbrev pub or_kind : Option PartType → Option PartType → Option PartType
 or_kind None later = later
 or_kind (Some k) later = Some k

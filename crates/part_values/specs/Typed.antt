@@ -8,6 +8,8 @@ use Rattle.part_values.specs.declared.value.PartType.TheVariants as kind
 use Rattle.part_values.specs.declared.value.PartValue.{PartValue}
 use Rattle.part_values.specs.declared.value.PartValue.TheVariants as value
 
+-- what a value is: nothing, a truth value, a whole number, a text, the number of a day since
+-- 1970-01-01, or a text that isn't in the form of its type
 pub data Typed : Type 0 where
   null : Typed
   boolean : Bool → Typed
@@ -16,6 +18,7 @@ pub data Typed : Type 0 where
   day : ℤ → Typed
   unread : Typed
 
+-- the value that the code's enum stands for, its text as bytes
 abbrev pub seen : PartValue → Typed
 seen value.Null = null
 seen (value.Bool b) = boolean b
@@ -24,6 +27,7 @@ seen (value.Text t) = text t.now
 seen (value.Day d) = day d
 seen value.Unread = unread
 
+-- the truth value that a text names
 abbrev pub bool_of : List ℕ → Option Bool
 bool_of t =
     if bytes_eq t (codes "true") then Some true
@@ -42,11 +46,11 @@ of_whole o = or_unread whole o
 abbrev pub of_day : Option ℤ → Typed
 of_day o = or_unread day o
 
--- a whole number of so many bits with sign
+-- a whole number in the range of so many bits with sign
 abbrev pub signed : ℕ → List ℕ → Typed
 signed bits t = of_whole (whole_of (neg_ℤ (pos (2 ^ (bits - 1)))) (pos (2 ^ (bits - 1) - 1)) t)
 
--- a text that isn't empty
+-- the value of a text that isn't empty
 abbrev pub typed_text : List ℕ → PartType → Typed
 typed_text t kind.Bool = of_bool (bool_of t)
 typed_text t kind.Byte = signed 8 t
@@ -57,7 +61,7 @@ typed_text t kind.Str = text t
 typed_text t kind.Date = of_day (day_of t)
 typed_text t kind.Other = unread
 
--- nothing and the empty text are null at every type
+-- the value of a text at a type: nothing and the empty text are null at every type
 abbrev pub typed : Option (List ℕ) → PartType → Typed
 typed None k = null
 typed (Some []) k = null

@@ -10,7 +10,7 @@ whole_of low high text =
     let n = signed_digits_value 10 text in
     if bytes_eq text (signed_decimal n) && (int_le low n && int_le n high) then Some n else None
 
--- of texts of one number: no plus, no zero before another digit, no minus before zero
+-- the shortest of the texts that `parse` reads as one number: no plus, no zero before another digit, no minus before zero
 abbrev pub is_shortest : List ℕ → Bool
 is_shortest text =
     let first_digit = if starts_with_minus text then slice_index text 1 else slice_index text 0 in

@@ -106,6 +106,7 @@ fn types_columns_by_the_first_field_of_their_name(rt: HostRuntime) -> Result<(),
 #[test]
 fn types_no_column_by_what_is_no_schema(rt: HostRuntime) -> Result<(), Fail> {
     let alloc = rt.alloc();
+    assert!(rt; Columns::of(Vec::new(alloc)).items().is_empty());
     for schema in [
         "",
         "{",
