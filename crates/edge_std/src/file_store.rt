@@ -1,0 +1,182 @@
+// The files below a folder, as a store of objects.
+ghost use Rattle.std.specs.Prelude.{◌≡◌, None, true, false};
+ghost use Rattle.edge_core.specs.Faults.{Cause};
+ghost use Rattle.std.specs.Io.{ReadsAtMost};
+
+use crate::files;
+use edge_core::{Got, Listed, Measured, Name, Put, Segment, Segments, Store};
+use std::alloc::{AllocError, Global};
+use std::fs::File;
+use std::io::ErrorKind;
+use std::{fs, io};
+
+// The file of the object that was read last. An object never changes, so it may stay open.
+#[derive(Drop)]
+struct Opened {
+    name: String,
+    file: File,
+}
+
+/// A store whose objects are the files below a root folder, each named by its path from there.
+///
+/// It tells nothing of them, and counts the calls that failed. A folder is no object, whatever its
+/// name. An object is there only once it is whole: it is written and synced under a name of the
+/// store's own (`.share-put-` and a number, which listings and reads pass over), then linked into
+/// its place where none has its name, and its folder is synced. So a program that is stopped at any
+/// moment leaves no part of an object under its name. A file is opened once for the pieces that are
+/// read of it one after another.
+#[derive(Drop)]
+pub struct FileStore {
+    rt: HostRuntime,
+    root: String,
+    opened: Option<Opened>,
+    faults: u64,
+}
+
+impl FileStore {
+    /// The store of the files below the folder `root`, with a count of 0.
+    pub fn new(rt: HostRuntime, root: String) -> FileStore {
+        FileStore {
+            rt,
+            root,
+            opened: None,
+            faults: 0,
+        }
+    }
+
+    fn path_of(&self, name: &str) -> Result<String, AllocError> {
+        format!(in self.rt.alloc(); "{}/{name}", self.root.as_str())
+    }
+
+    fn count_fault(&mut self)
+        ensures { Cause self.old.faults self.new.faults true }
+    {
+        self.faults = self.faults.saturating_add(1);
+    }
+
+    fn has_open(&self, name: &str) -> bool {
+        match &self.opened {
+            Some(opened) => opened.name.as_str() == name,
+            None => false,
+        }
+    }
+
+    fn open(&self, name: &str) -> io::Result<Opened> {
+        if files::leads_beside(name) {
+            return Err(io::Error::from(ErrorKind::NotFound));
+        }
+        let file = fs::open(&self.rt, self.path_of(name)?.as_str())?;
+        let name = String::from_str(self.rt.alloc(), name)?;
+        Ok(Opened { name, file })
+    }
+
+    fn read(&mut self, name: &str, from: u64, out: &mut [u8]) -> io::Result<usize>
+        ensures most { ReadsAtMost result out.new }
+        ensures faults { self.new.faults ≡ self.old.faults }
+    {
+        if !self.has_open(name) {
+            self.opened = None;
+            self.opened = Some(self.open(name)?);
+        }
+        match &self.opened {
+            Some(opened) => files::read_at(&opened.file, from, out),
+            None => Err(io::Error::from(ErrorKind::NotFound)),
+        }
+    }
+
+    fn measure(&self, name: &str) -> io::Result<u64> {
+        if files::leads_beside(name) {
+            return Err(io::Error::from(ErrorKind::NotFound));
+        }
+        files::size_of(&self.rt, self.path_of(name)?.as_str())
+    }
+
+    fn store(&self, name: &str, bytes: &[u8]) -> io::Result<bool> {
+        if files::leads_beside(name) {
+            return Err(io::Error::from(ErrorKind::InvalidFilename));
+        }
+        files::store(
+            &self.rt,
+            self.rt.alloc(),
+            self.root.as_str(),
+            self.path_of(name)?.as_str(),
+            bytes,
+        )
+    }
+
+    fn segments(&self, alloc: Global, dir: &str) -> io::Result<Vec<Segment>> {
+        let mut segments = Vec::new(alloc);
+        for name in files::files_in(&self.rt, alloc, self.path_of(dir)?.as_str())? {
+            if let Some(segment) = Segment::of(name) {
+                segments.push(segment)?;
+            }
+        }
+        segments.sort_by(|a, b| a.as_str().cmp(b.as_str()))?;
+        Ok(segments)
+    }
+}
+
+impl Store for FileStore {
+    ghost objects = { λ _. None };
+
+    ghost alone = { λ _. false };
+
+    ghost faults = { λ s. s.faults };
+
+    fn get(&mut self, name: &Name, from: u64, out: &mut [u8]) -> Got {
+        match self.read(name.as_str(), from, out) {
+            Ok(0) => {
+                self.opened = None;
+                Got::Bytes(0)
+            }
+            Ok(n) => Got::Bytes(n),
+            Err(e) => {
+                self.opened = None;
+                if files::is_absence(e.kind()) {
+                    return Got::Absent;
+                }
+                self.count_fault();
+                Got::Failed
+            }
+        }
+    }
+
+    fn size(&mut self, name: &Name) -> Measured {
+        match self.measure(name.as_str()) {
+            Ok(size) => Measured::Size(size),
+            Err(e) if files::is_absence(e.kind()) => Measured::Absent,
+            Err(_) => {
+                self.count_fault();
+                Measured::Failed
+            }
+        }
+    }
+
+    fn put_absent(&mut self, name: &Name, bytes: &[u8]) -> Put {
+        match self.store(name.as_str(), bytes) {
+            Ok(true) => Put::Stored,
+            Ok(false) => Put::Exists,
+            Err(_) => {
+                self.count_fault();
+                Put::Failed
+            }
+        }
+    }
+
+    // A folder that isn't there holds nothing.
+    fn list(&mut self, alloc: Global, dir: &Name) -> Listed {
+        match self.segments(alloc, dir.as_str()) {
+            Ok(names) => Listed::Names(Segments::of(names)),
+            Err(e) => match e.kind() {
+                ErrorKind::NotFound | ErrorKind::NotADirectory => {
+                    Listed::Names(Segments::of(Vec::new(alloc)))
+                }
+                ErrorKind::OutOfMemory => Listed::NoMemory,
+                _ => {
+                    self.count_fault();
+                    Listed::Failed
+                }
+            },
+        }
+    }
+}
