@@ -1,1 +1,4 @@
 pub mod FieldReads
+pub mod ReadBack
+pub mod PathLemmas
+pub mod GoodPaths

@@ -1,10 +1,11 @@
 -- The actions that JSON objects stand for (Delta Lake PROTOCOL.md, "Actions"). The least number of a faulty field is told.
-use Rattle.std.specs.Prelude.{ℕ, ◌^◌, ℤ, pos, negsuc, [], true, Option, Some, None, Result, Ok, Err, option_map, option_and_then, is_some, nat_lt, if◌then◌else◌, codes}
+use Rattle.std.specs.Prelude.{ℕ, ◌^◌, ℤ, pos, negsuc, [], true, Option, Some, None, Result, Ok, Err, option_map, option_and_then, is_some, if◌then◌else◌, codes}
 use Rattle.serde_json.specs.Data.{Data}
 use Rattle.serde_json.specs.Find.{as_bool, as_str, as_object}
 use Rattle.json_tree.specs.Fields.{field, present, whole, texts, pairs}
 use Rattle.json_tree.specs.declared.fields.FieldFault.{FieldFault}
-use Rattle.log_actions.specs.declared.numbers.TheConstants.{VALUE, PROTOCOL_MIN_READER_VERSION, PROTOCOL_MIN_WRITER_VERSION, META_DATA_ID, META_DATA_NAME, META_DATA_DESCRIPTION, META_DATA_FORMAT, META_DATA_SCHEMA_STRING, META_DATA_PARTITION_COLUMNS, META_DATA_CONFIGURATION, META_DATA_CREATED_TIME, ADD_PATH, ADD_PARTITION_VALUES, ADD_SIZE, ADD_MODIFICATION_TIME, ADD_DATA_CHANGE, ADD_STATS, ADD_TAGS, REMOVE_PATH, REMOVE_DELETION_TIMESTAMP, REMOVE_DATA_CHANGE, REMOVE_PARTITION_VALUES, REMOVE_SIZE}
+use Rattle.log_actions.specs.declared.numbers.TheConstants.{VALUE, PROTOCOL_MIN_READER_VERSION, PROTOCOL_MIN_WRITER_VERSION, PROTOCOL_READER_FEATURES, PROTOCOL_WRITER_FEATURES, META_DATA_ID, META_DATA_NAME, META_DATA_DESCRIPTION, META_DATA_FORMAT, META_DATA_SCHEMA_STRING, META_DATA_PARTITION_COLUMNS, META_DATA_CONFIGURATION, META_DATA_CREATED_TIME, ADD_PATH, ADD_PARTITION_VALUES, ADD_SIZE, ADD_MODIFICATION_TIME, ADD_DATA_CHANGE, ADD_STATS, ADD_TAGS, REMOVE_PATH, REMOVE_DELETION_TIMESTAMP, REMOVE_DATA_CHANGE, REMOVE_PARTITION_VALUES, REMOVE_SIZE, CDC_PATH, CDC_PARTITION_VALUES, CDC_SIZE, TXN_APP_ID, TXN_VERSION, TXN_LAST_UPDATED}
+use Rattle.log_actions.specs.Ranges.{within, times_end}
 use Rattle.log_actions.specs.Faults.{◌>>=◌, fault_of}
 use Rattle.log_actions.specs.declared.line_fault.LineFault.{LineFault}
 use Rattle.log_actions.specs.declared.line_fault.LineFault.TheVariants.{Field}
@@ -13,6 +14,9 @@ use Rattle.log_actions.specs.declared.actions.RemoveFile.{RemoveFile}
 use Rattle.log_actions.specs.declared.actions.Protocol.{Protocol}
 use Rattle.log_actions.specs.declared.actions.MetaData.{MetaData}
 use Rattle.log_actions.specs.declared.actions.Format.{Format}
+use Rattle.log_actions.specs.declared.actions.CdcFile.{CdcFile}
+use Rattle.log_actions.specs.declared.actions.Txn.{Txn}
+use Rattle.log_actions.specs.declared.actions.CommitInfo.{CommitInfo}
 
 -- a field that has to be there
 abbrev pub required : {X : Type 0} → ℕ → Result (Option X) FieldFault → Result X LineFault
@@ -32,7 +36,7 @@ default_to which default (Ok None) = Ok default
 default_to which default (Ok (Some x)) = Ok x
 
 abbrev pub count_below : ℕ → ℤ → Option ℕ
-count_below limit (pos n) = if nat_lt n limit then Some n else None
+count_below limit (pos n) = within limit n
 count_below limit (negsuc n) = None
 
 -- a whole number from 0 on, below a limit
@@ -43,13 +47,15 @@ count limit d = option_and_then (count_below limit) (whole d)
 abbrev pub as_action : Data → Result (Unit {0}) LineFault
 as_action d = if is_some (as_object d) then Ok tt else Err (Field VALUE)
 
--- "Protocol Evolution"
+-- "Protocol Evolution", "Table Features"
 unfoldable pub protocol_of : Data → Result Protocol LineFault
 protocol_of d = do
   o ← as_action d
   reader ← required PROTOCOL_MIN_READER_VERSION (field (count (2 ^ 31)) (codes "minReaderVersion") d)
   writer ← required PROTOCOL_MIN_WRITER_VERSION (field (count (2 ^ 31)) (codes "minWriterVersion") d)
-  Ok (record { min_reader = reader; min_writer = writer })
+  reader_features ← optional PROTOCOL_READER_FEATURES (field texts (codes "readerFeatures") d)
+  writer_features ← optional PROTOCOL_WRITER_FEATURES (field texts (codes "writerFeatures") d)
+  Ok (record { min_reader = reader; min_writer = writer; reader_features = reader_features; writer_features = writer_features })
 
 -- a field with a default: none where it is of another kind
 abbrev pub or_else : {X : Type 0} → X → Result (Option X) FieldFault → Option X
@@ -107,3 +113,25 @@ meta_data_of d = do
   configuration ← default_to META_DATA_CONFIGURATION [] (field pairs (codes "configuration") d)
   created ← optional META_DATA_CREATED_TIME (field whole (codes "createdTime") d)
   Ok (record { id = id; name = name; description = description; format = format; schema = schema; columns = columns; configuration = configuration; created = created })
+
+-- "Add CDC File"
+unfoldable pub cdc_of : Data → Result CdcFile LineFault
+cdc_of d = do
+  o ← as_action d
+  path ← required CDC_PATH (field as_str (codes "path") d)
+  values ← default_to CDC_PARTITION_VALUES [] (field pairs (codes "partitionValues") d)
+  size ← required CDC_SIZE (field (count (2 ^ 63)) (codes "size") d)
+  Ok (record { path = path; values = values; size = size })
+
+-- "Transaction Identifiers"
+unfoldable pub txn_of : Data → Result Txn LineFault
+txn_of d = do
+  o ← as_action d
+  app ← required TXN_APP_ID (field as_str (codes "appId") d)
+  version ← required TXN_VERSION (field whole (codes "version") d)
+  updated ← optional TXN_LAST_UPDATED (field whole (codes "lastUpdated") d)
+  Ok (record { app = app; version = version; updated = updated })
+
+-- "Commit Provenance Information": any value stands for one; a moment is kept where it is in the bounds
+abbrev pub commit_info_of : Data → CommitInfo
+commit_info_of d = record { timestamp = option_and_then (count times_end) (present (codes "timestamp") d) }

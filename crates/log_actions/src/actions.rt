@@ -1,17 +1,22 @@
 // The kinds of actions (Delta Lake PROTOCOL.md, "Actions").
 ghost use Rattle.std.specs.Prelude.{◌≡◌, IfOk};
 
+use crate::{CommitTime, FileSize, ProtocolVersion};
 use json_tree::{Pairs, Text, Texts, copy_pairs_or_none, copy_text_or_none};
 use std::alloc::{AllocError, Global};
 use std::marker::Model;
 
-/// The versions of the protocol that reading and writing the table takes ("Protocol Evolution").
+/// What reading and writing the table takes ("Protocol Evolution", "Table Features").
 #[derive(Drop)]
 pub struct Protocol {
-    /// `minReaderVersion`, 0 to 2^31 - 1; required.
-    pub min_reader: u32,
-    /// `minWriterVersion`, 0 to 2^31 - 1; required.
-    pub min_writer: u32,
+    /// `minReaderVersion`; required.
+    pub min_reader: ProtocolVersion,
+    /// `minWriterVersion`; required.
+    pub min_writer: ProtocolVersion,
+    /// `readerFeatures`, the features that a reader of version 3 has to have.
+    pub reader_features: Option<Texts>,
+    /// `writerFeatures`, the features that a writer of version 7 has to have.
+    pub writer_features: Option<Texts>,
 }
 
 /// How the table's files are encoded ("Format Specification").
@@ -52,8 +57,8 @@ pub struct AddFile {
     pub path: Text,
     /// `partitionValues`, texts or nulls by name of column; absent or null it has none.
     pub values: Pairs,
-    /// `size` in bytes, 0 to 2^63 - 1; required.
-    pub size: u64,
+    /// `size` in bytes; required.
+    pub size: FileSize,
     /// `modificationTime`, in milliseconds since the start of 1970 in UTC, any number of 64 bits
     /// with sign; absent or null it is 0.
     pub modified: i64,
@@ -79,10 +84,40 @@ pub struct RemoveFile {
     pub data_change: bool,
     /// `partitionValues`, texts or nulls by name of column.
     pub values: Option<Pairs>,
-    /// `size` in bytes, 0 to 2^63 - 1.
-    pub size: Option<u64>,
+    /// `size` in bytes.
+    pub size: Option<FileSize>,
     /// Whether there is a `deletionVector` that isn't null.
     pub vector: bool,
+}
+
+/// A file of changed rows ("Add CDC File").
+#[derive(Drop)]
+pub struct CdcFile {
+    /// `path`, as it is spelt in the log; required.
+    pub path: Text,
+    /// `partitionValues`, texts or nulls by name of column; absent or null it has none.
+    pub values: Pairs,
+    /// `size` in bytes; required.
+    pub size: FileSize,
+}
+
+/// How far an application has come with its own writes ("Transaction Identifiers").
+#[derive(Drop)]
+pub struct Txn {
+    /// `appId`, the application; required.
+    pub app: Text,
+    /// `version`, a number of the application's own, of 64 bits with sign; required.
+    pub version: i64,
+    /// `lastUpdated`, in milliseconds since the start of 1970 in UTC, any number of 64 bits with
+    /// sign.
+    pub updated: Option<i64>,
+}
+
+/// What a commit says of itself ("Commit Provenance Information"). Only its moment is kept.
+#[derive(Drop)]
+pub struct CommitInfo {
+    /// `timestamp`, none where it isn't a whole number in the bounds of a commit's time.
+    pub timestamp: Option<CommitTime>,
 }
 
 /// An action of a commit.
@@ -92,6 +127,9 @@ pub enum Action {
     MetaData(MetaData),
     Add(AddFile),
     Remove(RemoveFile),
+    Cdc(CdcFile),
+    Txn(Txn),
+    CommitInfo(CommitInfo),
 }
 
 /// A list of actions.
@@ -107,13 +145,6 @@ impl Model for Actions {
     ghost Value = { List Action };
 
     ghost view = { λ a. a.items.items };
-}
-
-/// The actions of one version of the table ("Delta Log Entries").
-#[derive(Drop)]
-pub struct Commit {
-    /// The actions in the order of the commit's lines.
-    pub actions: Actions,
 }
 
 impl Actions {
@@ -155,23 +186,37 @@ impl Action {
         ensures { IfOk result (λ a. a ≡ self.now) }
     {
         match self {
-            Action::Protocol(protocol) => Ok(Action::Protocol(protocol.copy())),
+            Action::Protocol(protocol) => Ok(Action::Protocol(protocol.copy(alloc)?)),
             Action::MetaData(meta) => Ok(Action::MetaData(meta.copy(alloc)?)),
             Action::Add(file) => Ok(Action::Add(file.copy(alloc)?)),
             Action::Remove(file) => Ok(Action::Remove(file.copy(alloc)?)),
+            Action::Cdc(file) => Ok(Action::Cdc(file.copy(alloc)?)),
+            Action::Txn(txn) => Ok(Action::Txn(txn.copy(alloc)?)),
+            Action::CommitInfo(info) => Ok(Action::CommitInfo(info.copy())),
         }
     }
 }
 
+fn copy_texts_or_none(alloc: Global, texts: &Option<Texts>) -> Result<Option<Texts>, AllocError>
+    ensures { IfOk result (λ t. t ≡ texts.now) }
+{
+    match texts {
+        Some(texts) => Ok(Some(texts.copy(alloc)?)),
+        None => Ok(None),
+    }
+}
+
 impl Protocol {
-    /// A protocol of the same versions.
-    pub fn copy(&self) -> Protocol
-        ensures { result ≡ self.now }
+    /// A protocol of the same versions and features.
+    pub fn copy(&self, alloc: Global) -> Result<Protocol, AllocError>
+        ensures { IfOk result (λ p. p ≡ self.now) }
     {
-        Protocol {
+        Ok(Protocol {
             min_reader: self.min_reader,
             min_writer: self.min_writer,
-        }
+            reader_features: copy_texts_or_none(alloc, &self.reader_features)?,
+            writer_features: copy_texts_or_none(alloc, &self.writer_features)?,
+        })
     }
 }
 
@@ -236,5 +281,42 @@ impl RemoveFile {
             size: self.size,
             vector: self.vector,
         })
+    }
+}
+
+impl CdcFile {
+    /// A file of changed rows of the same fields.
+    pub fn copy(&self, alloc: Global) -> Result<CdcFile, AllocError>
+        ensures { IfOk result (λ f. f ≡ self.now) }
+    {
+        Ok(CdcFile {
+            path: self.path.copy(alloc)?,
+            values: self.values.copy(alloc)?,
+            size: self.size,
+        })
+    }
+}
+
+impl Txn {
+    /// A txn of the same fields.
+    pub fn copy(&self, alloc: Global) -> Result<Txn, AllocError>
+        ensures { IfOk result (λ t. t ≡ self.now) }
+    {
+        Ok(Txn {
+            app: self.app.copy(alloc)?,
+            version: self.version,
+            updated: self.updated,
+        })
+    }
+}
+
+impl CommitInfo {
+    /// A commitInfo of the same moment.
+    pub fn copy(&self) -> CommitInfo
+        ensures { result ≡ self.now }
+    {
+        CommitInfo {
+            timestamp: self.timestamp,
+        }
     }
 }

@@ -1,15 +1,16 @@
 // The fields of an action, and the faults by which they are told.
-ghost use Rattle.std.specs.Prelude.{◌≡◌, ◌^◌, is_some};
+ghost use Rattle.std.specs.Prelude.{◌≡◌, ◌^◌, is_some, option_and_then};
 ghost use Rattle.serde_json.specs.View.{view};
 ghost use Rattle.serde_json.specs.Find.{as_str};
 ghost use Rattle.json_tree.specs.Fields.{field, or_wrong, present};
 ghost use Rattle.json_tree.specs.Gives.{Gives as Found};
 ghost use Rattle.log_actions.specs.Faults.{Gives};
 ghost use Rattle.log_actions.specs.Faults as faults;
-ghost use Rattle.log_actions.specs.Reading.{as_action, count, format_in};
+ghost use Rattle.log_actions.specs.Reading.{as_action, count, count_below, format_in};
+ghost use Rattle.log_actions.specs.Ranges.{times_end};
 ghost use Rattle.log_actions.specs.Reading as reading;
 
-use crate::{Format, LineFault, numbers};
+use crate::{CommitTime, FileSize, Format, LineFault, ProtocolVersion, numbers};
 use json_tree::{FieldFault, Pairs, Text, member_at, pairs_at, text_at, whole_at};
 use serde_json::Value;
 use std::alloc::Global;
@@ -102,32 +103,58 @@ pub fn object_of(value: &Value) -> Result<(), LineFault>
 }
 
 /// A version of the protocol.
-pub fn version_at(object: &Value, name: &str) -> Result<Option<u32>, FieldFault>
+pub fn version_at(object: &Value, name: &str) -> Result<Option<ProtocolVersion>, FieldFault>
     ensures { result ≡ field (count (2 ^ 31)) name.now (view object.now) }
 {
     match whole_at(object, name)? {
-        Some(number) => {
-            if number >= 0 && number < 0x8000_0000 {
-                Ok(Some(number as u32))
-            } else {
-                Err(FieldFault::WrongKind)
-            }
-        }
+        Some(number) => match version_of(number) {
+            Some(version) => Ok(Some(version)),
+            None => Err(FieldFault::WrongKind),
+        },
         None => Ok(None),
     }
 }
 
+fn version_of(number: i64) -> Option<ProtocolVersion>
+    ensures { result ≡ count_below (2 ^ 31) number }
+{
+    let number = u32::try_from(number).ok()?;
+    ProtocolVersion::of(number)
+}
+
 /// A number of bytes.
-pub fn size_at(object: &Value, name: &str) -> Result<Option<u64>, FieldFault>
+pub fn size_at(object: &Value, name: &str) -> Result<Option<FileSize>, FieldFault>
     ensures { result ≡ field (count (2 ^ 63)) name.now (view object.now) }
 {
     match whole_at(object, name)? {
-        Some(number) => match u64::try_from(number) {
-            Ok(number) => Ok(Some(number)),
-            Err(_) => Err(FieldFault::WrongKind),
+        Some(number) => match size_of(number) {
+            Some(size) => Ok(Some(size)),
+            None => Err(FieldFault::WrongKind),
         },
         None => Ok(None),
     }
+}
+
+fn size_of(number: i64) -> Option<FileSize>
+    ensures { result ≡ count_below (2 ^ 63) number }
+{
+    let number = u64::try_from(number).ok()?;
+    FileSize::of(number)
+}
+
+/// The moment of a commit, where the field is a whole number in its bounds.
+pub fn time_at(object: &Value, name: &str) -> Option<CommitTime>
+    ensures { result ≡ option_and_then (count times_end) (present name.now (view object.now)) }
+{
+    let number = member_at(object, name)?.as_i64()?;
+    time_of(number)
+}
+
+fn time_of(number: i64) -> Option<CommitTime>
+    ensures { result ≡ count_below times_end number }
+{
+    let number = u64::try_from(number).ok()?;
+    CommitTime::of(number)
 }
 
 #[tactic(auto, unfolding(crate::specs::Reading::format_in))]

@@ -2,15 +2,31 @@
 #![tactic(auto)]
 
 mod actions;
+mod commit;
 mod fields;
 mod line_fault;
+mod line_length;
 mod lines;
 pub mod numbers;
+mod paths;
+mod printing;
+mod ranges;
 mod reading;
 
-pub use actions::{Action, Actions, AddFile, Commit, Format, MetaData, Protocol, RemoveFile};
+pub use actions::{
+    Action, Actions, AddFile, CdcFile, CommitInfo, Format, MetaData, Protocol, RemoveFile, Txn,
+};
+pub use commit::Commit;
 pub use line_fault::LineFault;
-pub use lines::action_of_line;
+pub use line_length::line_len;
+pub use lines::{action_of, action_of_line};
+pub use paths::{is_good_path, path_name};
+pub use printing::line_of_action;
+pub use ranges::{CommitTime, FileSize, ProtocolVersion};
 
+#[cfg(test)]
+mod path_tests;
+#[cfg(test)]
+mod print_tests;
 #[cfg(test)]
 mod tests;

@@ -13,9 +13,6 @@ pub enum LineFault {
     NotJson,
     /// The line is no object, or not exactly one member of it is other than null.
     NotOneKey,
-    /// The action is of a kind that isn't read yet: a `cdc`, a `txn`, a `commitInfo`, or a
-    /// protocol with features.
-    Unread,
     /// A field of the action is wanting, of another kind or out of its bounds: the least number
     /// of such a field, as `numbers` has them.
     Field { which: u16 },

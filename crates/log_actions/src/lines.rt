@@ -2,10 +2,11 @@
 ghost use Rattle.std.specs.Prelude.{◌≡◌, option_map};
 ghost use Rattle.serde_json.specs.View.{view, members_view};
 ghost use Rattle.log_actions.specs.Faults.{Gives};
-ghost use Rattle.log_actions.specs.Lines.{action_at, action_in, refuse_features, members_left, only_member as sole_member, only_one};
+ghost use Rattle.log_actions.specs.Lines.{action_at, action_in, action_of_data, members_left, only_member as sole_member, only_one};
 
-use crate::fields::has_member;
-use crate::reading::{read_add, read_meta_data, read_protocol, read_remove};
+use crate::reading::{
+    read_add, read_cdc, read_commit_info, read_meta_data, read_protocol, read_remove, read_txn,
+};
 use crate::{Action, LineFault};
 use json_tree::{TreeFault, tree_of};
 use serde_json::{Map, Value};
@@ -34,31 +35,30 @@ fn only_member(object: &Value) -> Option<(&str, &Value)>
     only_of(object.as_object()?)
 }
 
-// Refuses what isn't read yet.
-fn without_features(value: &Value) -> Result<(), LineFault>
-    ensures { Gives result (refuse_features (view value.now)) }
-{
-    if has_member(value, "readerFeatures") || has_member(value, "writerFeatures") {
-        Err(LineFault::Unread)
-    } else {
-        Ok(())
-    }
-}
-
 #[tactic(auto, unfolding(crate::specs::Lines::action_in))]
 fn read_action(alloc: Global, name: &str, value: &Value) -> Result<Option<Action>, LineFault>
     ensures { Gives result (action_in name.now (view value.now)) }
 {
     match name {
-        "protocol" => {
-            without_features(value)?;
-            Ok(Some(Action::Protocol(read_protocol(value)?)))
-        }
+        "protocol" => Ok(Some(Action::Protocol(read_protocol(alloc, value)?))),
         "metaData" => Ok(Some(Action::MetaData(read_meta_data(alloc, value)?))),
         "add" => Ok(Some(Action::Add(read_add(alloc, value)?))),
         "remove" => Ok(Some(Action::Remove(read_remove(alloc, value)?))),
-        "cdc" | "txn" | "commitInfo" => Err(LineFault::Unread),
+        "cdc" => Ok(Some(Action::Cdc(read_cdc(alloc, value)?))),
+        "txn" => Ok(Some(Action::Txn(read_txn(alloc, value)?))),
+        "commitInfo" => Ok(Some(Action::CommitInfo(read_commit_info(value)))),
         _ => Ok(None),
+    }
+}
+
+/// The action that a JSON value stands for: an object with one member that isn't null, the action's
+/// name and value. None where that member has another name.
+pub fn action_of(alloc: Global, object: &Value) -> Result<Option<Action>, LineFault>
+    ensures { Gives result (action_of_data (view object.now)) }
+{
+    match only_member(object) {
+        Some((name, value)) => read_action(alloc, name, value),
+        None => Err(LineFault::NotOneKey),
     }
 }
 
@@ -66,14 +66,10 @@ fn read_action(alloc: Global, name: &str, value: &Value) -> Result<Option<Action
 pub fn action_of_line(alloc: Global, line: &[u8]) -> Result<Option<Action>, LineFault>
     ensures { Gives result (action_at line.now) }
 {
-    let value = match tree_of(alloc, line) {
-        Ok(value) => value,
-        Err(TreeFault::NotUtf8) => return Err(LineFault::NotUtf8),
-        Err(TreeFault::NotJson) => return Err(LineFault::NotJson),
-        Err(TreeFault::NoMemory) => return Err(LineFault::NoMemory),
-    };
-    match only_member(&value) {
-        Some((name, value)) => read_action(alloc, name, value),
-        None => Err(LineFault::NotOneKey),
+    match tree_of(alloc, line) {
+        Ok(value) => action_of(alloc, &value),
+        Err(TreeFault::NotUtf8) => Err(LineFault::NotUtf8),
+        Err(TreeFault::NotJson) => Err(LineFault::NotJson),
+        Err(TreeFault::NoMemory) => Err(LineFault::NoMemory),
     }
 }

@@ -9,6 +9,12 @@ pub const PROTOCOL_MIN_READER_VERSION: u16 = 1;
 /// `protocol.minWriterVersion`.
 pub const PROTOCOL_MIN_WRITER_VERSION: u16 = 2;
 
+/// `protocol.readerFeatures`.
+pub const PROTOCOL_READER_FEATURES: u16 = 3;
+
+/// `protocol.writerFeatures`.
+pub const PROTOCOL_WRITER_FEATURES: u16 = 4;
+
 /// `metaData.id`.
 pub const META_DATA_ID: u16 = 5;
 
@@ -68,3 +74,21 @@ pub const REMOVE_PARTITION_VALUES: u16 = 23;
 
 /// `remove.size`.
 pub const REMOVE_SIZE: u16 = 24;
+
+/// `cdc.path`.
+pub const CDC_PATH: u16 = 25;
+
+/// `cdc.partitionValues`.
+pub const CDC_PARTITION_VALUES: u16 = 26;
+
+/// `cdc.size`.
+pub const CDC_SIZE: u16 = 27;
+
+/// `txn.appId`.
+pub const TXN_APP_ID: u16 = 28;
+
+/// `txn.version`.
+pub const TXN_VERSION: u16 = 29;
+
+/// `txn.lastUpdated`.
+pub const TXN_LAST_UPDATED: u16 = 30;

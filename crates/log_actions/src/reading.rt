@@ -2,19 +2,21 @@
 ghost use Rattle.std.specs.Prelude.{◌≡◌, IfOk};
 ghost use Rattle.serde_json.specs.View.{view};
 ghost use Rattle.log_actions.specs.Faults.{Gives};
-ghost use Rattle.log_actions.specs.Reading.{add_of, meta_data_of, parquet, protocol_of, remove_of};
+ghost use Rattle.log_actions.specs.Reading.{add_of, cdc_of, commit_info_of, meta_data_of, parquet, protocol_of, remove_of, txn_of};
 
 use crate::fields::{
     default_to, format_at, has_member, object_of, optional, optional_text, required, required_text,
-    size_at, version_at,
+    size_at, time_at, version_at,
 };
-use crate::{AddFile, Format, LineFault, MetaData, Protocol, RemoveFile, numbers};
+use crate::{
+    AddFile, CdcFile, CommitInfo, Format, LineFault, MetaData, Protocol, RemoveFile, Txn, numbers,
+};
 use json_tree::{Pairs, Text, Texts, flag_at, pairs_at, texts_at, whole_at};
 use serde_json::Value;
 use std::alloc::{AllocError, Global};
 
-#[tactic(auto, unfolding(crate::specs::Reading::protocol_of))]
-pub fn read_protocol(value: &Value) -> Result<Protocol, LineFault>
+#[tactic(auto, using(crate::proofs::FieldReads::Gives_optional), unfolding(crate::specs::Reading::protocol_of))]
+pub fn read_protocol(alloc: Global, value: &Value) -> Result<Protocol, LineFault>
     ensures { Gives result (protocol_of (view value.now)) }
 {
     object_of(value)?;
@@ -26,9 +28,19 @@ pub fn read_protocol(value: &Value) -> Result<Protocol, LineFault>
         numbers::PROTOCOL_MIN_WRITER_VERSION,
         version_at(value, "minWriterVersion"),
     )?;
+    let reader_features = optional(
+        numbers::PROTOCOL_READER_FEATURES,
+        texts_at(alloc, value, "readerFeatures"),
+    )?;
+    let writer_features = optional(
+        numbers::PROTOCOL_WRITER_FEATURES,
+        texts_at(alloc, value, "writerFeatures"),
+    )?;
     Ok(Protocol {
         min_reader,
         min_writer,
+        reader_features,
+        writer_features,
     })
 }
 
@@ -149,4 +161,42 @@ pub fn read_remove(alloc: Global, value: &Value) -> Result<RemoveFile, LineFault
         size,
         vector,
     })
+}
+
+#[tactic(auto, using(crate::proofs::FieldReads::Gives_required, crate::proofs::FieldReads::Gives_default_to), unfolding(crate::specs::Reading::cdc_of))]
+pub fn read_cdc(alloc: Global, value: &Value) -> Result<CdcFile, LineFault>
+    ensures { Gives result (cdc_of (view value.now)) }
+{
+    object_of(value)?;
+    let path = required_text(alloc, value, "path", numbers::CDC_PATH)?;
+    let values = default_to(
+        numbers::CDC_PARTITION_VALUES,
+        Pairs::new(alloc),
+        pairs_at(alloc, value, "partitionValues"),
+    )?;
+    let size = required(numbers::CDC_SIZE, size_at(value, "size"))?;
+    Ok(CdcFile { path, values, size })
+}
+
+#[tactic(auto, unfolding(crate::specs::Reading::txn_of))]
+pub fn read_txn(alloc: Global, value: &Value) -> Result<Txn, LineFault>
+    ensures { Gives result (txn_of (view value.now)) }
+{
+    object_of(value)?;
+    let app = required_text(alloc, value, "appId", numbers::TXN_APP_ID)?;
+    let version = required(numbers::TXN_VERSION, whole_at(value, "version"))?;
+    let updated = optional(numbers::TXN_LAST_UPDATED, whole_at(value, "lastUpdated"))?;
+    Ok(Txn {
+        app,
+        version,
+        updated,
+    })
+}
+
+pub fn read_commit_info(value: &Value) -> CommitInfo
+    ensures { result ≡ commit_info_of (view value.now) }
+{
+    CommitInfo {
+        timestamp: time_at(value, "timestamp"),
+    }
 }

@@ -1,38 +1,11 @@
--- Lines of a text, one after another.
-use Rattle.std.proofs.Common.{◌≡◌, ℕ, ◌+◌, ◌≤◌, not, length, take, drop, ltb, arith, List, [], ◌∷◌, ◌++◌, Bool, true, false, cond, Option, Some, None, option_map, refl, sym, ap, ◌∙◌, append_assoc}
-use Rattle.std.specs.Prelude.{◌==◌, ◌&&◌, filter_map}
-use Rattle.std.specs.List.{list_all, position_or_len, slice_split, onto_first, cons_option}
+-- The first line of a text.
+use Rattle.std.proofs.Common.{◌≡◌, ℕ, ◌+◌, ◌≤◌, not, length, take, drop, ltb, arith, List, [], ◌∷◌, Bool, true, false, cond, Option, Some, None, refl, sym, ap, ◌∙◌}
+use Rattle.std.specs.Prelude.{◌==◌}
+use Rattle.std.specs.List.{position_or_len, slice_split, onto_first}
 use Rattle.std.proofs.lemmas.List.Splits.{slice_split_first}
 use Rattle.std.proofs.lemmas.Bool.{ltb-true, ltb-false}
-use Rattle.std.proofs.lemmas.List.{append-nil}
 use Rattle.std.proofs.lemmas.Option.{same_Some, none-some}
-use Rattle.log_actions.specs.declared.actions.Action.{Action}
-use Rattle.log_commit.specs.Lines.{actions_of_lines, is_read, line_action, lines}
-
--- a front before what is read
-abbrev pub onto : List Action → Option (List Action) → Option (List Action)
-onto front rest = option_map (λ xs. front ++ xs) rest
-
-one_more : (front : List Action) (o : Option Action) (rest : List Action) → front ++ cons_option o rest ≡ (front ++ cons_option o []) ++ rest
-one_more front None rest = ap (λ f. f ++ rest) (sym (append-nil front))
-one_more front (Some a) rest = sym (append_assoc front (a ∷ []) rest)
-
-rest_case : (front : List Action) (o : Option Action) (b : Bool) (rest : List Action)
-    → onto front (cond b (Some (cons_option o rest)) None) ≡ onto (front ++ cons_option o []) (cond b (Some rest) None)
-rest_case front o true rest = ap Some (one_more front o rest)
-rest_case front o false rest = refl
-
--- one line more was read
-pub line_more : (front new : List Action) (line : List ℕ) (more : List (List ℕ)) → is_read line ≡ true → new ≡ front ++ cons_option (line_action line) []
-    → onto front (actions_of_lines (line ∷ more)) ≡ onto new (actions_of_lines more)
-line_more front new line more read is =
-    ap (λ b. onto front (cond (b && list_all is_read more) (Some (filter_map line_action (line ∷ more))) None)) read
-    ∙ rest_case front (line_action line) (list_all is_read more) (filter_map line_action more)
-    ∙ ap (λ f. onto f (actions_of_lines more)) (sym is)
-
--- a line isn't read
-pub line_fails : (front : List Action) (line : List ℕ) (more : List (List ℕ)) → is_read line ≡ false → onto front (actions_of_lines (line ∷ more)) ≡ None
-line_fails front line more fails = ap (λ b. onto front (cond (b && list_all is_read more) (Some (filter_map line_action (line ∷ more))) None)) fails
+use Rattle.log_commit.specs.Lines.{lines}
 
 one_line : (x : ℕ) (xs : List ℕ) (b : Bool) → length (x ∷ xs) ≤ cond (not b) (1 + position_or_len (λ b. b == 10) xs) 0 → (length xs ≤ position_or_len (λ b. b == 10) xs → slice_split (λ b. b == 10) xs ≡ xs ∷ [])
     → cond b ([] ∷ slice_split (λ b. b == 10) xs) (onto_first x (slice_split (λ b. b == 10) xs)) ≡ (x ∷ xs) ∷ []

@@ -1,21 +1,17 @@
 -- Paths that stand once.
-use Rattle.std.proofs.Common.{◌≡◌, ℕ, suc, ◌+◌, ◌<◌, ◌≤◌, List, [], ◌∷◌, ◌++◌, length, take, drop, get_or, Option, Some, None, is_some, refl, sym, ap, ◌∙◌, subst, Bool, true, false, cond, not, arith, true≢false, bytes_eq, nat_le}
+use Rattle.std.proofs.Common.{◌≡◌, ℕ, ◌+◌, ◌<◌, ◌≤◌, List, [], ◌∷◌, ◌++◌, Option, Some, is_some, refl, sym, ap, ◌∙◌, subst, Bool, true, false, cond, arith, true≢false, bytes_eq, nat_le}
 use Rattle.std.specs.Prelude.{◌||◌, ◌&&◌}
 use Rattle.std.specs.Borrow.{Bor}
 use Rattle.std.specs.BTreeMap.{BTreeMap, get_by}
 use Rattle.std.specs.Ordering.{nat_cmp}
 use Rattle.std.specs.Cmp.Lexicographic.{slice_cmp}
-use Rattle.std.specs.List.{count_by, list_any, list_all, cons_option}
-use Rattle.std.proofs.Math.Seq.{drop-cons}
-use Rattle.std.proofs.lemmas.List.{append-nil, take_more, take-append-drop}
-use Rattle.std.proofs.lemmas.List.Elements.{filter_map-append}
-use Rattle.std.proofs.lemmas.List.Folds.{list_all-append, list_any-append}
+use Rattle.std.specs.List.{count_by, list_any, list_all}
+use Rattle.std.proofs.lemmas.List.Folds.{list_all-append}
 use Rattle.std.proofs.lemmas.List.Sums.{sum_by-append, sum_by-cons}
 use Rattle.std.proofs.lemmas.Bool.{and_parts, and_from, and_left, and_right, or_parts, le-leb, lt-leb, leb-true}
 use Rattle.std.proofs.lemmas.Cmp.{nat_list_eq_equiv}
-use Rattle.log_actions.specs.declared.actions.Action.{Action}
-use Rattle.log_commit.specs.PlainCommit.{path_of, paths_of, are_distinct}
-use Rattle.log_commit.specs.Seen.{holds, Sees}
+use Rattle.log_actions.specs.Commits.{are_distinct}
+use Rattle.log_commit.specs.Passes.{holds}
 
 put_at : (b : Bool) (o : Option (Unit {0})) → is_some (cond b (Some tt) o) ≡ (b || is_some o)
 put_at true o = refl
@@ -24,19 +20,15 @@ put_at false o = refl
 pub puts : (path q : List ℕ) (m n : BTreeMap (Bor (List ℕ)) (Unit {0})) → get_by (λ k. slice_cmp nat_cmp q k.now) n ≡ cond (bytes_eq path q) (Some tt) (get_by (λ k. slice_cmp nat_cmp q k.now) m) → holds n q ≡ (bytes_eq path q || holds m q)
 puts path q m n e = ap is_some e ∙ put_at (bytes_eq path q) (get_by (λ k. slice_cmp nat_cmp q k.now) m)
 
-pub flip : (a b : Bool) → not a ≡ b → a ≡ not b
-flip true b e = ap not e
-flip false b e = ap not e
-
 -- how much a test counts
-abbrev weight : Bool → ℕ
+abbrev pub weight : Bool → ℕ
 weight b = cond b 1 0
 
-count_more : {X : Type 0} (test : X → Bool) (x : X) (xs : List X) → count_by test (x ∷ xs) ≡ weight (test x) + count_by test xs
+pub count_more : {X : Type 0} (test : X → Bool) (x : X) (xs : List X) → count_by test (x ∷ xs) ≡ weight (test x) + count_by test xs
 count_more test x xs = sum_by-cons (λ y. cond (test y) 1 0) x xs
 
 -- what stands in a list is counted
-counts : {X : Type 0} (test : X → Bool) (xs : List X) → list_any test xs ≡ true → 1 ≤ count_by test xs
+pub counts : {X : Type 0} (test : X → Bool) (xs : List X) → list_any test xs ≡ true → 1 ≤ count_by test xs
 counts test [] e = absurd (true≢false (sym e))
 counts test (x ∷ xs) e = subst (λ n. 1 ≤ n) (sym (count_more test x xs)) (counts_case (test x) (count_by test xs) (list_any test xs) e (counts test xs))
   where
@@ -44,7 +36,7 @@ counts test (x ∷ xs) e = subst (λ n. 1 ≤ n) (sym (count_more test x xs)) (c
     counts_case true n rest e h = omega arith
     counts_case false n rest e h = omega (arith, h e)
 
-counts-none : {X : Type 0} (test : X → Bool) (xs : List X) → list_any test xs ≡ false → count_by test xs ≡ 0
+pub counts-none : {X : Type 0} (test : X → Bool) (xs : List X) → list_any test xs ≡ false → count_by test xs ≡ 0
 counts-none test [] e = refl
 counts-none test (x ∷ xs) e = count_more test x xs ∙ none_case (test x) (count_by test xs) (list_any test xs) e (counts-none test xs)
   where
@@ -52,7 +44,7 @@ counts-none test (x ∷ xs) e = count_more test x xs ∙ none_case (test x) (cou
     none_case true n rest e h = absurd (true≢false e)
     none_case false n rest e h = omega (arith, h e)
 
-any-flip : (p : List ℕ) (xs : List (List ℕ)) → list_any (λ x. bytes_eq x p) xs ≡ list_any (bytes_eq p) xs
+pub any-flip : (p : List ℕ) (xs : List (List ℕ)) → list_any (λ x. bytes_eq x p) xs ≡ list_any (bytes_eq p) xs
 any-flip p [] = refl
 any-flip p (x ∷ xs) = ap (λ b. b || list_any (λ y. bytes_eq y p) xs) (nat_list_eq_equiv.symm x p) ∙ ap (λ b. bytes_eq p x || b) (any-flip p xs)
 
@@ -87,50 +79,3 @@ one_more front p all none =
     let here : weight (bytes_eq p p) ≡ 1 = ap weight (nat_list_eq_equiv.refl p) in
     let alone : count_by (bytes_eq p) (front ++ p ∷ []) ≤ 1 = omega (arith, at_end p p front [], here, before) in
     list_all-append once front (p ∷ []) ∙ and_from (list_all once front) (once p && true) (still front front p all none) (and_from (once p) true (le-leb (count_by (bytes_eq p) (front ++ p ∷ [])) 1 alone) refl)
-
-or_back : (a b : Bool) → (a || b) ≡ (b || (a || false))
-or_back true true = refl
-or_back true false = refl
-or_back false true = refl
-or_back false false = refl
-
-seen_more : (front : List (List ℕ)) (o : Option (List ℕ)) (m n : BTreeMap (Bor (List ℕ)) (Unit {0})) (b : Bool) → Sees o m n b → ((q : List ℕ) → holds m q ≡ list_any (λ p. bytes_eq p q) front)
-    → (q : List ℕ) → holds n q ≡ list_any (λ p. bytes_eq p q) (front ++ cons_option o [])
-seen_more front None m n b h g q = h.1 q ∙ g q ∙ ap (list_any (λ p. bytes_eq p q)) (sym (append-nil front))
-seen_more front (Some path) m n b h g q = h.1 q ∙ ap (λ t. bytes_eq path q || t) (g q) ∙ or_back (bytes_eq path q) (list_any (λ p. bytes_eq p q) front) ∙ sym (list_any-append (λ p. bytes_eq p q) front (path ∷ []))
-
-distinct_more : (front : List (List ℕ)) (o : Option (List ℕ)) (m n : BTreeMap (Bor (List ℕ)) (Unit {0})) → Sees o m n true → ((q : List ℕ) → holds m q ≡ list_any (λ p. bytes_eq p q) front)
-    → are_distinct front ≡ true → are_distinct (front ++ cons_option o []) ≡ true
-distinct_more front None m n h g all = ap are_distinct (append-nil front) ∙ all
-distinct_more front (Some path) m n h g all = one_more front path all (sym (g path) ∙ flip _ _ (sym h.0))
-
-stops : (front rest : List (List ℕ)) (o : Option (List ℕ)) (m n : BTreeMap (Bor (List ℕ)) (Unit {0})) → Sees o m n false → ((q : List ℕ) → holds m q ≡ list_any (λ p. bytes_eq p q) front)
-    → are_distinct (front ++ cons_option o rest) ≡ false
-stops front rest None m n h g = absurd (true≢false (sym h.0))
-stops front rest (Some path) m n h g = twice front rest path (sym (g path) ∙ flip _ _ (sym h.0))
-
-drop_more : (xs : List Action) (i : ℕ) (a : Action) → i < length xs → drop i xs ≡ get_or xs i a ∷ drop (i + 1) xs
-drop_more xs i a lt = let on : suc i ≡ i + 1 = omega arith in drop-cons xs i a lt ∙ ap (λ n. get_or xs i a ∷ drop n xs) on
-
-paths_front : (xs : List Action) (i : ℕ) (a : Action) → i < length xs → a ≡ get_or xs i a → paths_of (take (i + 1) xs) ≡ paths_of (take i xs) ++ cons_option (path_of a) []
-paths_front xs i a lt e = ap paths_of (take_more xs i a lt) ∙ filter_map-append path_of (take i xs) (get_or xs i a ∷ []) ∙ ap (λ x. paths_of (take i xs) ++ cons_option (path_of x) []) (sym e)
-
-paths_rest : (xs : List Action) (i : ℕ) (a : Action) → i < length xs → a ≡ get_or xs i a → paths_of (drop i xs) ≡ cons_option (path_of a) (paths_of (drop (i + 1) xs))
-paths_rest xs i a lt e = ap paths_of (drop_more xs i a lt) ∙ ap (λ x. cons_option (path_of x) (paths_of (drop (i + 1) xs))) (sym e)
-
--- one action more was seen
-pub sees_more : (xs : List Action) (i : ℕ) (a : Action) (m n : BTreeMap (Bor (List ℕ)) (Unit {0})) → i < length xs → a ≡ get_or xs i a → Sees (path_of a) m n true
-    → ((q : List ℕ) → holds m q ≡ list_any (λ p. bytes_eq p q) (paths_of (take i xs))) → (q : List ℕ) → holds n q ≡ list_any (λ p. bytes_eq p q) (paths_of (take (i + 1) xs))
-sees_more xs i a m n lt e h g q = seen_more (paths_of (take i xs)) (path_of a) m n true h g q ∙ ap (list_any (λ p. bytes_eq p q)) (sym (paths_front xs i a lt e))
-
-pub distinct_so_far : (xs : List Action) (i : ℕ) (a : Action) (m n : BTreeMap (Bor (List ℕ)) (Unit {0})) → i < length xs → a ≡ get_or xs i a → Sees (path_of a) m n true
-    → ((q : List ℕ) → holds m q ≡ list_any (λ p. bytes_eq p q) (paths_of (take i xs))) → are_distinct (paths_of (take i xs)) ≡ true → are_distinct (paths_of (take (i + 1) xs)) ≡ true
-distinct_so_far xs i a m n lt e h g all = ap are_distinct (paths_front xs i a lt e) ∙ distinct_more (paths_of (take i xs)) (path_of a) m n h g all
-
-paths_whole : (xs : List Action) (i : ℕ) → paths_of xs ≡ paths_of (take i xs) ++ paths_of (drop i xs)
-paths_whole xs i = ap paths_of (sym (take-append-drop i xs)) ∙ filter_map-append path_of (take i xs) (drop i xs)
-
--- an action has a path that was seen
-pub seen_before : (xs : List Action) (i : ℕ) (a : Action) (m n : BTreeMap (Bor (List ℕ)) (Unit {0})) → i < length xs → a ≡ get_or xs i a → Sees (path_of a) m n false
-    → ((q : List ℕ) → holds m q ≡ list_any (λ p. bytes_eq p q) (paths_of (take i xs))) → are_distinct (paths_of xs) ≡ false
-seen_before xs i a m n lt e h g = ap are_distinct (paths_whole xs i ∙ ap (λ r. paths_of (take i xs) ++ r) (paths_rest xs i a lt e)) ∙ stops (paths_of (take i xs)) (paths_of (drop (i + 1) xs)) (path_of a) m n h g

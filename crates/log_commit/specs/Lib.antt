@@ -1,3 +1,5 @@
+pub mod Names
 pub mod Lines
-pub mod PlainCommit
+pub mod Texts
+pub mod Passes
 pub mod Seen

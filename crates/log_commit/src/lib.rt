@@ -1,11 +1,21 @@
-//! The text of a commit, read as its actions.
+//! The text of a commit, read as its actions, and the names of commits.
 #![tactic(auto)]
 
+mod faults;
 mod lines;
-mod paths;
-mod plain_commit;
+mod names;
+mod print;
+mod rules;
+mod text;
 
-pub use plain_commit::plain_commit_of;
+pub use faults::CommitFault;
+pub use names::{name_of, version_of};
+pub use print::{bytes_of, text_len};
+pub use text::{MOST_BYTES, commit_of};
 
 #[cfg(test)]
-mod tests;
+mod name_tests;
+#[cfg(test)]
+mod print_tests;
+#[cfg(test)]
+mod text_tests;

@@ -1,9 +1,21 @@
-// The lines of a commit's text, and their actions.
-ghost use Rattle.std.specs.Prelude.{◌≡◌, ◌<◌, IfOk, IfSome, Option, length, option_copied, option_map};
-ghost use Rattle.log_commit.specs.Lines.{IsCut, LineAdds, actions_in, is_blank as is_blank_line};
+// The lines of a commit's text, and what they give.
+ghost use Rattle.std.specs.Prelude.{◌≡◌, ◌<◌, ◌++◌, [], Ok, IfOk, OnOk, IfSome, length, option_copied};
+ghost use Rattle.std.specs.List.{cons_option};
+ghost use Rattle.log_actions.specs.Faults.{Gives};
+ghost use Rattle.log_commit.specs.Lines.{given, is_blank as is_blank_line, lines};
+ghost use Rattle.log_commit.specs.Passes.{IsCut, number_first};
+ghost use Rattle.log_commit.specs.Seen.{AreRead, TakesLine};
 
+use crate::CommitFault;
 use log_actions::{Action, LineFault, action_of_line};
 use std::alloc::{AllocError, Global};
+
+// The actions of lines, and the numbers of the lines that have one.
+#[derive(Drop)]
+pub(crate) struct Found {
+    pub numbers: Vec<u64>,
+    pub actions: Vec<Action>,
+}
 
 fn is_blank(line: &[u8]) -> bool
     ensures { result ≡ is_blank_line line.now }
@@ -22,36 +34,70 @@ fn cut(text: &[u8]) -> (&[u8], Option<&[u8]>)
     }
 }
 
-// Adds the line's action, if it has one; false where the line isn't read.
-fn push_line(alloc: Global, actions: &mut Vec<Action>, line: &[u8]) -> Result<bool, AllocError>
-    ensures { IfOk result (λ read. LineAdds actions.old.items line.now read actions.new.items) }
+fn read_line(alloc: Global, line: &[u8]) -> Result<Option<Action>, LineFault>
+    ensures { Gives result (given line.now) }
 {
     if is_blank(line) {
-        return Ok(true);
-    }
-    match action_of_line(alloc, line) {
-        Ok(Some(action)) => {
-            actions.push(action)?;
-            Ok(true)
-        }
-        Ok(None) => Ok(true),
-        Err(LineFault::NoMemory) => Err(AllocError),
-        Err(_) => Ok(false),
+        Ok(None)
+    } else {
+        action_of_line(alloc, line)
     }
 }
 
-// The actions of the text's lines, none where a line isn't read.
-pub(crate) fn actions_of(alloc: Global, text: &[u8]) -> Result<Option<Vec<Action>>, AllocError>
-    ensures { IfOk result (λ o. option_map (λ v. v.items) o ≡ actions_in text.now) }
+impl Found {
+    // Adds the action of line n, if it has one.
+    fn add(&mut self, n: u64, action: Option<Action>) -> Result<(), AllocError>
+        ensures numbers { OnOk result (self.new.numbers.items ≡ self.old.numbers.items ++ number_first n (Ok action) []) }
+        ensures actions { OnOk result (self.new.actions.items ≡ self.old.actions.items ++ cons_option action []) }
+    {
+        if let Some(action) = action {
+            self.numbers.push(n)?;
+            self.actions.push(action)?;
+        }
+        Ok(())
+    }
+}
+
+// Adds what line n gives, or answers its fault.
+fn take_line(
+    alloc: Global,
+    found: &mut Found,
+    n: u64,
+    line: &[u8],
+) -> Result<Option<CommitFault>, AllocError>
+    ensures { IfOk result (λ stop. TakesLine n (given line.now) found.old found.new stop) }
 {
-    let mut actions = Vec::new(alloc);
-    let mut rest = Some(text);
+    match read_line(alloc, line) {
+        Ok(action) => {
+            found.add(n, action)?;
+            Ok(None)
+        }
+        Err(LineFault::NoMemory) => Err(AllocError),
+        Err(fault) => Ok(Some(CommitFault::Line { n, fault })),
+    }
+}
+
+// The actions of the lines before the first that isn't read, and its fault.
+pub(crate) fn read_lines(
+    alloc: Global,
+    bytes: &[u8],
+) -> Result<(Found, Option<CommitFault>), AllocError>
+    ensures { IfOk result (λ read. AreRead (lines bytes.now) read.0 read.1) }
+{
+    let mut found = Found {
+        numbers: Vec::new(alloc),
+        actions: Vec::new(alloc),
+    };
+    let mut n = 0u64;
+    let mut rest = Some(bytes);
     while let Some(left) = rest {
         let (line, more) = cut(left);
         rest = more;
-        if !push_line(alloc, &mut actions, line)? {
-            return Ok(None);
+        n += 1;
+        let stop = take_line(alloc, &mut found, n, line)?;
+        if stop.is_some() {
+            return Ok((found, stop));
         }
     }
-    Ok(Some(actions))
+    Ok((found, None))
 }

@@ -1,3 +1,4 @@
+pub mod TxnLemmas
 pub mod LiveLemmas
 pub mod MapLemmas
 pub mod PathLemmas
@@ -5,3 +6,6 @@ pub mod SearchLemmas
 pub mod AppliedLemmas
 pub mod RefusalLemmas
 pub mod Reached
+pub mod NextLemmas
+pub mod PartLemmas
+pub mod CheckpointLemmas

@@ -1,5 +1,5 @@
 -- How far the loop over the commits has come.
-use Rattle.std.proofs.Common.{◌≡◌, ℕ, ◌+◌, ◌<◌, ◌≤◌, ◌-◌, List, [], ◌∷◌, ◌++◌, Option, Some, None, Ok, Err, option_map, map, length, take, get_or, refl, sym, ap, ◌∙◌, subst, arith, true, false, length-append}
+use Rattle.std.proofs.Common.{◌≡◌, ℕ, ◌+◌, ◌<◌, ◌≤◌, List, [], ◌∷◌, ◌++◌, Option, Some, None, Ok, Err, option_map, map, length, take, get_or, refl, sym, ap, ◌∙◌, subst, arith, true, false, length-append}
 use Rattle.std.specs.Prelude.{slice_get}
 use Rattle.std.specs.Prelude.{nat_lt}
 use Rattle.std.proofs.lemmas.Bool.Decides.{nat_tests}
@@ -10,10 +10,7 @@ use Rattle.std.proofs.lemmas.List.{take_more, take_all, get_or-map, length-map, 
 use Rattle.std.proofs.lemmas.Option.{slice_get-get_or}
 use Rattle.std.proofs.lemmas.Grind.{flat_map-append}
 use Rattle.log_actions.specs.declared.actions.Action.{Action}
-use Rattle.log_actions.specs.declared.actions.Commit.{Commit}
-use Rattle.log_replay.specs.Reconciliation.{actions_in, live_files, last_protocol, last_meta}
-use Rattle.log_replay.specs.State.{state_of}
-use Rattle.log_actions.specs.declared.actions.AddFile.{AddFile}
+use Rattle.log_replay.specs.Reconciliation.{actions_in}
 use Rattle.log_replay.specs.Support.{own_actions, refusal_of}
 use Rattle.log_replay.specs.Applied.{Applies, Holds, Refuses, support_of}
 use Rattle.log_replay.specs.declared.held.Held.{Held}
@@ -25,7 +22,7 @@ use Rattle.log_actions.specs.declared.actions.MetaData.{MetaData}
 use Rattle.std.proofs.lemmas.List.Folds.{length-flat_map-take}
 
 abbrev Arcs : Type 0
-Arcs = List (Arc Commit Global)
+Arcs = List (Arc (List Action) Global)
 
 below_all : {n : ℕ} (i v : ℕ) → v < n → n ≤ i → v < i
 below_all i v low all = omega (arith, low, all)
@@ -40,27 +37,27 @@ pub record Reached (commits : Arcs) (i : ℕ) (held : Held) (version start steps
 inside : (commits : Arcs) (i : ℕ) → i < length commits → i < length (map arc_value commits)
 inside commits i lt = subst (λ n. i < n) (sym (length-map commits arc_value)) lt
 
-is_there : (commits : Arcs) (i : ℕ) (c : Arc Commit Global) → i < length commits → c ≡ get_or commits i c → get_or (map arc_value commits) i c.value ≡ c.value
+is_there : (commits : Arcs) (i : ℕ) (c : Arc (List Action) Global) → i < length commits → c ≡ get_or commits i c → get_or (map arc_value commits) i c.value ≡ c.value
 is_there commits i c lt is = get_or-map arc_value commits i c c.value lt ∙ ap arc_value (sym is)
 
-at_place : (commits : Arcs) (i : ℕ) (c : Arc Commit Global) → i < length commits → c ≡ get_or commits i c → slice_get (map arc_value commits) i ≡ Some c.value
+at_place : (commits : Arcs) (i : ℕ) (c : Arc (List Action) Global) → i < length commits → c ≡ get_or commits i c → slice_get (map arc_value commits) i ≡ Some c.value
 at_place commits i c lt is = slice_get-get_or (map arc_value commits) i c.value (inside commits i lt) ∙ ap Some (is_there commits i c lt is)
 
 -- the actions of one commit more
-pub actions_more : (commits : Arcs) (i : ℕ) (c : Arc Commit Global) → i < length commits → c ≡ get_or commits i c
-    → actions_in (take (i + 1) (map arc_value commits)) ≡ actions_in (take i (map arc_value commits)) ++ c.value.actions
+pub actions_more : (commits : Arcs) (i : ℕ) (c : Arc (List Action) Global) → i < length commits → c ≡ get_or commits i c
+    → actions_in (take (i + 1) (map arc_value commits)) ≡ actions_in (take i (map arc_value commits)) ++ c.value
 actions_more commits i c lt is =
     ap actions_in (take_more (map arc_value commits) i c.value (inside commits i lt))
-    ∙ flat_map-append (λ d. d.actions) (take i (map arc_value commits)) (get_or (map arc_value commits) i c.value ∷ [])
-    ∙ ap (λ d. actions_in (take i (map arc_value commits)) ++ d) (append-nil (get_or (map arc_value commits) i c.value).actions)
-    ∙ ap (λ d. actions_in (take i (map arc_value commits)) ++ d.actions) (is_there commits i c lt is)
+    ∙ flat_map-append (λ d. d) (take i (map arc_value commits)) (get_or (map arc_value commits) i c.value ∷ [])
+    ∙ ap (λ d. actions_in (take i (map arc_value commits)) ++ d) (append-nil (get_or (map arc_value commits) i c.value))
+    ∙ ap (λ d. actions_in (take i (map arc_value commits)) ++ d) (is_there commits i c lt is)
 
 -- no more actions than the log has
-pub actions_within : (commits : Arcs) (i : ℕ) (c : Arc Commit Global) → i < length commits → c ≡ get_or commits i c
-    → length (actions_in (take i (map arc_value commits))) + length c.value.actions ≤ length (actions_in (map arc_value commits))
+pub actions_within : (commits : Arcs) (i : ℕ) (c : Arc (List Action) Global) → i < length commits → c ≡ get_or commits i c
+    → length (actions_in (take i (map arc_value commits))) + length c.value ≤ length (actions_in (map arc_value commits))
 actions_within commits i c lt is =
-    subst (λ d. length (actions_in (take i (map arc_value commits))) + length d.actions ≤ length (actions_in (map arc_value commits))) (is_there commits i c lt is)
-    (length-flat_map-take (λ d. d.actions) (map arc_value commits) i c.value (inside commits i lt))
+    subst (λ d. length (actions_in (take i (map arc_value commits))) + length d ≤ length (actions_in (map arc_value commits))) (is_there commits i c lt is)
+    (length-flat_map-take (λ d. d) (map arc_value commits) i c.value (inside commits i lt))
 
 none_reached : (commits : Arcs) (held : Held) (start : ℕ) → Holds held [] → Reached commits 0 held 0 start start
 none_reached commits held start holds = record { holds = holds; at = refl; counted = omega arith; read = λ v low. absurd (omega (arith, low)) }
@@ -71,8 +68,8 @@ protocol_in held = option_map (λ p. p.now) held.protocol
 abbrev meta_in : Held → Option MetaData
 meta_in held = option_map (λ m. m.now) held.meta
 
-holds_more : (commits : Arcs) (i : ℕ) (c : Arc Commit Global) (a b : Held) → i < length commits → c ≡ get_or commits i c
-    → Holds a (actions_in (take i (map arc_value commits))) → Applies a b c.value.actions → Holds b (actions_in (take (i + 1) (map arc_value commits)))
+holds_more : (commits : Arcs) (i : ℕ) (c : Arc (List Action) Global) (a b : Held) → i < length commits → c ≡ get_or commits i c
+    → Holds a (actions_in (take i (map arc_value commits))) → Applies a b c.value → Holds b (actions_in (take (i + 1) (map arc_value commits)))
 holds_more commits i c a b lt is holds then = subst (Holds b) (sym (actions_more commits i c lt is)) (Holds-append a b _ _ holds then)
 
 sum : (s t n m all : ℕ) → s ≡ t + n → n + m ≡ all → s + m ≡ t + all
@@ -86,9 +83,9 @@ below_more P i before now v low =
     ] refl
 
 -- one commit more, whose version is read
-pub one_more : (commits : Arcs) (i : ℕ) (c : Arc Commit Global) (a b : Held) (version start steps more : ℕ) (xs ys : List Action) → i < length commits → c ≡ get_or commits i c
-    → Reached commits i a version start steps → xs ≡ c.value.actions → Applies a b xs → more ≡ steps + length xs
-    → ys ≡ c.value.actions → support_of version (protocol_in b) (meta_in b) ys ≡ Ok tt
+pub one_more : (commits : Arcs) (i : ℕ) (c : Arc (List Action) Global) (a b : Held) (version start steps more : ℕ) (xs ys : List Action) → i < length commits → c ≡ get_or commits i c
+    → Reached commits i a version start steps → xs ≡ c.value → Applies a b xs → more ≡ steps + length xs
+    → ys ≡ c.value → support_of version (protocol_in b) (meta_in b) ys ≡ Ok tt
     → Reached commits (i + 1) b (version + 1) start more
 one_more commits i c a b version start steps more xs ys lt is reached first then counted second passes =
     let now = holds_more commits i c a b lt is reached.holds (subst (Applies a b) first then) in
@@ -97,15 +94,15 @@ one_more commits i c a b version start steps more xs ys lt is reached first then
       holds = now;
       at = ap (λ n. n + 1) reached.at;
       counted = counted ∙ ap (λ zs. steps + length zs) first
-          ∙ sum steps start _ _ _ reached.counted (sym (ap length (actions_more commits i c lt is) ∙ length-append (actions_in (take i (map arc_value commits))) c.value.actions));
+          ∙ sum steps start _ _ _ reached.counted (sym (ap length (actions_more commits i c lt is) ∙ length-append (actions_in (take i (map arc_value commits))) c.value));
       read = below_more (IsRead (map arc_value commits)) i reached.read
           (reads (map arc_value commits) i (protocol_in b) (meta_in b) ys now.protocol now.meta own (subst (λ v. support_of v (protocol_in b) (meta_in b) ys ≡ Ok tt) reached.at passes));
     }
 
 -- one commit more, whose version isn't read
-pub stops : (commits : Arcs) (i : ℕ) (c : Arc Commit Global) (a b : Held) (version start steps : ℕ) (xs ys : List Action) (e : ReplayRefusal) → i < length commits → c ≡ get_or commits i c
-    → Reached commits i a version start steps → xs ≡ c.value.actions → Applies a b xs
-    → ys ≡ c.value.actions → support_of version (protocol_in b) (meta_in b) ys ≡ Err e
+pub stops : (commits : Arcs) (i : ℕ) (c : Arc (List Action) Global) (a b : Held) (version start steps : ℕ) (xs ys : List Action) (e : ReplayRefusal) → i < length commits → c ≡ get_or commits i c
+    → Reached commits i a version start steps → xs ≡ c.value → Applies a b xs
+    → ys ≡ c.value → support_of version (protocol_in b) (meta_in b) ys ≡ Err e
     → Refuses (refusal_of (map arc_value commits)) e
 stops commits i c a b version start steps xs ys e lt is reached first then second fails =
     let now = holds_more commits i c a b lt is reached.holds (subst (Applies a b) first then) in
@@ -114,8 +111,8 @@ stops commits i c a b version start steps xs ys e lt is reached first then secon
     (subst (λ v. support_of v (protocol_in b) (meta_in b) ys ≡ Err e) reached.at fails))
 
 -- no more steps than actions
-pub steps_within : (commits : Arcs) (i : ℕ) (c : Arc Commit Global) (held : Held) (version start steps more : ℕ) (xs : List Action) → i < length commits → c ≡ get_or commits i c
-    → Reached commits i held version start steps → xs ≡ c.value.actions → more ≤ steps + length xs → more ≤ start + length (actions_in (map arc_value commits))
+pub steps_within : (commits : Arcs) (i : ℕ) (c : Arc (List Action) Global) (held : Held) (version start steps more : ℕ) (xs : List Action) → i < length commits → c ≡ get_or commits i c
+    → Reached commits i held version start steps → xs ≡ c.value → more ≤ steps + length xs → more ≤ start + length (actions_in (map arc_value commits))
 steps_within commits i c held version start steps more xs lt is reached same most =
     omega (arith, most, ap length same, reached.counted, actions_within commits i c lt is)
 
@@ -126,7 +123,3 @@ all_held commits i held version start steps all reached = (
   subst (λ log. Holds held (actions_in log)) (take_all i (map arc_value commits) (subst (λ n. n ≤ i) (sym (length-map commits arc_value)) all)) reached.holds,
   λ some. not_refused (map arc_value commits) (inside commits 0 some) (λ v low. reached.read v (below_all i v (subst (λ n. v < n) (length-map commits arc_value) low) all)),
 )
-
-pub state_is : (log : List Commit) (version : ℕ) (files : List AddFile) (p : Protocol) (m : MetaData) → refusal_of log ≡ None → version ≡ length log - 1 → files ≡ live_files (actions_in log)
-    → last_protocol (actions_in log) ≡ Some p → last_meta (actions_in log) ≡ Some m → state_of log ≡ Ok (record { version = version; files = files; protocol = p; meta = m })
-state_is log version files p m read at live ep em = rw (read, sym at, sym live, ep, em) refl

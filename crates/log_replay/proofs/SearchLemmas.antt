@@ -1,7 +1,7 @@
--- What halving finds among files whose paths rise.
+-- What halving finds among values whose keys rise.
 use Rattle.std.proofs.Common.{◌≡◌, ◌↔◌, ℕ, ◌+◌, ◌<◌, ◌≤◌, List, [], ◌∷◌, true, false, Result, Ok, Err, Contains, map, length, get_or, refl, sym, ap, ◌∙◌, subst, Less, Equal, Greater, arith, true≢false, Ordering}
 use Rattle.std.specs.Prelude.{is_ok}
-use Rattle.std.specs.List.Sorted.{IsSearchInRange, IsBinarySearchResult, IsNonDecreasingBy, IsSortedBy}
+use Rattle.std.specs.List.Sorted.{IsStrictlySortedBy, IsSearchInRange, IsBinarySearchResult, IsNonDecreasingBy, IsSortedBy}
 use Rattle.std.specs.Ordering.{nat_cmp, is_lt, is_eq, ordering_index, ordering_reverse}
 use Rattle.std.specs.Cmp.Lexicographic.{slice_cmp}
 use Rattle.std.specs.Cmp.{tied_itself}
@@ -12,34 +12,32 @@ use Rattle.std.proofs.lemmas.Bool.Decides.{nat_tests}
 use Rattle.std.specs.Prelude.{nat_lt}
 use Rattle.std.proofs.lemmas.List.Sorted.{searchable_from_sorted}
 use Rattle.std.proofs.lemmas.Map.Keys.{Less-from_sorted}
-use Rattle.log_actions.specs.declared.actions.AddFile.{AddFile}
-use Rattle.log_replay.specs.State.{PathsRise}
 
-abbrev paths : List AddFile → List (List ℕ)
-paths files = map (λ f. f.path) files
+-- which side of a key a value stands on
+abbrev side : {V : Type 0} → (V → List ℕ) → List ℕ → V → Ordering
+side key wanted v = slice_cmp nat_cmp (key v) wanted
 
--- which side of a path a file stands on
-abbrev side : List ℕ → AddFile → Ordering
-side path f = slice_cmp nat_cmp f.path path
+abbrev pub KeysRise : {V : Type 0} → (V → List ℕ) → List V → Type 0
+KeysRise key vs = IsStrictlySortedBy (slice_cmp nat_cmp) (map key vs)
 
 later_is_not_less : (x y : List ℕ) → slice_cmp nat_cmp x y ≡ Less → is_lt (slice_cmp nat_cmp y x) ≡ false
 later_is_not_less x y e = ap is_lt (nat_list_cmp_total.antisymm y x ∙ ap ordering_reverse e)
 
-sorted : (files : List AddFile) → PathsRise files → IsSortedBy (λ a b. is_lt (slice_cmp nat_cmp a.path b.path)) files
-sorted files rise k d low high =
-    later_is_not_less (get_or files k d).path (get_or files (k + 1) d).path
-    (subst (λ p. slice_cmp nat_cmp p (get_or files (k + 1) d).path ≡ Less) (get_or-map (λ f. f.path) files k d d.path (omega (arith, high)))
-    (subst (λ p. slice_cmp nat_cmp (get_or (paths files) k d.path) p ≡ Less) (get_or-map (λ f. f.path) files (k + 1) d d.path high)
-    (Less-from_sorted (slice_cmp nat_cmp) (paths files) k (k + 1) d.path rise (omega arith) (subst (λ n. k + 1 < n) (sym (length-map files (λ f. f.path))) high))))
+sorted : {V : Type 0} (key : V → List ℕ) (vs : List V) → KeysRise key vs → IsSortedBy (λ a b. is_lt (slice_cmp nat_cmp (key a) (key b))) vs
+sorted key vs rise k d low high =
+    later_is_not_less (key (get_or vs k d)) (key (get_or vs (k + 1) d))
+    (subst (λ p. slice_cmp nat_cmp p (key (get_or vs (k + 1) d)) ≡ Less) (get_or-map key vs k d (key d) (omega (arith, high)))
+    (subst (λ p. slice_cmp nat_cmp (get_or (map key vs) k (key d)) p ≡ Less) (get_or-map key vs (k + 1) d (key d) high)
+    (Less-from_sorted (slice_cmp nat_cmp) (map key vs) k (k + 1) (key d) rise (omega arith) (subst (λ n. k + 1 < n) (sym (length-map vs key)) high))))
 
-rises : (files : List AddFile) (path : List ℕ) → PathsRise files → IsNonDecreasingBy (λ f. ordering_index (side path f)) files
-rises files path rise = searchable_from_sorted nat_list_cmp_total (λ f. f.path) files path (sorted files rise)
+rises : {V : Type 0} (key : V → List ℕ) (vs : List V) (wanted : List ℕ) → KeysRise key vs → IsNonDecreasingBy (λ v. ordering_index (side key wanted v)) vs
+rises key vs wanted rise = searchable_from_sorted nat_list_cmp_total key vs wanted (sorted key vs rise)
 
--- a file that ties with the path has it
-has_path : (files : List AddFile) (path : List ℕ) (i : ℕ) → i < length files → ((d : AddFile) → side path (get_or files i d) ≡ Equal) → Contains (paths files) path
-has_path [] path i lt ties = absurd (omega (arith, lt))
-has_path (f ∷ fs) path i lt ties =
-    (i, subst (λ n. i < n) (sym (length-map (f ∷ fs) (λ f. f.path))) lt, get_or-map (λ f. f.path) (f ∷ fs) i f path lt ∙ map.slice_cmp-IsAntisymmetric map.nat_cmp-IsAntisymmetric _ path (ties f))
+-- a value that ties with the key has it
+has_key : {V : Type 0} (key : V → List ℕ) (vs : List V) (wanted : List ℕ) (i : ℕ) → i < length vs → ((d : V) → side key wanted (get_or vs i d) ≡ Equal) → Contains (map key vs) wanted
+has_key key [] wanted i lt ties = absurd (omega (arith, lt))
+has_key key (v ∷ vs) wanted i lt ties =
+    (i, subst (λ n. i < n) (sym (length-map (v ∷ vs) key)) lt, get_or-map key (v ∷ vs) i v wanted lt ∙ map.slice_cmp-IsAntisymmetric map.nat_cmp-IsAntisymmetric _ wanted (ties v))
 
 tied : (x y : List ℕ) → x ≡ y → slice_cmp nat_cmp x y ≡ Equal
 tied x y e = subst (λ z. slice_cmp nat_cmp x z ≡ Equal) e (tied_itself nat_list_cmp_total x)
@@ -50,24 +48,37 @@ not_less o e l = true≢false (sym (ap is_eq e) ∙ ap is_eq l)
 not_greater : (o : Ordering) → o ≡ Equal → o ≡ Greater → ⊥
 not_greater o e l = true≢false (sym (ap is_eq e) ∙ ap is_eq l)
 
--- no file has a path at which the files part
-lacks_path : (files : List AddFile) (path : List ℕ) (i : ℕ)
-    → ((k : ℕ) (d : AddFile) → 0 ≤ k → k < i → side path (get_or files k d) ≡ Less)
-    → ((k : ℕ) (d : AddFile) → i ≤ k → k < length files → side path (get_or files k d) ≡ Greater)
-    → Contains (paths files) path → ⊥
-lacks_path [] path i lower upper (k, lt, is) = absurd (omega (arith, lt))
-lacks_path (f ∷ fs) path i lower upper (k, lt, is) =
-    let inside : k < length (f ∷ fs) = subst (λ n. k < n) (length-map (f ∷ fs) (λ f. f.path)) lt in
-    let ties : side path (get_or (f ∷ fs) k f) ≡ Equal = tied _ path (sym (get_or-map (λ f. f.path) (f ∷ fs) k f path inside) ∙ is) in
+-- no value has a key at which the values part
+lacks_key : {V : Type 0} (key : V → List ℕ) (vs : List V) (wanted : List ℕ) (i : ℕ)
+    → ((k : ℕ) (d : V) → 0 ≤ k → k < i → side key wanted (get_or vs k d) ≡ Less)
+    → ((k : ℕ) (d : V) → i ≤ k → k < length vs → side key wanted (get_or vs k d) ≡ Greater)
+    → Contains (map key vs) wanted → ⊥
+lacks_key key [] wanted i lower upper (k, lt, is) = absurd (omega (arith, lt))
+lacks_key key (v ∷ vs) wanted i lower upper (k, lt, is) =
+    let inside : k < length (v ∷ vs) = subst (λ n. k < n) (length-map (v ∷ vs) key) lt in
+    let ties : side key wanted (get_or (v ∷ vs) k v) ≡ Equal = tied _ wanted (sym (get_or-map key (v ∷ vs) k v wanted inside) ∙ is) in
     elim (nat_lt k i) as (λ b. nat_lt k i ≡ b → ⊥) [
-      | true ↦ λ e. not_less _ ties (lower k f (omega arith) (grind (arith, nat_tests, e)))
-      | false ↦ λ e. not_greater _ ties (upper k f (grind (arith, nat_tests, e)) inside)
+      | true ↦ λ e. not_less _ ties (lower k v (omega arith) (grind (arith, nat_tests, e)))
+      | false ↦ λ e. not_greater _ ties (upper k v (grind (arith, nat_tests, e)) inside)
     ] refl
 
--- a search by the path finds whether a file has it
-pub searched : (files : List AddFile) (path : List ℕ) (r : Result ℕ ℕ) → PathsRise files → IsSearchInRange r (length files) → IsBinarySearchResult (λ f. slice_cmp nat_cmp f.path path) files r
-    → is_ok r ≡ true ↔ Contains (map (λ f. f.path) files) path
-searched files path (Ok i) rise within ties = (λ e. has_path files path i within ties, λ has. refl)
-searched files path (Err i) rise within parts =
-    let parted = parts (rises files path rise) in
-    (λ e. absurd (true≢false (sym e)), λ has. absurd (lacks_path files path i parted.0 parted.1 has))
+-- a search by the key finds whether a value has it
+pub searched : {V : Type 0} (key : V → List ℕ) (vs : List V) (wanted : List ℕ) (r : Result ℕ ℕ) → KeysRise key vs → IsSearchInRange r (length vs) → IsBinarySearchResult (λ v. slice_cmp nat_cmp (key v) wanted) vs r
+    → is_ok r ≡ true ↔ Contains (map key vs) wanted
+searched key vs wanted (Ok i) rise within ties = (λ e. has_key key vs wanted i within ties, λ has. refl)
+searched key vs wanted (Err i) rise within parts =
+    let parted = parts (rises key vs wanted rise) in
+    (λ e. absurd (true≢false (sym e)), λ has. absurd (lacks_key key vs wanted i parted.0 parted.1 has))
+
+-- where a search ends, the value has the key
+pub found_at : {V : Type 0} (key : V → List ℕ) (vs : List V) (wanted : List ℕ) (r : Result ℕ ℕ) (i : ℕ) (v : V) → r ≡ Ok i → IsBinarySearchResult (λ v. slice_cmp nat_cmp (key v) wanted) vs r
+    → i < length vs → v ≡ get_or vs i v → Contains vs v × (key v ≡ wanted)
+found_at key vs wanted r i v is ends lt at =
+    let ties : IsBinarySearchResult (λ v. slice_cmp nat_cmp (key v) wanted) vs (Ok i) = subst (IsBinarySearchResult (λ v. slice_cmp nat_cmp (key v) wanted) vs) is ends in
+    ((i, lt, sym at), map.slice_cmp-IsAntisymmetric map.nat_cmp-IsAntisymmetric _ wanted (subst (λ x. slice_cmp nat_cmp (key x) wanted ≡ Equal) (sym at) (ties v)))
+
+-- a search that finds nothing shows that no value has the key
+pub none_has : {V : Type 0} (key : V → List ℕ) (vs : List V) (wanted : List ℕ) (r : Result ℕ ℕ) (i : ℕ) → r ≡ Err i → KeysRise key vs → IsSearchInRange r (length vs)
+    → IsBinarySearchResult (λ v. slice_cmp nat_cmp (key v) wanted) vs r → Contains (map key vs) wanted → ⊥
+none_has key vs wanted r i is rise within ends has =
+    true≢false (sym ((searched key vs wanted r rise within ends).1 has) ∙ ap is_ok is)

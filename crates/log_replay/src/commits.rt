@@ -1,35 +1,20 @@
 // The state after all commits of a log.
-ghost use Rattle.std.specs.Prelude.{◌≡◌, ℕ, ◌+◌, ◌<◌, ◌≤◌, Result, Ok, option_map, MatchResult, OnOk, length, map, None};
+ghost use Rattle.std.specs.Prelude.{◌≡◌, ℕ, ◌+◌, ◌-◌, ◌^◌, ◌++◌, ◌∷◌, [], List, ◌<◌, ◌≤◌, Result, Ok, MatchResult, OnOk, length, map, None};
 ghost use Rattle.std.specs.Arc.{arc_value};
 ghost use Rattle.log_replay.specs.Reconciliation.{actions_in};
 ghost use Rattle.log_replay.specs.Support.{refusal_of};
-ghost use Rattle.log_replay.specs.State.{Answers, state_of};
-ghost use Rattle.log_replay.specs.Applied.{Holds, Refuses, support_of};
+ghost use Rattle.log_replay.specs.State.{Answers, next_state, state_of};
+ghost use Rattle.log_actions.specs.declared.actions.Action.{Action};
+ghost use Rattle.log_replay.specs.Applied.{Holds, Refuses};
 
+use crate::causes::check;
 use crate::held::Held;
 use crate::refusal::ReplayRefusal;
 use crate::snapshot::Snapshot;
-use crate::support::cause_of;
-use log_actions::{Action, Commit};
+use log_actions::Commit;
 use std::alloc::Global;
 use std::sync::Arc;
 use step_count::Steps;
-
-// Whether a version is read.
-fn check(version: u64, held: &Held<'_>, actions: &[Action]) -> Result<(), ReplayRefusal>
-    ensures { result ≡ support_of version (option_map (λ p. p.now) held.now.protocol) (option_map (λ m. m.now) held.now.meta) actions.now }
-{
-    let Some(protocol) = held.protocol else {
-        return Err(ReplayRefusal::NoProtocol);
-    };
-    let Some(meta) = held.meta else {
-        return Err(ReplayRefusal::NoMetaData);
-    };
-    match cause_of(protocol, meta, actions) {
-        None => Ok(()),
-        Some(cause) => Err(ReplayRefusal::Unsupported { version, cause }),
-    }
-}
 
 // What holds after all commits, each version of which is read.
 fn gather<'a, L>(
@@ -45,8 +30,8 @@ fn gather<'a, L>(
     let mut held = Held::new(alloc);
     let mut version = 0;
     for commit in commits {
-        held.apply_all(commit.actions.items(), steps)?;
-        check(version, &held, commit.actions.items())?;
+        held.apply_all(commit.actions(), steps)?;
+        check(version, held.protocol, held.meta, commit.actions())?;
         version += 1;
     }
     Ok(held)
@@ -68,14 +53,47 @@ pub fn replay<L>(
     ensures no_more { steps.new ≤ steps.old + length (actions_in (map arc_value commits.now)) }
 {
     let held = gather(alloc, commits, steps)?;
-    let files = held.files(alloc)?;
-    let Some(protocol) = held.protocol else {
-        return Err(ReplayRefusal::NoProtocol);
-    };
-    let Some(meta) = held.meta else {
-        return Err(ReplayRefusal::NoMetaData);
-    };
-    let version = commits.len() as u64 - 1;
-    let meta = meta.copy(alloc)?;
-    Ok(Snapshot::of(version, files, protocol.copy(), meta))
+    let parts = held.parts(alloc)?;
+    Ok(Snapshot::of(commits.len() as u64 - 1, parts))
+}
+
+// The state one version after a state, by its definition.
+fn next<L>(
+    alloc: Global,
+    base: &Snapshot,
+    commit: &Commit,
+    steps: &mut Steps<L>,
+) -> Result<Snapshot, ReplayRefusal>
+    requires { base.now.version < 2 ^ 63 }
+    ensures state { Answers result (next_state base.now commit.now) }
+    ensures counted { OnOk result (steps.new ≡ steps.old + length commit.now) }
+    ensures no_fewer { steps.old ≤ steps.new }
+    ensures no_more { steps.new ≤ steps.old + length commit.now }
+{
+    let version = base.version() + 1;
+    let mut held = Held::of(alloc, base)?;
+    held.apply_all(commit.actions(), steps)?;
+    check(version, held.protocol, held.meta, commit.actions())?;
+    let parts = held.parts(alloc)?;
+    Ok(Snapshot::of(version, parts))
+}
+
+/// The state of a table one version after `base`, whose commit this is: that of every log whose
+/// state is `base`'s with the commit at its end, or why that log isn't read, which is
+/// `Unsupported` at that version. `steps` goes up by one for each action of the commit where the
+/// answer is `Ok`, and at most so far where it isn't.
+pub fn advance<L>(
+    alloc: Global,
+    base: &Snapshot,
+    commit: &Commit,
+    steps: &mut Steps<L>,
+) -> Result<Snapshot, ReplayRefusal>
+    requires { base.now.version < 2 ^ 63 - 1 }
+    ensures state { (log : List (List Action)) → state_of log ≡ Ok base.now → Answers result (state_of (log ++ commit.now ∷ [])) }
+    ensures next { Answers result (next_state base.now commit.now) }
+    ensures counted { OnOk result (steps.new ≡ steps.old + length commit.now) }
+    ensures no_fewer { steps.old ≤ steps.new }
+    ensures no_more { steps.new ≤ steps.old + length commit.now }
+{
+    next(alloc, base, commit, steps)
 }

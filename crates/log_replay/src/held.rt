@@ -3,23 +3,29 @@ ghost use Rattle.std.specs.Prelude.{◌≡◌, ℕ, ◌+◌, ◌≤◌, List, []
 ghost use Rattle.std.specs.BTreeMap.{IsOrdered, values};
 ghost use Rattle.std.specs.Ordering.{nat_cmp};
 ghost use Rattle.std.specs.Cmp.Lexicographic.{slice_cmp};
+ghost use Rattle.log_actions.specs.declared.actions.Action.{Action};
+ghost use Rattle.log_actions.specs.declared.actions.Action.TheVariants as action;
 
-use log_actions::{Action, AddFile, MetaData, Protocol};
+use crate::refusal::ReplayRefusal;
+use crate::snapshot::{Parts, Snapshot};
+use log_actions::{Action, AddFile, MetaData, Protocol, Txn};
 use std::alloc::{AllocError, Global};
 use std::collections::BTreeMap;
 use step_count::Steps;
 
-// The protocol and the metaData that came last, and the file that each path has now. All are
-// borrowed from the log.
+// The protocol and the metaData that came last, the file that each path has now, and the last txn
+// of each application. All are borrowed from the log, or from a state and a commit.
 #[derive(Drop)]
 pub struct Held<'a> {
     pub protocol: Option<&'a Protocol>,
     pub meta: Option<&'a MetaData>,
     pub live: BTreeMap<&'a str, &'a AddFile>,
+    pub txns: BTreeMap<&'a str, &'a Txn>,
 }
 
 impl<'a> Held<'a> {
-    ghost use Rattle.log_replay.specs.Applied.{Applies, Holds};
+    ghost use Rattle.log_replay.specs.Applied.{Applies, AreParts, Holds};
+    ghost use Rattle.log_replay.specs.State.{checkpoint_of};
 
     pub fn new(alloc: Global) -> Self
         ensures { Holds result [] }
@@ -28,7 +34,61 @@ impl<'a> Held<'a> {
             protocol: None,
             meta: None,
             live: BTreeMap::new(alloc),
+            txns: BTreeMap::new(alloc),
         }
+    }
+
+    fn under(alloc: Global, protocol: &'a Protocol, meta: &'a MetaData) -> Self
+        ensures { Holds result (action.Protocol protocol.now ∷ action.MetaData meta.now ∷ []) }
+    {
+        Held {
+            protocol: Some(protocol),
+            meta: Some(meta),
+            live: BTreeMap::new(alloc),
+            txns: BTreeMap::new(alloc),
+        }
+    }
+
+    // What a state holds.
+    pub fn of(alloc: Global, base: &'a Snapshot) -> Result<Self, AllocError>
+        ensures { IfOk result (λ held. Holds held (checkpoint_of base.now)) }
+    {
+        let mut held = Held::under(alloc, base.protocol(), base.meta());
+        held.put_txns(base.txns())?;
+        held.put_files(base.files())?;
+        Ok(held)
+    }
+
+    fn put_file(&mut self, file: &'a AddFile) -> Result<(), AllocError>
+        ensures { OnOk result (Applies self.old self.new (action.Add file.now ∷ [])) }
+    {
+        self.live.insert(file.path.as_str(), file)?;
+        Ok(())
+    }
+
+    fn put_txn(&mut self, txn: &'a Txn) -> Result<(), AllocError>
+        ensures { OnOk result (Applies self.old self.new (action.Txn txn.now ∷ [])) }
+    {
+        self.txns.insert(txn.app.as_str(), txn)?;
+        Ok(())
+    }
+
+    fn put_files(&mut self, files: &'a [AddFile]) -> Result<(), AllocError>
+        ensures { OnOk result (Applies self.old self.new (map (λ f. action.Add f) files.now)) }
+    {
+        for file in files {
+            self.put_file(file)?;
+        }
+        Ok(())
+    }
+
+    fn put_txns(&mut self, txns: &'a [Txn]) -> Result<(), AllocError>
+        ensures { OnOk result (Applies self.old self.new (map (λ t. action.Txn t) txns.now)) }
+    {
+        for txn in txns {
+            self.put_txn(txn)?;
+        }
+        Ok(())
     }
 
     // One action more.
@@ -38,12 +98,12 @@ impl<'a> Held<'a> {
         match action {
             Action::Protocol(protocol) => self.protocol = Some(protocol),
             Action::MetaData(meta) => self.meta = Some(meta),
-            Action::Add(file) => {
-                self.live.insert(file.path.as_str(), file)?;
-            }
+            Action::Add(file) => self.put_file(file)?,
             Action::Remove(file) => {
                 self.live.remove(file.path.as_str());
             }
+            Action::Txn(txn) => self.put_txn(txn)?,
+            Action::Cdc(_) | Action::CommitInfo(_) => {}
         }
         Ok(())
     }
@@ -67,7 +127,7 @@ impl<'a> Held<'a> {
     }
 
     // The live files, copied, in byte order of path.
-    pub fn files(&self, alloc: Global) -> Result<Vec<AddFile>, AllocError>
+    fn files(&self, alloc: Global) -> Result<Vec<AddFile>, AllocError>
         ensures files { IfOk result (λ files. files.items ≡ map (λ f. f.now) (values self.now.live)) }
         ensures ordered { IsOrdered (λ x y. slice_cmp nat_cmp x.now y.now) self.now.live }
     {
@@ -76,5 +136,39 @@ impl<'a> Held<'a> {
             files.push(file.copy(alloc)?)?;
         }
         Ok(files)
+    }
+
+    // The last txns, copied, in byte order of appId.
+    fn txns(&self, alloc: Global) -> Result<Vec<Txn>, AllocError>
+        ensures txns { IfOk result (λ txns. txns.items ≡ map (λ t. t.now) (values self.now.txns)) }
+        ensures ordered { IsOrdered (λ x y. slice_cmp nat_cmp x.now y.now) self.now.txns }
+    {
+        let mut txns = Vec::new(alloc);
+        for txn in self.txns.values() {
+            txns.push(txn.copy(alloc)?)?;
+        }
+        Ok(txns)
+    }
+
+    // All that is in force, copied.
+    pub fn parts(&self, alloc: Global) -> Result<Parts, ReplayRefusal>
+        ensures { (actions : List Action) → Holds self.now actions → AreParts actions result }
+    {
+        let files = self.files(alloc)?;
+        let txns = self.txns(alloc)?;
+        let Some(protocol) = self.protocol else {
+            return Err(ReplayRefusal::NoProtocol);
+        };
+        let Some(meta) = self.meta else {
+            return Err(ReplayRefusal::NoMetaData);
+        };
+        let protocol = protocol.copy(alloc)?;
+        let meta = meta.copy(alloc)?;
+        Ok(Parts {
+            files,
+            protocol,
+            meta,
+            txns,
+        })
     }
 }

@@ -1,11 +1,12 @@
 // A table at one version.
-ghost use Rattle.std.specs.Prelude.{◌≡◌, ◌↔◌, ◌<◌, IsTrue, Contains, length, map, slice_get, Some};
+ghost use Rattle.std.specs.Prelude.{◌≡◌, ◌↔◌, ◌<◌, IsTrue, Contains, length, map, slice_get, Some, IfSome, IfNone};
 
-use log_actions::{AddFile, MetaData, Protocol};
+use log_actions::{AddFile, MetaData, Protocol, Txn};
 use std::marker::Model;
 
 /// The state of a table at a version: its live files in byte order of path, of which no two have
-/// one path, and the protocol and the metaData that hold (Delta Lake PROTOCOL.md, "Action
+/// one path, the protocol and the metaData that hold, and the last txn of each application in byte
+/// order of appId (Delta Lake PROTOCOL.md, "Action
 /// Reconciliation").
 #[derive(Drop)]
 pub struct Snapshot {
@@ -13,36 +14,44 @@ pub struct Snapshot {
     files: Vec<AddFile>,
     protocol: Protocol,
     meta: MetaData,
+    txns: Vec<Txn>,
+}
+
+// All of a state but its version.
+#[derive(Drop)]
+pub struct Parts {
+    pub files: Vec<AddFile>,
+    pub protocol: Protocol,
+    pub meta: MetaData,
+    pub txns: Vec<Txn>,
 }
 
 impl Model for Snapshot {
-    ghost use Rattle.log_replay.specs.State.{State, PathsRise};
+    ghost use Rattle.log_replay.specs.State.{AppsRise, PathsRise, State};
 
     ghost Value = { State };
 
-    ghost view = { λ s. record { version = s.version; files = s.files.items; protocol = s.protocol; meta = s.meta } };
+    ghost view = { λ s. record { version = s.version; files = s.files.items; protocol = s.protocol; meta = s.meta; txns = s.txns.items } };
 
-    ghost invariant = { λ s. PathsRise s.files.items };
+    ghost invariant = { λ s. PathsRise s.files.items × AppsRise s.txns.items };
 }
 
 impl Snapshot {
-    ghost use Rattle.log_replay.specs.State.{PathsRise};
+    ghost use Rattle.log_replay.specs.State.{AppsRise, PathsRise};
+    ghost use Rattle.log_replay.specs.Applied.{state_in};
 
-    // A state of these parts.
-    pub(crate) fn of(
-        version: u64,
-        files: Vec<AddFile>,
-        protocol: Protocol,
-        meta: MetaData,
-    ) -> Snapshot
-        requires { PathsRise files.items }
-        ensures { result ≡ record { version = version; files = files.items; protocol = protocol; meta = meta } }
+    // The state of these parts at a version.
+    pub(crate) fn of(version: u64, parts: Parts) -> Snapshot
+        requires files { PathsRise parts.files.items }
+        requires txns { AppsRise parts.txns.items }
+        ensures { result ≡ state_in version parts }
     {
         Snapshot {
             version,
-            files,
-            protocol,
-            meta,
+            files: parts.files,
+            protocol: parts.protocol,
+            meta: parts.meta,
+            txns: parts.txns,
         }
     }
 
@@ -73,6 +82,32 @@ impl Snapshot {
         ensures { slice_get self.now.files place ≡ Some result.now }
     {
         &self.files[place as usize]
+    }
+
+    /// The live files in byte order of path.
+    pub fn files(&self) -> &[AddFile]
+        ensures { result.now ≡ self.now.files }
+    {
+        &self.files
+    }
+
+    /// The last txn of each application, in byte order of appId (Delta Lake PROTOCOL.md,
+    /// "Transaction Identifiers").
+    pub fn txns(&self) -> &[Txn]
+        ensures { result.now ≡ self.now.txns }
+    {
+        &self.txns
+    }
+
+    /// The last txn of an application, none exactly where it has none. It is found by halving.
+    pub fn txn(&self, app: &str) -> Option<&Txn>
+        ensures found { IfSome result (λ t. Contains self.now.txns t.now × (t.now.app ≡ app.now)) }
+        ensures none { IfNone result (¬ (Contains (map (λ t. t.app) self.now.txns) app.now)) }
+    {
+        match self.txns.binary_search_by(|txn| txn.app.as_str().cmp(app)) {
+            Ok(place) => Some(&self.txns[place]),
+            Err(_) => None,
+        }
     }
 
     /// The protocol that holds.

@@ -67,7 +67,7 @@ got_whole alone mid new name bytes out from n e z front piece =
     got_whole_at alone mid new name bytes out front (subst (λ k. Gets mid new alone name (length bytes) (got.Bytes k) out) z (subst (λ f. Gets mid new alone name f (got.Bytes n) out) e piece))
 
 over_at : (bytes : List ℕ) (o : Option (List ℕ)) (limit : ℕ) → limit < length bytes → IsFront bytes o → IsOver limit o
-over_at bytes None limit over front = tt
+over_at bytes None limit over front = let none : length bytes ≡ 0 = ap length front in absurd (omega (arith, none, over))
 over_at bytes (Some all) limit over front =
     let size : length bytes ≡ min (length bytes) (length all) = ap length (sym front) ∙ length-take (length bytes) all in
     omega arith
@@ -93,9 +93,9 @@ pub got_more : (alone : Bool) (mid new : Option Objects) (name bytes out items :
 got_more alone mid new name bytes out items from n e is front piece =
     subst (λ b. IfSome new (λ os. IsFront b (finmap.get os name))) (sym is) (got_more_at alone mid new name bytes out n front (subst (λ f. Gets mid new alone name f (got.Bytes n) out) e piece))
 
-pub got_absent : (alone : Bool) (mid new : Option Objects) (name : List ℕ) (from limit : ℕ) (out : List ℕ) → Gets mid new alone name from got.Absent out → IfSome new (λ os. IsOver limit (finmap.get os name))
-got_absent alone mid None name from limit out piece = tt
-got_absent alone mid (Some os) name from limit out piece = subst (IsOver limit) (sym piece.1) tt
+pub got_absent : (alone : Bool) (mid new : Option Objects) (name : List ℕ) (from : ℕ) (out : List ℕ) → Gets mid new alone name from got.Absent out → IfSome new (λ os. finmap.get os name ≡ None)
+got_absent alone mid None name from out piece = tt
+got_absent alone mid (Some os) name from out piece = piece.1
 
 -- one piece more makes the bytes longer
 pub longer : (items bytes : List ℕ) (n : ℕ) (out : List ℕ) → items ≡ bytes ++ take n out → 0 < n → n ≤ length out → length bytes < length items

@@ -1,6 +1,5 @@
 pub mod Growing
 pub mod Fetching
-pub mod NameLemmas
-pub mod Commits
+pub mod Keeping
+pub mod VersionLemmas
 pub mod Loading
-pub mod Versions

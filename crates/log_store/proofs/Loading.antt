@@ -1,82 +1,113 @@
--- Steps of loading a log.
-use Rattle.std.proofs.Common.{◌≡◌, ℕ, ◌<◌, List, [], ◌∷◌, ◌++◌, length, Option, Some, None, refl, sym, ap, ◌∙◌, Bool, true, false, cond, ◌||◌, codes, arith, bytes_eq, append_assoc, true≢false, Err}
-use Rattle.std.specs.Prelude.{IfSome, ◌^◌, filter, is_some}
-use Rattle.std.specs.List.{list_any}
-use Rattle.std.specs.FinMap as finmap
+-- The log that was loaded of the versions in front, and what stands after them.
+use Rattle.std.proofs.Common.{◌≡◌, ℕ, zero, suc, ◌+◌, ◌<◌, ◌≤◌, List, length, true, false, Option, Some, None, refl, sym, ap, ◌∙◌, subst, arith, nat_lt}
+use Rattle.std.specs.Prelude.{IfSome, ◌^◌, filter_map, slice_get}
+use Rattle.std.specs.List.{range_with_len, cons_option}
+use Rattle.std.specs.Option.{option_map_or, option_or}
+use Rattle.std.proofs.lemmas.Bool.Decides.{nat_tests}
 use Rattle.edge_core.specs.Objects.{Objects, Grows, Between, listing}
-use Rattle.edge_core.proofs.Listings.{listing_has}
-use Rattle.log_actions.specs.declared.actions.Commit.{Commit}
-use Rattle.log_store.specs.Log.{text_at, commits_of, or_not_read, log_of, log_in}
-use Rattle.log_store.specs.Names.{folder, segment_of, is_commit_segment, below, are_first_versions}
-use Rattle.log_store.specs.Reading.{AreStored}
-use Rattle.log_store.specs.declared.refusal.LogRefusal.TheVariants as refused
-use Rattle.edge_core.proofs.Growth.{Grows-itself}
-use Rattle.log_store.proofs.NameLemmas.{segment_no_slash}
-use Rattle.log_store.proofs.Versions.{first_versions_have}
+use Rattle.log_commit.specs.Names.{folder, version_of}
+use Rattle.log_replay.proofs.NextLemmas.{none_each}
+use Rattle.log_replay.proofs.RefusalLemmas.{shift}
+use Rattle.log_store.specs.Log.{block_below, cause_at, commits_below, end_of, log_below, log_in, missing, printed_bytes, text_at, versions_in}
+use Rattle.log_store.specs.Reading.{AreStored, gap_at, leading_from}
+use Rattle.log_store.specs.declared.loaded.Block.{Block}
+use Rattle.log_store.specs.declared.loaded.BlockCause.{BlockCause}
+use Rattle.log_store.specs.declared.loaded.Loaded.{Loaded}
+use Rattle.log_store.proofs.Keeping.{block_of, blocked_at}
+use Rattle.log_store.proofs.VersionLemmas.{all_leading, gap_there, leading_most, leading_stored}
 
-or_true : (a b : Bool) → b ≡ true → (a || b) ≡ true
-or_true true b e = refl
-or_true false b e = e
+none_some : {X : Type 0} {x : X} → None ≡ Some x → ⊥
+none_some e = cc
 
-or_more : (a b c : Bool) → (b ≡ true → c ≡ true) → (a || b) ≡ true → (a || c) ≡ true
-or_more true b c f e = refl
-or_more false b c f e = f e
+-- what stands first among fewer stands first among more
+first_stays : {X : Type 0} (f : ℕ → Option X) (a n m : ℕ) (x : X) → n ≤ m → slice_get (filter_map f (range_with_len a n)) 0 ≡ Some x → slice_get (filter_map f (range_with_len a m)) 0 ≡ Some x
+first_stays f a zero m x le is = absurd (none_some is)
+first_stays f a (suc n) zero x le is = absurd (omega (arith, le))
+first_stays f a (suc n) (suc m) x le is =
+    elim (f a) as (λ o. slice_get (cons_option o (filter_map f (range_with_len (a + 1) n))) 0 ≡ Some x → slice_get (cons_option o (filter_map f (range_with_len (a + 1) m))) 0 ≡ Some x) [
+      | None ↦ λ is. first_stays f (a + 1) n m x (omega (arith, le)) is
+      | Some y ↦ λ is. is
+    ] is
 
-any_filter_at : (p test : List ℕ → Bool) (b : Bool) (x : List ℕ) (xs : List (List ℕ)) → (list_any test (filter p xs) ≡ true → list_any test xs ≡ true) → list_any test (cond b (x ∷ filter p xs) (filter p xs)) ≡ true → (test x || list_any test xs) ≡ true
-any_filter_at p test true x xs ih any = or_more (test x) _ _ ih any
-any_filter_at p test false x xs ih any = or_true _ _ (ih any)
+no_cause : (v : ℕ) (o : Option BlockCause) → block_of v o ≡ None → o ≡ None
+no_cause v None is = refl
+no_cause v (Some c) is = absurd (none_some (sym is))
 
--- what is in a filtered list is in the list
-any_filter : (p test : List ℕ → Bool) (xs : List (List ℕ)) → list_any test (filter p xs) ≡ true → list_any test xs ≡ true
-any_filter p test [] any = any
-any_filter p test (x ∷ xs) any = any_filter_at p test (p x) x xs (any_filter p test xs) any
+no_causes : (location : List ℕ) (os : Objects) (n : ℕ) → block_below location os n ≡ None → (v : ℕ) → v < n → cause_at location os v ≡ None
+no_causes location os n is v low =
+    no_cause v (cause_at location os v) (shift (λ v. block_of v (cause_at location os v)) (0 + v) v None (omega arith) (none_each (λ v. block_of v (cause_at location os v)) 0 n is v low))
 
-there : (o : Option (List ℕ)) → is_some o ≡ true → (bytes : List ℕ) × (o ≡ Some bytes)
-there None e = absurd (true≢false (sym e))
-there (Some bytes) e = (bytes, refl)
+log_of : List ℕ → Objects → ℕ → Option Block → Loaded
+log_of location os end block =
+    let commits = commits_below location os (option_map_or (λ b. b.version) block end) in
+    record { commits = commits; bytes = printed_bytes commits; block = block }
 
-stored_at : (location : List ℕ) (os : Objects) (names : List (List ℕ)) (n version : ℕ) → n < 2 ^ 64 → names ≡ listing (folder location) os → n ≡ length (filter is_commit_segment names) → are_first_versions (filter is_commit_segment names) ≡ true
-    → version < n → (bytes : List ℕ) × (text_at location os version ≡ Some bytes)
-stored_at location os names n version small listed count all lt =
-    let s = segment_of version in
-    let named : list_any (bytes_eq s) names ≡ true = any_filter is_commit_segment (bytes_eq s) names (first_versions_have version (filter is_commit_segment names) all (omega arith)) in
-    let held : finmap.contains_key os (folder location ++ 47 ∷ s) ≡ true = sym (listing_has (folder location) s os (segment_no_slash version (omega arith))) ∙ ap (list_any (bytes_eq s)) (sym listed) ∙ named in
-    there (text_at location os version) (ap (finmap.contains_key os) (append_assoc (folder location) (codes "/") s) ∙ held)
+with_block : Loaded → Option Block → Loaded
+with_block l block = record { commits = l.commits; bytes = l.bytes; block = block }
 
--- the commits of the versions are stored where the folder names them
-pub are_stored : (mid : Option Objects) (location : List ℕ) (names : List (List ℕ)) (n : ℕ) → n < 2 ^ 64 → IfSome mid (λ os. names ≡ listing (folder location) os) → n ≡ length (filter is_commit_segment names)
-    → are_first_versions (filter is_commit_segment names) ≡ true → IfSome mid (AreStored location n)
-are_stored None location names n small listed count all = tt
-are_stored (Some os) location names n small listed count all = λ version lt. stored_at location os names n version small listed count all lt
+gap_true : (vs : List ℕ) (n : ℕ) → n < length vs → gap_at vs n ≡ Some (record { version = n; cause = missing vs n })
+gap_true vs n lt = let e : nat_lt n (length vs) ≡ true = grind (arith, nat_tests, lt) in rw e refl
 
-log_none : (location : List ℕ) (os : Objects) (segments : List (List ℕ)) → length segments ≡ 0 → log_of location os segments ≡ Err refused.NoCommits
-log_none location os [] e = refl
-log_none location os (s ∷ ss) e = absurd (omega arith)
+gap_false : (vs : List ℕ) (n : ℕ) → length vs ≤ n → gap_at vs n ≡ None
+gap_false vs n le = let e : nat_lt n (length vs) ≡ false = grind (arith, nat_tests, le) in rw e refl
 
-log_some : (location : List ℕ) (os : Objects) (segments : List (List ℕ)) (n : ℕ) (b : Bool) → n ≡ length segments → 0 < n → are_first_versions segments ≡ b
-    → log_of location os segments ≡ cond b (or_not_read (commits_of location os (below n))) (Err refused.NotRead)
-log_some location os [] n b count some all = absurd (omega arith)
-log_some location os (s ∷ ss) n b count some all =
-    ap (λ t. cond t (or_not_read (commits_of location os (below (length (s ∷ ss))))) (Err refused.NotRead)) all ∙ ap (λ k. cond b (or_not_read (commits_of location os (below k))) (Err refused.NotRead)) (sym count)
+-- a version that is missing
+missing_at : (location : List ℕ) (os : Objects) (vs : List ℕ) (n : ℕ) → vs ≡ versions_in location os → text_at location os n ≡ None → cause_at location os n ≡ Some (missing vs n)
+missing_at location os vs n is none = rw (none, is) refl
 
-log_listed : (location : List ℕ) (os : Objects) (names : List (List ℕ)) → names ≡ listing (folder location) os → log_in location os ≡ log_of location os (filter is_commit_segment names)
-log_listed location os names listed = ap (λ ns. log_of location os (filter is_commit_segment ns)) (sym listed)
+least_end : (location : List ℕ) (os : Objects) (vs : List ℕ) → vs ≡ versions_in location os → length vs < 2 ^ 63 → leading_from 0 vs ≤ end_of vs
+least_end location os vs is small =
+    let most = leading_most 0 vs in
+    elim (nat_lt (leading_from 0 vs) (length vs)) as (λ b. nat_lt (leading_from 0 vs) (length vs) ≡ b → leading_from 0 vs ≤ end_of vs) [
+      | true ↦ λ e. let g = (gap_there location os vs is small (grind (arith, nat_tests, e))).1 in omega (arith, g)
+      | false ↦ λ e. let all : leading_from 0 vs ≡ length vs = grind (arith, nat_tests, e, most) in let w = all_leading vs all in omega (arith, w)
+    ] refl
 
-pub none_named : (old mid : Option Objects) (location : List ℕ) (names : List (List ℕ)) → Grows old mid → IfSome mid (λ os. names ≡ listing (folder location) os) → length (filter is_commit_segment names) ≡ 0
-    → Between old mid (λ os. log_in location os ≡ Err refused.NoCommits)
-none_named old None location names grows listed e = (None, grows, Grows-itself None, tt)
-none_named old (Some os) location names grows listed e = (Some os, grows, Grows-itself (Some os), log_listed location os names listed ∙ log_none location os (filter is_commit_segment names) e)
+-- no version in front has a cause
+unblocked : (location : List ℕ) (os : Objects) (vs : List ℕ) → vs ≡ versions_in location os → length vs < 2 ^ 63 → block_below location os (leading_from 0 vs) ≡ None
+    → with_block (log_of location os (leading_from 0 vs) None) (gap_at vs (leading_from 0 vs)) ≡ log_of location os (end_of vs) (block_below location os (end_of vs))
+unfolding log_of with_block
+unblocked location os vs is small none =
+    let most = leading_most 0 vs in
+    elim (nat_lt (leading_from 0 vs) (length vs)) as (λ b. nat_lt (leading_from 0 vs) (length vs) ≡ b → with_block (log_of location os (leading_from 0 vs) None) (gap_at vs (leading_from 0 vs)) ≡ log_of location os (end_of vs) (block_below location os (end_of vs))) [
+      | true ↦ λ e.
+          let lt : leading_from 0 vs < length vs = grind (arith, nat_tests, e) in
+          let g = gap_there location os vs is small lt in
+          let b = blocked_at location os (leading_from 0 vs) (end_of vs) (missing vs (leading_from 0 vs)) g.1 (no_causes location os (leading_from 0 vs) none) (missing_at location os vs (leading_from 0 vs) is g.0) in
+          ap (with_block (log_of location os (leading_from 0 vs) None)) (gap_true vs (leading_from 0 vs) lt) ∙ ap (log_of location os (end_of vs)) (sym b)
+      | false ↦ λ e.
+          let all : leading_from 0 vs ≡ length vs = grind (arith, nat_tests, e, most) in
+          let end = all_leading vs all in
+          ap (with_block (log_of location os (leading_from 0 vs) None)) (gap_false vs (leading_from 0 vs) (omega (arith, all)))
+          ∙ ap (log_of location os (leading_from 0 vs)) (sym none) ∙ ap (λ k. log_of location os k (block_below location os k)) (sym end)
+    ] refl
 
-pub has_gap : (old mid : Option Objects) (location : List ℕ) (names : List (List ℕ)) (n : ℕ) → Grows old mid → IfSome mid (λ os. names ≡ listing (folder location) os) → n ≡ length (filter is_commit_segment names) → 0 < n
-    → are_first_versions (filter is_commit_segment names) ≡ false → Between old mid (λ os. log_in location os ≡ Err refused.NotRead)
-has_gap old None location names n grows listed count some gap = (None, grows, Grows-itself None, tt)
-has_gap old (Some os) location names n grows listed count some gap =
-    (Some os, grows, Grows-itself (Some os), log_listed location os names listed ∙ log_some location os (filter is_commit_segment names) n false count some gap)
+log_case : (location : List ℕ) (os : Objects) (vs : List ℕ) (block : Option Block) → vs ≡ versions_in location os → length vs < 2 ^ 63 → block_below location os (leading_from 0 vs) ≡ block
+    → with_block (log_of location os (leading_from 0 vs) block) (option_or block (gap_at vs (leading_from 0 vs))) ≡ log_of location os (end_of vs) (block_below location os (end_of vs))
+unfolding log_of with_block
+log_case location os vs None is small at = unblocked location os vs is small at
+log_case location os vs (Some b) is small at =
+    ap (log_of location os (end_of vs)) (sym (first_stays (λ v. block_of v (cause_at location os v)) 0 (leading_from 0 vs) (end_of vs) b (least_end location os vs is small) at))
 
--- what was read of the versions that were listed
-pub are_read : (old mid new : Option Objects) (location : List ℕ) (names : List (List ℕ)) (n : ℕ) (said : Option (List Commit)) → Grows old mid → Grows mid new → IfSome mid (λ os. names ≡ listing (folder location) os)
-    → n ≡ length (filter is_commit_segment names) → 0 < n → are_first_versions (filter is_commit_segment names) ≡ true → IfSome mid (λ os. commits_of location os (below n) ≡ said)
-    → Between old new (λ os. log_in location os ≡ or_not_read said)
-are_read old None new location names n said grows more listed count some all is = (None, grows, more, tt)
-are_read old (Some os) new location names n said grows more listed count some all is =
-    (Some os, grows, more, log_listed location os names listed ∙ log_some location os (filter is_commit_segment names) n true count some all ∙ ap or_not_read is)
+whole : (location : List ℕ) (os : Objects) (vs : List ℕ) (n : ℕ) (l r : Loaded) → vs ≡ versions_in location os → length vs < 2 ^ 63 → n ≡ leading_from 0 vs → l ≡ log_below location os n
+    → r ≡ record { commits = l.commits; bytes = l.bytes; block = option_or l.block (gap_at vs n) } → r ≡ log_in location os
+unfolding log_of with_block
+whole location os vs n l r is small at below made =
+    made ∙ ap (λ m. record { commits = m.commits; bytes = m.bytes; block = option_or m.block (gap_at vs n) }) below
+    ∙ ap (λ k. record { commits = (log_below location os k).commits; bytes = (log_below location os k).bytes; block = option_or (block_below location os k) (gap_at vs k) }) at
+    ∙ log_case location os vs (block_below location os (leading_from 0 vs)) is small refl
+    ∙ ap (λ ws. log_of location os (end_of ws) (block_below location os (end_of ws))) is
+
+-- the log that was loaded is that of the moment of the listing
+pub loaded_log : (old mid new : Option Objects) (location : List ℕ) (names : List (List ℕ)) (vs : List ℕ) (n : ℕ) (l r : Loaded) → Grows old mid → Grows mid new → IfSome mid (λ os. names ≡ listing (folder location) os)
+    → vs ≡ filter_map version_of names → length vs < 2 ^ 63 → n ≡ leading_from 0 vs → IfSome mid (λ os. l ≡ log_below location os n)
+    → r ≡ record { commits = l.commits; bytes = l.bytes; block = option_or l.block (gap_at vs n) } → Between old new (λ os. r ≡ log_in location os)
+loaded_log old None new location names vs n l r grows more listed is small at below made = (None, grows, more, tt)
+loaded_log old (Some os) new location names vs n l r grows more listed is small at below made =
+    (Some os, grows, more, whole location os vs n l r (is ∙ ap (filter_map version_of) listed) small at below made)
+
+-- the versions in front are stored
+pub are_stored : (mid : Option Objects) (location : List ℕ) (names : List (List ℕ)) (vs : List ℕ) (n : ℕ) → IfSome mid (λ os. names ≡ listing (folder location) os) → vs ≡ filter_map version_of names → length vs < 2 ^ 63
+    → n ≡ leading_from 0 vs → IfSome mid (AreStored location n)
+are_stored None location names vs n listed is small at = tt
+are_stored (Some os) location names vs n listed is small at = subst (λ k. AreStored location k os) (sym at) (leading_stored location os vs (is ∙ ap (filter_map version_of) listed) small)

@@ -1,4 +1,3 @@
 pub mod Log
-pub mod Names
 pub mod Reading
 pub mod Refusals

@@ -1,19 +1,20 @@
 -- What the steps of a load give, of a store that others may add to.
-use Rattle.std.specs.Prelude.{◌≡◌, ◌⊎◌, ℕ, ◌<◌, List, length, map, Option, Some, None, IfSome, option_and_then, Result, Ok, Err, ⊤, Vec, Bool, true}
+use Rattle.std.specs.Prelude.{◌≡◌, ℕ, ◌+◌, ◌<◌, ◌≤◌, ◌^◌, ◌==◌, List, [], ◌∷◌, ◌++◌, length, Option, Some, None, IfSome, option_map, Result, Ok, Err, ⊤, Bool, true, nat_lt, if◌then◌else◌}
 use Rattle.std.specs.Bool.{OnTrue}
-use Rattle.std.specs.Option.{option_map_or}
-use Rattle.std.specs.Arc.{arc_value}
-use Rattle.std.specs.declared.alloc.Global.{Global}
-use Rattle.std.specs.declared.sync.Arc.{Arc}
 use Rattle.edge_core.specs.Objects.{Objects, Grows, listing}
-use Rattle.log_actions.specs.declared.actions.Commit.{Commit}
-use Rattle.log_commit.specs.PlainCommit.{plain_commit}
-use Rattle.log_store.specs.Log.{text_at}
-use Rattle.log_store.specs.declared.reading.StoredCommit.{StoredCommit}
-use Rattle.log_store.specs.declared.refusal.LogRefusal.{LogRefusal}
+use Rattle.log_actions.specs.declared.actions.Action.{Action}
+use Rattle.log_commit.specs.Texts.{commit_in}
+use Rattle.log_replay.specs.Support.{IsSupported, Standing, standing_of}
+use Rattle.log_store.specs.Log.{cause_of, missing, printed_bytes, text_at}
+use Rattle.log_store.specs.declared.loaded.Block.{Block}
+use Rattle.log_store.specs.declared.loaded.BlockCause.{BlockCause}
+use Rattle.log_store.specs.declared.loaded.BlockCause.TheVariants as cause
+use Rattle.log_store.specs.declared.loaded.Loaded.{Loaded}
+use Rattle.log_store.specs.declared.reading.Fetched.{Fetched}
+use Rattle.log_store.specs.declared.reading.Fetched.TheVariants as fetched
 use Rattle.log_store.specs.declared.refusal.LoadRefusal.{LoadRefusal}
-use Rattle.log_store.specs.declared.refusal.LoadRefusal.TheVariants as load
-use Rattle.log_store.specs.declared.refusal.ReadFault.{ReadFault}
+use Rattle.log_store.specs.declared.refusal.Stop.{Stop}
+use Rattle.log_store.specs.declared.refusal.Stop.TheVariants as stop
 
 -- Calls that store nothing, one after the other: others may have added, but not where the store was alone, and then it is still.
 pub record Looked (old new : Option Objects) (was is : Bool) : Type 0 where
@@ -21,41 +22,75 @@ pub record Looked (old new : Option Objects) (was is : Bool) : Type 0 where
   pub same : OnTrue was (new ≡ old)
   pub stays : OnTrue was (is ≡ true)
 
--- an object that is absent, or longer than the limit
+-- an object that is longer than the limit
 abbrev pub IsOver : ℕ → Option (List ℕ) → Type 0
-IsOver limit None = ⊤
+IsOver limit None = ⊥
 IsOver limit (Some all) = limit < length all
 
--- a whole object, none where it is absent or longer than the limit
-abbrev pub IsFetched : ℕ → Option (List ℕ) → Result (Option (Vec ℕ Global)) ReadFault → Type 0
-IsFetched limit found (Ok (Some v)) = found ≡ Some v.items
-IsFetched limit found (Ok None) = IsOver limit found
-IsFetched limit found (Err fault) = ⊤
+-- a whole object of at most so many bytes, or why there is none
+abbrev pub IsFetched : ℕ → Option (List ℕ) → Result Fetched LoadRefusal → Type 0
+IsFetched limit found (Ok (fetched.Bytes v)) = (found ≡ Some v.items) × (length v.items ≤ limit)
+IsFetched limit found (Ok fetched.Absent) = found ≡ None
+IsFetched limit found (Ok fetched.TooLong) = IsOver limit found
+IsFetched limit found (Err refusal) = ⊤
 
--- the commit that a text is, none where it is longer than the limit or isn't one
-abbrev pub IsCut : ℕ → Option (List ℕ) → Result (Option StoredCommit) ReadFault → Type 0
-IsCut limit found (Ok (Some s)) = (option_and_then plain_commit found ≡ Some s.commit) × (option_map_or length found 0 ≡ s.size)
-IsCut limit found (Ok None) = (limit < option_map_or length found 0) ⊎ (option_and_then plain_commit found ≡ None)
-IsCut limit found (Err fault) = ⊤
+-- why the commit of bytes that may be absent isn't kept
+abbrev pub cause_found : List (List Action) → Option (List ℕ) → Option BlockCause
+cause_found before None = Some cause.Gap
+cause_found before (Some bytes) = cause_of before bytes
+
+-- the commit of a version's bytes, or why it isn't kept, whatever stands before it
+abbrev pub IsCommitAt : Option (List ℕ) → Result (List Action) Stop → Type 0
+IsCommitAt found (Ok own) = option_map commit_in found ≡ Some (Ok own)
+IsCommitAt found (Err (stop.Blocked c)) = (before : List (List Action)) → cause_found before found ≡ Some c
+IsCommitAt found (Err (stop.Failed refusal)) = ⊤
+
+-- the answer of a step that keeps a version, whose cause is this
+abbrev pub Stops : Option BlockCause → Result (Unit {0}) Stop → Type 0
+Stops wanted (Ok x) = wanted ≡ None
+Stops wanted (Err (stop.Blocked c)) = wanted ≡ Some c
+Stops wanted (Err (stop.Failed refusal)) = ⊤
+
+-- a version's bytes are those of a commit, which is kept after those before it
+pub record Adds (before next : List (List Action)) (found : Option (List ℕ)) (own : List Action) : Type 0 where
+  pub read : option_map commit_in found ≡ Some (Ok own)
+  pub kept : cause_found before found ≡ None
+  pub after : next ≡ before ++ own ∷ []
+
+-- a version's bytes are kept after those before it, or why they aren't
+abbrev pub Keeps : List (List Action) → List (List Action) → Option (List ℕ) → Result (Unit {0}) Stop → Type 0
+Keeps before after found (Ok x) = (own : List Action) × Adds before after found own
+Keeps before after found (Err (stop.Blocked c)) = (after ≡ before) × (cause_found before found ≡ Some c)
+Keeps before after found (Err (stop.Failed refusal)) = ⊤
+
+-- commits that were kept, the sum of their printed bytes, and what the support of the next one needs to know
+pub record IsKept (commits : List (List Action)) (bytes : ℕ) (standing : Standing) : Type 0 where
+  pub supported : IsSupported commits
+  pub stands : standing ≡ standing_of commits
+  pub counted : bytes ≡ printed_bytes commits
+  pub fits : bytes ≤ 2 ^ 26
+
+-- What holds of each log that was loaded, also of a store that doesn't tell: each version is read, and a block stands at the version after them.
+pub record IsLoaded (l : Loaded) : Type 0 where
+  pub supported : IsSupported l.commits
+  pub counted : l.bytes ≡ printed_bytes l.commits
+  pub fits : l.bytes ≤ 2 ^ 26
+  pub next : IfSome l.block (λ b. b.version ≡ length l.commits)
 
 -- the commits of the versions below n are stored
 abbrev pub AreStored : List ℕ → ℕ → Objects → Type 0
 AreStored location n objects = (version : ℕ) → version < n → (bytes : List ℕ) × (text_at location objects version ≡ Some bytes)
 
--- the answer of the reading
-abbrev pub IsRead : Option (List Commit) → Result (Option (Vec (Arc Commit Global) Global)) ReadFault → Type 0
-IsRead said (Ok None) = said ≡ None
-IsRead said (Ok (Some v)) = said ≡ Some (map arc_value v.items)
-IsRead said (Err fault) = ⊤
-
--- the answer of a load is what is said; a fault of the store and want of memory say nothing
-abbrev pub IsLoad : Result (List Commit) LogRefusal → Result (Vec (Arc Commit Global) Global) LoadRefusal → Type 0
-IsLoad said (Ok v) = said ≡ Ok (map arc_value v.items)
-IsLoad said (Err (load.Refused refusal)) = said ≡ Err refusal
-IsLoad said (Err load.StoreFault) = ⊤
-IsLoad said (Err load.NoMemory) = ⊤
-
 -- what a listing of a folder gives
-abbrev pub IsListed : Option Objects → List ℕ → Result (List (List ℕ)) ReadFault → Type 0
+abbrev pub IsListed : Option Objects → List ℕ → Result (List (List ℕ)) LoadRefusal → Type 0
 IsListed new dir (Ok names) = IfSome new (λ os. names ≡ listing dir os)
-IsListed new dir (Err fault) = ⊤
+IsListed new dir (Err refusal) = ⊤
+
+-- how many numbers in front are those from one on, in order
+abbrev pub leading_from : ℕ → List ℕ → ℕ
+leading_from first [] = 0
+leading_from first (v ∷ vs) = if v == first then leading_from (first + 1) vs + 1 else 0
+
+-- the block after so many versions in front, where later ones are named
+abbrev pub gap_at : List ℕ → ℕ → Option Block
+gap_at versions count = if nat_lt count (length versions) then Some (record { version = count; cause = missing versions count }) else None

@@ -1,30 +1,31 @@
 // Reads the commits of versions from a store.
-ghost use Rattle.std.specs.Prelude.{◌≡◌, ◌<◌, ◌≤◌, ◌^◌, length, IfOk, IfSome, vec_len};
+ghost use Rattle.std.specs.Prelude.{◌≡◌, ◌<◌, ◌≤◌, ◌+◌, ◌^◌, length, IfOk, IfNone, IfSome, OnErr, OnOk, vec_len};
 ghost use Rattle.edge_core.specs.Faults.{Cause};
-ghost use Rattle.log_store.specs.Log.{commits_of, text_at};
-ghost use Rattle.log_store.specs.Names.{below};
-ghost use Rattle.log_store.specs.Reading.{AreStored, IsCut, IsFetched, IsRead, Looked};
-ghost use Rattle.log_store.specs.Refusals.{failed_step};
+ghost use Rattle.log_commit.specs.Names.{commit_name};
+ghost use Rattle.log_store.specs.Log.{log_below, text_at};
+ghost use Rattle.log_store.specs.Reading.{AreStored, IsCommitAt, IsFetched, IsLoaded, Keeps, Looked};
+ghost use Rattle.log_store.specs.Refusals.{failed_load, failed_step};
 ghost use Rattle.std.specs.FinMap as finmap;
 
-use crate::names::version_name;
-use crate::refusal::ReadFault;
+use crate::kept::Kept;
+use crate::loaded::{Block, BlockCause, Loaded};
+use crate::refusal::{LoadRefusal, Stop};
 use edge_core::{Got, Name, Store};
 use log_actions::Commit;
-use log_commit::plain_commit_of;
+use log_commit::{CommitFault, commit_of, name_of};
 use std::alloc::{AllocError, Global};
-use std::sync::Arc;
 
-// A commit, and how many bytes of it are stored.
+// What a store has under a name.
 #[derive(Drop)]
-pub struct StoredCommit {
-    pub commit: Commit,
-    pub size: usize,
+pub enum Fetched {
+    Bytes(Vec<u8>),
+    Absent,
+    TooLong,
 }
 
 const PIECE: usize = 65_536;
 
-const MOST_BYTES: usize = 8 << 20;
+const MOST_TEXT: usize = 16 << 20;
 
 // Room for a piece.
 fn piece_room(alloc: Global) -> Result<Vec<u8>, AllocError>
@@ -38,87 +39,113 @@ fn piece_room(alloc: Global) -> Result<Vec<u8>, AllocError>
     Ok(room)
 }
 
-// The bytes of an object, none where it is absent or passes a limit.
+// An object of at most so many bytes.
 fn fetch<W: Store>(
     alloc: Global,
     store: &mut W,
     name: &Name,
     limit: usize,
     piece: &mut [u8],
-) -> Result<Option<Vec<u8>>, ReadFault>
+) -> Result<Fetched, LoadRefusal>
     requires room { 0 < length piece.old }
-    requires small { limit ≤ 2 ^ 23 }
+    requires small { limit ≤ 2 ^ 24 }
     ensures looked { Looked (W.objects store.old) (W.objects store.new) (W.alone store.old) (W.alone store.new) }
-    ensures fits { IfOk result (λ o. IfSome o (λ v. vec_len v ≤ limit)) }
     ensures object { IfSome (W.objects store.new) (λ os. IsFetched limit (finmap.get os name.now) result) }
-    ensures cause { Cause (W.faults store.old) (W.faults store.new) (failed_step result) }
+    ensures cause { Cause (W.faults store.old) (W.faults store.new) (failed_load result) }
 {
     let mut bytes = Vec::new(alloc);
     while bytes.len() <= limit {
         match store.get(name, bytes.len() as u64, piece) {
-            Got::Bytes(0) => return Ok(Some(bytes)),
+            Got::Bytes(0) => return Ok(Fetched::Bytes(bytes)),
             Got::Bytes(n) => bytes.extend_from_slice(&piece[..n])?,
-            Got::Absent => return Ok(None),
-            Got::Failed => return Err(ReadFault::StoreFault),
+            Got::Absent => return Ok(Fetched::Absent),
+            Got::Failed => return Err(LoadRefusal::StoreFault),
         }
     }
-    Ok(None)
+    Ok(Fetched::TooLong)
 }
 
-// A version's commit, none where the text is absent, passes a limit or isn't a commit.
+fn version_name(alloc: Global, location: &Name, version: u64) -> Result<Name, AllocError>
+    requires short { length location.now ≤ 256 }
+    requires small { version < 2 ^ 63 }
+    ensures { IfOk result (λ n. n ≡ commit_name location.now version) }
+{
+    match name_of(alloc, location, version)? {
+        Some(name) => Ok(name),
+        None => unreachable!(),
+    }
+}
+
+// The commit of a version.
 fn commit_of_version<W: Store>(
     alloc: Global,
     store: &mut W,
     location: &Name,
     version: u64,
-    limit: usize,
     piece: &mut [u8],
-) -> Result<Option<StoredCommit>, ReadFault>
+) -> Result<Commit, Stop>
     requires short { length location.now ≤ 256 }
+    requires small { version < 2 ^ 63 }
     requires room { 0 < length piece.old }
-    requires small { limit ≤ 2 ^ 23 }
     ensures looked { Looked (W.objects store.old) (W.objects store.new) (W.alone store.old) (W.alone store.new) }
-    ensures fits { IfOk result (λ o. IfSome o (λ s. s.size ≤ limit)) }
-    ensures commit { IfSome (W.objects store.new) (λ os. IsCut limit (text_at location.now os version) result) }
+    ensures commit { IfSome (W.objects store.new) (λ os. IsCommitAt (text_at location.now os version) result) }
     ensures cause { Cause (W.faults store.old) (W.faults store.new) (failed_step result) }
 {
     let name = version_name(alloc, location, version)?;
-    let Some(bytes) = fetch(alloc, store, &name, limit, piece)? else {
-        return Ok(None);
-    };
-    match plain_commit_of(alloc, &bytes)? {
-        Some(commit) => Ok(Some(StoredCommit {
-            commit,
-            size: bytes.len(),
-        })),
-        None => Ok(None),
+    match fetch(alloc, store, &name, MOST_TEXT, piece)? {
+        Fetched::Bytes(bytes) => Ok(commit_of(alloc, &bytes)?),
+        Fetched::Absent => Err(Stop::Blocked(BlockCause::Gap)),
+        Fetched::TooLong => Err(Stop::Blocked(BlockCause::Commit(CommitFault::TooLarge))),
     }
 }
 
-// The commits of the versions below n, which are stored, none where they aren't read.
-pub fn commits_below<W: Store>(
+// Keeps the commit of a version.
+fn keep_version<W: Store>(
+    alloc: Global,
+    store: &mut W,
+    location: &Name,
+    version: u64,
+    kept: &mut Kept,
+    piece: &mut [u8],
+) -> Result<(), Stop>
+    requires short { length location.now ≤ 256 }
+    requires small { version < 2 ^ 63 }
+    requires count { length kept.old ≡ version }
+    requires room { 0 < length piece.old }
+    ensures looked { Looked (W.objects store.old) (W.objects store.new) (W.alone store.old) (W.alone store.new) }
+    ensures count { OnOk result (length kept.new ≡ version + 1) }
+    ensures same { OnErr result (kept.new ≡ kept.old) }
+    ensures keeps { IfSome (W.objects store.new) (λ os. Keeps kept.old kept.new (text_at location.now os version) result) }
+    ensures cause { Cause (W.faults store.old) (W.faults store.new) (failed_step result) }
+{
+    let commit = commit_of_version(alloc, store, location, version, piece)?;
+    kept.keep(alloc, commit)
+}
+
+// What is kept of the versions below n, whose commits are stored.
+pub fn read_below<W: Store>(
     alloc: Global,
     store: &mut W,
     location: &Name,
     n: u64,
-) -> Result<Option<Vec<Arc<Commit>>>, ReadFault>
+) -> Result<Loaded, LoadRefusal>
     requires short { length location.now ≤ 256 }
+    requires small { n ≤ 2 ^ 63 }
     requires stored { IfSome (W.objects store.old) (AreStored location.now n) }
     ensures looked { Looked (W.objects store.old) (W.objects store.new) (W.alone store.old) (W.alone store.new) }
-    ensures count { IfOk result (λ o. IfSome o (λ commits. length commits.items ≡ n)) }
-    ensures commits { IfSome (W.objects store.old) (λ os. IsRead (commits_of location.now os (below n)) result) }
-    ensures cause { Cause (W.faults store.old) (W.faults store.new) (failed_step result) }
+    ensures log { IfSome (W.objects store.old) (λ os. IfOk result (λ loaded. loaded ≡ log_below location.now os n)) }
+    ensures kept { IfOk result IsLoaded }
+    ensures count { IfOk result (λ loaded. IfNone loaded.block (length loaded.commits ≡ n)) }
+    ensures cause { Cause (W.faults store.old) (W.faults store.new) (failed_load result) }
 {
-    let mut limit = MOST_BYTES;
     let mut piece = piece_room(alloc)?;
-    let mut commits = Vec::new(alloc);
+    let mut kept = Kept::new(alloc);
     for version in 0..n {
-        let Some(stored) = commit_of_version(alloc, store, location, version, limit, &mut piece)?
-        else {
-            return Ok(None);
-        };
-        limit -= stored.size;
-        commits.push(Arc::new(alloc, stored.commit)?)?;
+        match keep_version(alloc, store, location, version, &mut kept, &mut piece) {
+            Ok(()) => {}
+            Err(Stop::Blocked(cause)) => return Ok(kept.loaded(Some(Block { version, cause }))),
+            Err(Stop::Failed(refusal)) => return Err(refusal),
+        }
     }
-    Ok(Some(commits))
+    Ok(kept.loaded(None))
 }

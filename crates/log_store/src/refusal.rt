@@ -1,52 +1,21 @@
-// Why a log isn't loaded.
+// Why a load ends early.
 ghost use Rattle.std.specs.Prelude.{◌≡◌};
 ghost use Rattle.log_store.specs.declared.refusal.LoadRefusal.TheVariants as load;
-ghost use Rattle.log_store.specs.declared.refusal.ReadFault.TheVariants as fault;
-ghost use Rattle.log_store.specs.Refusals.{load_refusal};
+ghost use Rattle.log_store.specs.declared.refusal.Stop.TheVariants as stop;
+ghost use Rattle.log_store.specs.Refusals.{stop_of_fault, stop_of_refusal};
 
+use crate::loaded::BlockCause;
+use log_commit::CommitFault;
+use log_replay::ReplayRefusal;
 use std::alloc::{AllocError, AllocFailed};
 
-/// Why a log that the store told has no answer.
-#[derive(Clone, Copy, Debug, PartialEq, Eq)]
-pub enum LogRefusal {
-    /// The log's folder names no commit.
-    NoCommits,
-    /// The log has commits and isn't of the kind that is read: a version is missing, the texts pass 8 MiB in sum, or one isn't a plain commit.
-    NotRead,
-}
-
-/// Why no log was loaded.
+/// Why no log was loaded. It says nothing of the log.
 #[derive(Clone, Copy, Debug, PartialEq, Eq)]
 pub enum LoadRefusal {
-    /// The log is refused.
-    Refused(LogRefusal),
     /// A call of the store failed.
     StoreFault,
-    /// There is no memory.
+    /// Memory ran out.
     NoMemory,
-}
-
-// Why a step of the loading did nothing.
-#[derive(Clone, Copy)]
-pub enum ReadFault {
-    StoreFault,
-    NoMemory,
-}
-
-impl From<AllocError> for ReadFault {
-    ghost from_gives = { λ _ e. e ≡ fault.NoMemory };
-
-    fn from(_: AllocError) -> Self {
-        ReadFault::NoMemory
-    }
-}
-
-impl<T: Drop> From<AllocFailed<T>> for ReadFault {
-    ghost from_gives = { λ _ e. e ≡ fault.NoMemory };
-
-    fn from(_: AllocFailed<T>) -> Self {
-        ReadFault::NoMemory
-    }
 }
 
 impl From<AllocError> for LoadRefusal {
@@ -57,13 +26,65 @@ impl From<AllocError> for LoadRefusal {
     }
 }
 
-impl From<ReadFault> for LoadRefusal {
-    ghost from_gives = { λ fault e. e ≡ load_refusal fault };
+impl<T: Drop> From<AllocFailed<T>> for LoadRefusal {
+    ghost from_gives = { λ _ e. e ≡ load.NoMemory };
 
-    fn from(fault: ReadFault) -> Self {
+    fn from(_: AllocFailed<T>) -> Self {
+        LoadRefusal::NoMemory
+    }
+}
+
+// Why a version wasn't kept.
+#[derive(Clone, Copy)]
+pub enum Stop {
+    // It is the log's block.
+    Blocked(BlockCause),
+    // Nothing was learnt of it.
+    Failed(LoadRefusal),
+}
+
+impl From<LoadRefusal> for Stop {
+    ghost from_gives = { λ r e. e ≡ stop.Failed r };
+
+    fn from(refusal: LoadRefusal) -> Self {
+        Stop::Failed(refusal)
+    }
+}
+
+impl From<AllocError> for Stop {
+    ghost from_gives = { λ _ e. e ≡ stop.Failed load.NoMemory };
+
+    fn from(_: AllocError) -> Self {
+        Stop::Failed(LoadRefusal::NoMemory)
+    }
+}
+
+impl<T: Drop> From<AllocFailed<T>> for Stop {
+    ghost from_gives = { λ _ e. e ≡ stop.Failed load.NoMemory };
+
+    fn from(_: AllocFailed<T>) -> Self {
+        Stop::Failed(LoadRefusal::NoMemory)
+    }
+}
+
+impl From<CommitFault> for Stop {
+    ghost from_gives = { λ fault e. e ≡ stop_of_fault fault };
+
+    fn from(fault: CommitFault) -> Self {
         match fault {
-            ReadFault::StoreFault => LoadRefusal::StoreFault,
-            ReadFault::NoMemory => LoadRefusal::NoMemory,
+            CommitFault::NoMemory => Stop::Failed(LoadRefusal::NoMemory),
+            _ => Stop::Blocked(BlockCause::Commit(fault)),
+        }
+    }
+}
+
+impl From<ReplayRefusal> for Stop {
+    ghost from_gives = { λ refusal e. e ≡ stop_of_refusal refusal };
+
+    fn from(refusal: ReplayRefusal) -> Self {
+        match refusal {
+            ReplayRefusal::NoMemory => Stop::Failed(LoadRefusal::NoMemory),
+            _ => Stop::Blocked(BlockCause::Replay(refusal)),
         }
     }
 }

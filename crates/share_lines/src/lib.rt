@@ -5,6 +5,5 @@
 mod lines;
 #[cfg(test)]
 mod tests;
-mod write;
 
 pub use lines::{push_file, push_meta, push_protocol};

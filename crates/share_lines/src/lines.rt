@@ -1,66 +1,69 @@
 // Whole lines.
-ghost use Rattle.std.specs.Prelude.{◌≡◌, ◌++◌, [], ◌∷◌, OnOk, OnErr, IfOk, string_bytes};
+ghost use Rattle.std.specs.Prelude.{◌≡◌, ◌++◌, [], ◌∷◌, Some, codes, OnOk, OnErr, IfOk, string_bytes};
 ghost use Rattle.json.specs.Print.{print};
-ghost use Rattle.json.specs.Token.{begin_object, end_object, key};
-ghost use Rattle.share_lines.specs.Lines.{file_data, file_line, meta_data, meta_line, protocol_line};
-ghost use Rattle.share_lines.specs.Tokens.{Adds, configuration_tokens, value_tokens};
+ghost use Rattle.json.specs.Token as token;
+ghost use Rattle.json_print.specs.Fields.{object_of};
+ghost use Rattle.json_print.specs.Tokens.{Adds, field_tokens, value_tokens};
+ghost use Rattle.json_print.specs.Values.{count_value};
+ghost use Rattle.share_lines.specs.Lines.{file_fields, file_line, format_fields, meta_fields, meta_line, protocol_line};
 
-use crate::write::{optional_member, pairs_object, text_member, texts_array};
 use json::Writer;
-use log_actions::{AddFile, MetaData};
+use json_print::{
+    begin_object, count_field, end_object, new_writer, nonempty_pairs_field, optional_text_field,
+    pairs_field, printed, text_field, texts_field,
+};
+use log_actions::{AddFile, FileSize, MetaData};
 use std::alloc::{AllocError, Global};
 
 // Room for most lines.
 const ROOM: usize = 512;
 
-fn file_object(line: &mut Writer, file: &AddFile) -> Result<(), AllocError>
-    ensures { OnOk result (Adds line.old line.new (value_tokens (file_data file.now))) }
+fn size_field(line: &mut Writer, size: FileSize) -> Result<(), AllocError>
+    ensures { OnOk result (Adds line.old line.new (field_tokens (codes "size", Some (count_value size)))) }
 {
-    line.begin_object()?;
-    text_member(line, "id", &file.path)?;
-    line.key("partitionValues")?;
-    pairs_object(line, file.values.items())?;
-    line.key("size")?;
-    line.u64(file.size)?;
-    optional_member(line, "stats", &file.stats)?;
-    text_member(line, "url", &file.path)?;
-    line.end_object()
+    count_field(line, "size", size.get())
 }
 
-// The metaData's configuration, where it is not empty.
-fn configuration_member(line: &mut Writer, meta: &MetaData) -> Result<(), AllocError>
-    ensures { OnOk result (Adds line.old line.new (configuration_tokens meta.now.configuration)) }
+fn file_object(line: &mut Writer, file: &AddFile) -> Result<(), AllocError>
+    ensures { OnOk result (Adds line.old line.new (value_tokens (object_of (file_fields file.now)))) }
 {
-    if !meta.configuration.items().is_empty() {
-        line.key("configuration")?;
-        pairs_object(line, meta.configuration.items())?;
-    }
-    Ok(())
+    begin_object(line)?;
+    text_field(line, "id", &file.path)?;
+    pairs_field(line, "partitionValues", &file.values)?;
+    size_field(line, file.size)?;
+    optional_text_field(line, "stats", &file.stats)?;
+    text_field(line, "url", &file.path)?;
+    end_object(line)
+}
+
+fn format_object(line: &mut Writer, meta: &MetaData) -> Result<(), AllocError>
+    ensures { OnOk result (Adds line.old line.new (value_tokens (object_of (format_fields meta.now)))) }
+{
+    begin_object(line)?;
+    text_field(line, "provider", &meta.format.provider)?;
+    end_object(line)
 }
 
 fn meta_object(line: &mut Writer, meta: &MetaData) -> Result<(), AllocError>
-    ensures { OnOk result (Adds line.old line.new (value_tokens (meta_data meta.now))) }
+    ensures { OnOk result (Adds line.old line.new (value_tokens (object_of (meta_fields meta.now)))) }
 {
-    line.begin_object()?;
-    configuration_member(line, meta)?;
-    optional_member(line, "description", &meta.description)?;
+    begin_object(line)?;
+    nonempty_pairs_field(line, "configuration", &meta.configuration)?;
+    optional_text_field(line, "description", &meta.description)?;
     line.key("format")?;
-    line.begin_object()?;
-    text_member(line, "provider", &meta.format.provider)?;
-    line.end_object()?;
-    text_member(line, "id", &meta.id)?;
-    optional_member(line, "name", &meta.name)?;
-    line.key("partitionColumns")?;
-    texts_array(line, meta.columns.items())?;
-    text_member(line, "schemaString", &meta.schema)?;
-    line.end_object()
+    format_object(line, meta)?;
+    text_field(line, "id", &meta.id)?;
+    optional_text_field(line, "name", &meta.name)?;
+    texts_field(line, "partitionColumns", &meta.columns)?;
+    text_field(line, "schemaString", &meta.schema)?;
+    end_object(line)
 }
 
 // A line's beginning: an object whose one name this is.
 fn begin(alloc: Global, name: &str) -> Result<Writer, AllocError>
-    ensures { IfOk result (λ line. (line.before ≡ []) × (line.tokens ≡ begin_object ∷ key name.now ∷ [])) }
+    ensures { IfOk result (λ line. (line.before ≡ []) × (line.tokens ≡ token.begin_object ∷ token.key name.now ∷ [])) }
 {
-    let mut line = Writer::new(Vec::with_capacity(alloc, ROOM)?);
+    let mut line = new_writer(alloc, ROOM)?;
     line.begin_object()?;
     line.key(name)?;
     Ok(line)
@@ -69,12 +72,10 @@ fn begin(alloc: Global, name: &str) -> Result<Writer, AllocError>
 // The line that was written, with its end and a line feed.
 fn ended(mut line: Writer) -> Result<String, AllocError>
     requires { line.before ≡ [] }
-    ensures { IfOk result (λ s. string_bytes s ≡ print (line.tokens ++ end_object ∷ []) ++ 10 ∷ []) }
+    ensures { IfOk result (λ s. string_bytes s ≡ print (line.tokens ++ token.end_object ∷ []) ++ 10 ∷ []) }
 {
     line.end_object()?;
-    let Ok(mut text) = String::from_utf8(line.into_inner()) else {
-        unreachable!();
-    };
+    let mut text = printed(line);
     text.push('\n')?;
     Ok(text)
 }

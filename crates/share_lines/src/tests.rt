@@ -33,7 +33,7 @@ fn push(alloc: Global, out: &mut String, action: &str) -> Result<(), Fail> {
         match &action {
             Action::MetaData(meta) => push_meta(alloc, out, meta)?,
             Action::Add(file) => push_file(alloc, out, file)?,
-            Action::Protocol(_) | Action::Remove(_) => {}
+            _ => {}
         }
     }
     Ok(())

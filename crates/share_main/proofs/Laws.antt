@@ -6,13 +6,13 @@ use Rattle.std.proofs.lemmas.List.{append-nil}
 use Rattle.edge_core.specs.Faults.{Rose}
 use Rattle.edge_core.specs.Objects.{Objects, Grows, Between}
 use Rattle.edge_core.proofs.Growth.{GrowsTo-same}
-use Rattle.log_store.specs.declared.refusal.LogRefusal.{LogRefusal}
+use Rattle.share_main.specs.declared.ends.TableRefusal.{TableRefusal}
 use Rattle.share_main.specs.Words.{command_in}
 use Rattle.share_main.specs.Ends.{status, note}
 use Rattle.share_main.specs.Table.{lines_in}
 use Rattle.share_main.specs.Outside.{Outside}
 use Rattle.share_main.specs.Run.{IsSomething, IsQuery, Answers, Means, Notes, IsRun}
-use Rattle.share_main.specs.Expected.{Deed, answered, refused, queried, done, expected, IsCalm, Does, IsExact, IsExactAlone}
+use Rattle.share_main.specs.Expected.{Deed, answered, refused, queried, done, IsCalm, Does, IsExact, IsExactAlone}
 use Rattle.share_main.specs.declared.ends.End.{End}
 use Rattle.share_main.specs.declared.ends.End.TheVariants as ends
 use Rattle.share_main.specs.declared.words.Command.{Command}
@@ -43,7 +43,7 @@ listed_at objects new P (None, begun, ended, p) = absurd (true≢false begun)
 listed_at objects new P (Some listed, begun, ended, p) = (listed, begun, ended, p)
 
 -- what is asked is answered so: the deed of that answer is the expected one
-by_answer : (asked : Option Command) (old new : Outside) (input : List ℕ) (objects : Objects) (held noted : List ℕ) (result : ℕ) (answer : Result (List ℕ) LogRefusal) → IsCalm old new input objects held noted → Grows old.objects new.objects
+by_answer : (asked : Option Command) (old new : Outside) (input : List ℕ) (objects : Objects) (held noted : List ℕ) (result : ℕ) (answer : Result (List ℕ) TableRefusal) → IsCalm old new input objects held noted → Grows old.objects new.objects
     → Answers asked old new answer → result ≡ (answered answer).status → Notes old new (answered answer).notes → new.held ≡ Some (held ++ (answered answer).output) → DoesAt asked new input objects held noted result
 by_answer None old new input objects held noted result answer calm grows a st n o = absurd a
 by_answer (Some command.Help) old new input objects held noted result answer calm grows a st n o =

@@ -1,15 +1,15 @@
 -- From the parts of a run to the whole.
-use Rattle.std.proofs.Common.{◌≡◌, ℕ, List, Option, Some, None, refl, sym, ap, ◌∙◌, subst, Result, Ok, Err, inl, inr}
-use Rattle.std.specs.Prelude.{Bool, true, false, take}
+use Rattle.std.proofs.Common.{◌≡◌, ℕ, List, Option, Some, None, sym, ap, ◌∙◌, subst, Result, Ok, Err, inl, inr}
+use Rattle.std.specs.Prelude.{take}
 use Rattle.std.specs.Bool.{OnTrue}
 use Rattle.std.specs.Io.KnownBytes.{append_known}
 use Rattle.edge_core.specs.Faults.{Rose}
-use Rattle.edge_core.specs.Objects.{Objects, Grows, Between}
-use Rattle.log_store.specs.declared.refusal.LogRefusal.{LogRefusal}
+use Rattle.edge_core.specs.Objects.{Grows, Between}
+use Rattle.share_main.specs.declared.ends.TableRefusal.{TableRefusal}
 use Rattle.share_main.specs.Ends.{note}
 use Rattle.share_main.specs.Table.{lines_in}
 use Rattle.share_main.specs.Outside.{Outside}
-use Rattle.share_main.specs.Run.{IsAtEnd, Answers, Means, Notes, Writes, IsRun}
+use Rattle.share_main.specs.Run.{Answers, Means, Notes, IsRun}
 use Rattle.share_main.specs.Steps.{LeavesRest, Found, Prints, Runs, Tells}
 use Rattle.share_main.specs.declared.ends.End.{End}
 use Rattle.share_main.specs.declared.ends.End.TheVariants as ends
@@ -65,7 +65,7 @@ record SameCauses (mid new : Outside) : Type 0 where
   stores : mid.store_faults ≡ new.store_faults
   writes : mid.write_faults ≡ new.write_faults
 
-answers_then : (asked : Option Command) (old mid new : Outside) (answer : Result (List ℕ) LogRefusal) → SameCauses mid new → Answers asked old mid answer → Answers asked old new answer
+answers_then : (asked : Option Command) (old mid new : Outside) (answer : Result (List ℕ) TableRefusal) → SameCauses mid new → Answers asked old mid answer → Answers asked old new answer
 answers_then None old mid new answer same a = absurd a
 answers_then (Some command.Help) old mid new answer same a = a
 answers_then (Some command.Version) old mid new answer same a = a

@@ -1,8 +1,10 @@
 -- How a run can end: the status, and the line on the notes.
-use Rattle.std.specs.Prelude.{ℕ, List, [], codes}
-use Rattle.log_store.specs.declared.refusal.LogRefusal.TheVariants as log
+use Rattle.std.specs.Prelude.{ℕ, List, [], ◌++◌, Option, Some, None, codes, decimal}
+use Rattle.share_main.specs.declared.ends.TableRefusal.{TableRefusal}
+use Rattle.share_main.specs.declared.ends.TableRefusal.TheVariants as table
 use Rattle.share_main.specs.declared.ends.End.{End}
 use Rattle.share_main.specs.declared.ends.End.TheVariants as ends
+use Rattle.share_main.specs.declared.ends.Note.{Note}
 
 abbrev pub status : End → ℕ
 status ends.Done = 0
@@ -14,13 +16,32 @@ status ends.StoreFault = 5
 status ends.WriteFault = 5
 status ends.NoMemory = 6
 
+abbrev pub table_note : TableRefusal → List ℕ
+table_note table.NoCommits = codes "share: table: no commits\n"
+table_note (table.NeedsCheckpoint lowest) = codes "share: table: needs checkpoint, lowest " ++ (decimal lowest ++ codes "\n")
+table_note (table.Gap version) = codes "share: table: gap at " ++ (decimal version ++ codes "\n")
+table_note (table.Commit version) = codes "share: table: commit " ++ (decimal version ++ codes "\n")
+table_note (table.Unsupported version) = codes "share: table: unsupported at " ++ (decimal version ++ codes "\n")
+table_note (table.TooLarge version) = codes "share: table: too large at " ++ (decimal version ++ codes "\n")
+
 abbrev pub note : End → List ℕ
 note ends.Done = []
 note ends.Words = codes "share: words\n"
 note ends.Input = codes "share: input\n"
-note (ends.Table log.NoCommits) = codes "share: table: no commits\n"
-note (ends.Table log.NotRead) = codes "share: table: not read yet\n"
+note (ends.Table why) = table_note why
 note ends.ReadFault = codes "share: read fault\n"
 note ends.StoreFault = codes "share: store fault\n"
 note ends.WriteFault = codes "share: write fault\n"
 note ends.NoMemory = codes "share: memory\n"
+
+abbrev pub number_text : Option ℕ → List ℕ
+number_text None = []
+number_text (Some number) = decimal number
+
+-- the line of a note as it is kept
+abbrev pub note_line : Note → List ℕ
+note_line n = n.text.now ++ (number_text n.number ++ codes "\n")
+
+abbrev pub note_text : Option Note → List ℕ
+note_text None = []
+note_text (Some n) = note_line n

@@ -1,9 +1,9 @@
 -- What a run does, as a plain function of its words, its input and the stored objects.
-use Rattle.std.specs.Prelude.{◌≡◌, ◌≢◌, ℕ, ◌⊎◌, List, [], ◌∷◌, ◌++◌, Option, Some, None, Result, Ok, Err, String}
+use Rattle.std.specs.Prelude.{◌≡◌, ℕ, ◌⊎◌, List, [], ◌∷◌, ◌++◌, Option, Some, None, Result, Ok, Err, String}
 use Rattle.std.specs.declared.alloc.Global.{Global}
 use Rattle.edge_core.specs.Faults.{Rose}
 use Rattle.edge_core.specs.Objects.{Objects, Grows}
-use Rattle.log_store.specs.declared.refusal.LogRefusal.{LogRefusal}
+use Rattle.share_main.specs.declared.ends.TableRefusal.{TableRefusal}
 use Rattle.share_main.specs.Words.{command_in}
 use Rattle.share_main.specs.Ends.{status, note}
 use Rattle.share_main.specs.Table.{lines_in}
@@ -26,7 +26,7 @@ printed text = record { status = 0; notes = []; output = text }
 abbrev pub refused : End → Deed
 refused end = record { status = status end; notes = note end; output = [] }
 
-abbrev pub answered : Result (List ℕ) LogRefusal → Deed
+abbrev pub answered : Result (List ℕ) TableRefusal → Deed
 answered (Ok text) = printed text
 answered (Err why) = refused (ends.Table why)
 

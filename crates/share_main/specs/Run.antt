@@ -4,7 +4,7 @@ use Rattle.std.specs.Bool.{OnTrue}
 use Rattle.std.specs.Io.KnownBytes.{append_known}
 use Rattle.edge_core.specs.Faults.{Rose}
 use Rattle.edge_core.specs.Objects.{Grows, Between}
-use Rattle.log_store.specs.declared.refusal.LogRefusal.{LogRefusal}
+use Rattle.share_main.specs.declared.ends.TableRefusal.{TableRefusal}
 use Rattle.share_main.specs.Ends.{note}
 use Rattle.share_main.specs.Outside.{Outside}
 use Rattle.share_main.specs.Table.{lines_in}
@@ -43,7 +43,7 @@ IsQuery (Some command.Version) = ⊥
 IsQuery (Some (command.Query location)) = ⊤
 
 -- What the command is answered. A query whose input is at its end is answered the lines of the table as the store was at one moment of the call, or why there are none.
-abbrev pub Answers : Option Command → Outside → Outside → Result (List ℕ) LogRefusal → Type 0
+abbrev pub Answers : Option Command → Outside → Outside → Result (List ℕ) TableRefusal → Type 0
 Answers None old new answer = ⊥
 Answers (Some command.Help) old new answer = answer ≡ Ok HELP.now
 Answers (Some command.Version) old new answer = answer ≡ Ok VERSION.now

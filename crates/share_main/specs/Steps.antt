@@ -1,6 +1,7 @@
 -- What the steps of a run do, one after another.
-use Rattle.std.specs.Prelude.{◌≡◌, ℕ, List, take, Option, Some, Result, Ok, Err, String, string_bytes}
+use Rattle.std.specs.Prelude.{◌≡◌, ℕ, ◌≤◌, List, Bool, true, false, take, Option, Some, Result, Ok, Err, String, string_bytes}
 use Rattle.std.specs.Bool.{OnTrue}
+use Rattle.std.specs.Io.KnownBytes.{append_known}
 use Rattle.std.specs.declared.alloc.Global.{Global}
 use Rattle.edge_core.specs.Faults.{Rose}
 use Rattle.edge_core.specs.Objects.{Grows, Between}
@@ -55,3 +56,8 @@ Finds location old new (Err end) = Runs (Some (command.Query location)) old new 
 pub record Tells (old new : Outside) (text : List ℕ) : Type 0 where
   pub notes : Notes old new text
   pub rest : new ≡ record old { noted = new.noted; note_faults = new.note_faults }
+
+-- the text was written whole, or a front of it where a write failed
+abbrev pub Wrote : Option (List ℕ) → Option (List ℕ) → ℕ → ℕ → List ℕ → Bool → Type 0
+Wrote old new before now text true = (new ≡ append_known old text) × (before ≤ now)
+Wrote old new before now text false = ((n : ℕ) × (new ≡ append_known old (take n text))) × Rose before now × (before ≤ now)

@@ -1,10 +1,26 @@
 // How a run can end.
-ghost use Rattle.std.specs.Prelude.{◌≡◌};
-ghost use Rattle.share_main.specs.Ends.{note, status};
+ghost use Rattle.std.specs.Prelude.{◌≡◌, ◌++◌, None, Some};
+ghost use Rattle.share_main.specs.Ends.{note, note_line, note_text, status, table_note};
 ghost use Rattle.share_main.specs.declared.ends.End.TheVariants.{NoMemory as memory};
 
-use log_store::LogRefusal;
 use std::alloc::AllocError;
+
+/// Why a table isn't read.
+#[derive(Clone, Copy, Debug, PartialEq, Eq)]
+pub enum TableRefusal {
+    /// The folder of its log names no commit.
+    NoCommits,
+    /// Its log begins above version 0, at this one: what came before stands in a checkpoint alone.
+    NeedsCheckpoint { lowest: u64 },
+    /// This version, below the greatest, is missing.
+    Gap { version: u64 },
+    /// The text of this version isn't a commit's.
+    Commit { version: u64 },
+    /// The state at this version isn't supported.
+    Unsupported { version: u64 },
+    /// With this version the texts of the commits pass 64 MiB.
+    TooLarge { version: u64 },
+}
 
 /// How a run ended.
 #[derive(Drop)]
@@ -16,7 +32,7 @@ pub enum End {
     /// Status 3: the input isn't what the command takes.
     Input,
     /// Status 4: the table isn't read, and why.
-    Table(LogRefusal),
+    Table(TableRefusal),
     /// Status 5: a read of the input failed.
     ReadFault,
     /// Status 5: a call of the store failed.
@@ -25,6 +41,32 @@ pub enum End {
     WriteFault,
     /// Status 6: want of memory.
     NoMemory,
+}
+
+/// A line of the notes: a text and, after it, perhaps a number in decimal.
+#[derive(Drop)]
+pub struct Note {
+    /// What stands before the number.
+    pub text: &'static str,
+    /// The number.
+    pub number: Option<u64>,
+}
+
+impl Note {
+    fn plain(text: &'static str) -> Note
+        ensures { (result.text.now ≡ text.now) × (result.number ≡ None) }
+    {
+        Note { text, number: None }
+    }
+
+    fn with(text: &'static str, number: u64) -> Note
+        ensures { (result.text.now ≡ text.now) × (result.number ≡ Some number) }
+    {
+        Note {
+            text,
+            number: Some(number),
+        }
+    }
 }
 
 impl From<AllocError> for End {
@@ -50,20 +92,40 @@ impl End {
         }
     }
 
-    /// The line that says why, empty where all went well.
-    pub fn note(&self) -> &str
-        ensures { result.now ≡ note self.now }
+    /// The line that says why, none where all went well.
+    pub fn note(&self) -> Option<Note>
+        ensures { note_text result ≡ note self.now }
     {
         match self {
-            End::Done => "",
-            End::Words => "share: words\n",
-            End::Input => "share: input\n",
-            End::Table(LogRefusal::NoCommits) => "share: table: no commits\n",
-            End::Table(LogRefusal::NotRead) => "share: table: not read yet\n",
-            End::ReadFault => "share: read fault\n",
-            End::StoreFault => "share: store fault\n",
-            End::WriteFault => "share: write fault\n",
-            End::NoMemory => "share: memory\n",
+            End::Done => None,
+            End::Words => Some(Note::plain("share: words")),
+            End::Input => Some(Note::plain("share: input")),
+            End::Table(why) => Some(why.note()),
+            End::ReadFault => Some(Note::plain("share: read fault")),
+            End::StoreFault => Some(Note::plain("share: store fault")),
+            End::WriteFault => Some(Note::plain("share: write fault")),
+            End::NoMemory => Some(Note::plain("share: memory")),
+        }
+    }
+}
+
+impl TableRefusal {
+    fn note(&self) -> Note
+        ensures { note_line result ≡ table_note self.now }
+    {
+        match self {
+            TableRefusal::NoCommits => Note::plain("share: table: no commits"),
+            TableRefusal::NeedsCheckpoint { lowest } => {
+                Note::with("share: table: needs checkpoint, lowest ", *lowest)
+            }
+            TableRefusal::Gap { version } => Note::with("share: table: gap at ", *version),
+            TableRefusal::Commit { version } => Note::with("share: table: commit ", *version),
+            TableRefusal::Unsupported { version } => {
+                Note::with("share: table: unsupported at ", *version)
+            }
+            TableRefusal::TooLarge { version } => {
+                Note::with("share: table: too large at ", *version)
+            }
         }
     }
 }

@@ -2,23 +2,19 @@
 #![tactic(auto)]
 
 mod ends;
-mod folder;
 mod run;
-mod streams;
 mod table;
 #[cfg(test)]
 mod tests;
 mod words;
 
-use ends::End;
-use folder::Folder;
-use run::{Edge, run};
+use edge_std::{FileStore, StdSink, StdSource};
+use run::{Edge, run, tell_memory};
 use std::alloc::AllocError;
-use std::io::{ErrorKind, Write};
+use std::io::ErrorKind;
 use std::process::ExitCode;
 use std::{env, io};
 use step_count::Steps;
-use streams::{StdSink, StdSource};
 
 // The words after the program's name. Words that aren't text are no row of the table of words,
 // as no words are.
@@ -36,16 +32,21 @@ fn words_of(rt: &HostRuntime) -> Result<Vec<String>, AllocError> {
     Ok(words)
 }
 
+// The words, and the path of the folder that the program runs in.
+fn given(rt: &HostRuntime) -> Result<(Vec<String>, String), AllocError> {
+    Ok((words_of(rt)?, String::from_str(rt.alloc(), ".")?))
+}
+
 fn main(rt: HostRuntime) -> io::Result<ExitCode> {
-    let Ok(words) = words_of(&rt) else {
-        rt.stderr().write_all(End::NoMemory.note().as_bytes())?;
-        return Ok(ExitCode::from(End::NoMemory.status()));
+    let mut notes = StdSink::new(rt.stderr());
+    let Ok((words, folder)) = given(&rt) else {
+        return Ok(ExitCode::from(tell_memory(&mut notes)));
     };
     let mut edge = Edge {
         input: StdSource::new(rt.stdin()),
         output: StdSink::new(rt.stdout()),
-        notes: StdSink::new(rt.stderr()),
-        store: Folder::new(rt.clone()?),
+        notes,
+        store: FileStore::new(rt.clone()?, folder),
         steps: Steps::<()>::new(),
     };
     Ok(ExitCode::from(run(rt.alloc(), &words, &mut edge)))

@@ -1,21 +1,19 @@
 // The commands.
-ghost use Rattle.std.specs.Prelude.{◌≡◌, ◌≤◌, ℕ, length, take, Some};
-ghost use Rattle.std.specs.Bool.{OnTrue, OnFalse};
-ghost use Rattle.std.specs.Io.KnownBytes.{append_known};
-ghost use Rattle.edge_core.specs.Faults.{Rose};
-ghost use Rattle.share_main.specs.Ends.{note, status};
+ghost use Rattle.std.specs.Prelude.{◌≡◌, ◌≤◌, ◌++◌, length, codes, decimal, Some};
+ghost use Rattle.share_main.specs.Ends.{note, note_line, status};
 ghost use Rattle.share_main.specs.Expected.{IsExact, IsExactAlone};
 ghost use Rattle.share_main.specs.Run.{IsRun};
-ghost use Rattle.share_main.specs.Steps.{Finds, Prints, Runs, Tells};
+ghost use Rattle.share_main.specs.Steps.{Finds, Prints, Runs, Tells, Wrote};
 ghost use Rattle.share_main.specs.Words.{IsGood, command_in};
 ghost use Rattle.share_main.specs.declared.ends.End.{End};
+ghost use Rattle.share_main.specs.declared.ends.End.TheVariants as ends;
 ghost use Rattle.share_main.specs.declared.words.Command.TheVariants.{Query};
 
-use crate::ends::End;
-use crate::table::table_lines;
+use crate::ends::{End, Note};
+use crate::table::{LinesFault, table_lines};
 use crate::words::{Command, HELP, VERSION, command_of};
 use edge_core::{Gave, Name, Sink, Source, Store, Took};
-use log_store::LoadRefusal;
+use itoa::Buffer;
 use std::alloc::Global;
 use std::marker::Model;
 use step_count::Steps;
@@ -53,11 +51,7 @@ impl<S: Source, K: Sink, M: Sink, W: Store, L> Model for Edge<S, K, M, W, L> {
 
 // Whether all was written.
 fn write_all<K: Sink>(sink: &mut K, bytes: &[u8]) -> bool
-    ensures all { OnTrue result (K.holds sink.new ≡ append_known (K.holds sink.old) bytes.now) }
-    ensures part { OnFalse result ((n : ℕ)
-        × (K.holds sink.new ≡ append_known (K.holds sink.old) (take n bytes.now))) }
-    ensures fault { OnFalse result (Rose (K.faults sink.old) (K.faults sink.new)) }
-    ensures later { K.faults sink.old ≤ K.faults sink.new }
+    ensures { Wrote (K.holds sink.old) (K.holds sink.new) (K.faults sink.old) (K.faults sink.new) bytes.now result }
 {
     let mut at = 0usize;
     while at < bytes.len() {
@@ -67,6 +61,46 @@ fn write_all<K: Sink>(sink: &mut K, bytes: &[u8]) -> bool
         }
     }
     true
+}
+
+// Whether both were written, one after the other.
+fn write_both<K: Sink>(sink: &mut K, first: &[u8], second: &[u8]) -> bool
+    ensures { Wrote (K.holds sink.old) (K.holds sink.new) (K.faults sink.old) (K.faults sink.new) (first.now ++ second.now) result }
+{
+    if !write_all(sink, first) {
+        return false;
+    }
+    write_all(sink, second)
+}
+
+// A number in decimal, and the end of the line.
+fn write_last<K: Sink>(sink: &mut K, number: u64) -> bool
+    ensures { Wrote (K.holds sink.old) (K.holds sink.new) (K.faults sink.old) (K.faults sink.new) (decimal number ++ codes "\n") result }
+{
+    write_both(
+        sink,
+        Buffer::new().format(number).as_bytes(),
+        b"\n".as_slice(),
+    )
+}
+
+fn write_numbered<K: Sink>(sink: &mut K, text: &[u8], number: u64) -> bool
+    ensures { Wrote (K.holds sink.old) (K.holds sink.new) (K.faults sink.old) (K.faults sink.new) (text.now ++ (decimal number ++ codes "\n")) result }
+{
+    if !write_all(sink, text) {
+        return false;
+    }
+    write_last(sink, number)
+}
+
+// A line of the notes. It takes no memory, so that want of memory can be told too.
+fn write_note<K: Sink>(sink: &mut K, note: &Note) -> bool
+    ensures { Wrote (K.holds sink.old) (K.holds sink.new) (K.faults sink.old) (K.faults sink.new) (note_line note.now) result }
+{
+    match note.number {
+        Some(number) => write_numbered(sink, note.text.as_bytes(), number),
+        None => write_both(sink, note.text.as_bytes(), b"\n".as_slice()),
+    }
 }
 
 // Writes a text to the output.
@@ -100,9 +134,9 @@ fn find_lines<S: Source, K: Sink, M: Sink, W: Store, L>(
     }
     match table_lines(alloc, &mut edge.store, location, &mut edge.steps) {
         Ok(lines) => Ok(lines),
-        Err(LoadRefusal::Refused(why)) => Err(End::Table(why)),
-        Err(LoadRefusal::StoreFault) => Err(End::StoreFault),
-        Err(LoadRefusal::NoMemory) => Err(End::NoMemory),
+        Err(LinesFault::Refused(why)) => Err(End::Table(why)),
+        Err(LinesFault::StoreFault) => Err(End::StoreFault),
+        Err(LinesFault::NoMemory) => Err(End::NoMemory),
     }
 }
 
@@ -142,7 +176,19 @@ fn answer<S: Source, K: Sink, M: Sink, W: Store, L>(
 fn tell<S: Source, K: Sink, M: Sink, W: Store, L>(edge: &mut Edge<S, K, M, W, L>, end: &End)
     ensures { Tells edge.old edge.new (note end.now) }
 {
-    write_all(&mut edge.notes, end.note().as_bytes());
+    if let Some(note) = end.note() {
+        write_note(&mut edge.notes, &note);
+    }
+}
+
+/// Writes the line for want of memory to the notes, and answers its status.
+pub fn tell_memory<M: Sink>(notes: &mut M) -> u8
+    ensures { result ≡ status ends.NoMemory }
+{
+    if let Some(note) = End::NoMemory.note() {
+        write_note(notes, &note);
+    }
+    End::NoMemory.status()
 }
 
 // Does what the words ask, up to the notes.

@@ -231,25 +231,89 @@ fn says_why_a_table_is_not_read(rt: HostRuntime) -> Result<(), AllocError> {
         };
         expect(&rt, rt.alloc(), &none)?;
     }
-    let not_read = Case {
-        status: 4,
-        notes: "share: table: not read yet\n",
+    Ok(())
+}
+
+const PASSED_BY_READERS: &str =
+    "{\"protocol\":{\"minReaderVersion\":3,\"minWriterVersion\":7,\"readerFeatures\":[\"deletionVectors\"],\"writerFeatures\":[\"deletionVectors\"]}}\n{\"metaData\":{\"id\":\"m1\",\"schemaString\":\"{}\"}}\n";
+
+const ADD_WITH_VECTOR: &str =
+    "{\"add\":{\"path\":\"a\",\"size\":2,\"deletionVector\":{\"storageType\":\"u\"}}}\n";
+
+const REFUSED: Case<'static> = Case { status: 4, ..QUERY };
+
+// Tables that aren't read, each with why.
+const UNREAD: [Case<'static>; 8] = [
+    Case {
+        commits: &[&[OPENING], &[]],
+        other: "t/_delta_log/00000000000000000003.json",
+        notes: "share: table: gap at 2\n",
+        ..REFUSED
+    },
+    Case {
+        other: "t/_delta_log/00000000000000000003.json",
+        notes: "share: table: needs checkpoint, lowest 3\n",
+        ..REFUSED
+    },
+    Case {
+        commits: &[&[OPENING, ADD_OF_SIZE_1], &[ADD_OF_SIZE_1, REMOVE]],
+        notes: "share: table: commit 1\n",
+        ..REFUSED
+    },
+    Case {
+        commits: &[&[OPENING], &["{"]],
+        notes: "share: table: commit 1\n",
+        ..REFUSED
+    },
+    Case {
+        commits: &[&[ADD_OF_SIZE_1]],
+        notes: "share: table: unsupported at 0\n",
+        ..REFUSED
+    },
+    Case {
+        commits: &[&["{\"metaData\":{\"id\":\"m\",\"schemaString\":\"{}\"}}"]],
+        notes: "share: table: unsupported at 0\n",
+        ..REFUSED
+    },
+    Case {
+        commits: &[
+            &[PASSED_BY_READERS],
+            &[],
+            &[ADD_OF_SIZE_1],
+            &[ADD_WITH_VECTOR],
+        ],
+        notes: "share: table: unsupported at 3\n",
+        ..REFUSED
+    },
+    Case {
+        commits: &[
+            &[PASSED_BY_READERS],
+            &[ADD_OF_SIZE_1],
+            &[REMOVE, ADD_WITH_VECTOR],
+        ],
+        notes: "share: table: unsupported at 2\n",
+        ..REFUSED
+    },
+];
+
+#[test]
+fn says_why_a_log_is_not_read(rt: HostRuntime) -> Result<(), AllocError> {
+    expect_all(&rt, rt.alloc(), &UNREAD)
+}
+
+#[test]
+fn passes_over_what_it_does_not_know(rt: HostRuntime) -> Result<(), AllocError> {
+    let mixed = Case {
+        commits: &[&[
+            OPENING,
+            " \t\r\n",
+            "{\"other\":{}}\n{\"txn\":{\"appId\":\"app\",\"version\":1}}\n",
+            "{\"commitInfo\":{\"operation\":\"WRITE\"}}",
+        ]],
+        output: &[PRINTED_OPENING],
         ..QUERY
     };
-    let gap = Case {
-        commits: &[&[OPENING]],
-        other: "t/_delta_log/00000000000000000002.json",
-        ..not_read
-    };
-    let unopened = Case {
-        commits: &[&[ADD_OF_SIZE_1]],
-        ..not_read
-    };
-    let twice = Case {
-        commits: &[&[OPENING, ADD_OF_SIZE_1, REMOVE]],
-        ..not_read
-    };
-    expect_all(&rt, rt.alloc(), &[gap, unopened, twice])
+    expect(&rt, rt.alloc(), &mixed)
 }
 
 #[test]

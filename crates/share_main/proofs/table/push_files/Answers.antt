@@ -1,4 +1,4 @@
-use Rattle.std.proofs.Common.{◌≡◌, ◌++◌, ◌∙◌, ap, sym, append_assoc, flat_map, take, string_bytes}
+use Rattle.std.proofs.Common.{◌++◌, ◌∙◌, ap, sym, append_assoc, string_bytes}
 use Rattle.share_lines.specs.Lines.{file_line}
 use Rattle.share_main.proofs.Files.{flat_map-take-one}
 use Rattle.share_main.proofs.table.push_files.Goals as goal

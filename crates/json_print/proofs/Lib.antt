@@ -1,0 +1,5 @@
+pub mod RoundTrip
+pub mod TokenLemmas
+pub mod Lookups
+pub mod Plainness
+pub mod LengthLemmas

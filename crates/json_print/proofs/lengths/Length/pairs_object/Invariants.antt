@@ -1,0 +1,11 @@
+use Rattle.std.proofs.Common.{◌≡◌, map, drop}
+use Rattle.json.specs.Tree.{members_tokens}
+use Rattle.json_tree.specs.Lists.{pair_of}
+use Rattle.serde_json.specs.Written.{members_outline}
+use Rattle.json_print.specs.Lengths.{counted}
+use Rattle.json_print.specs.Tokens.{value_tokens}
+use Rattle.json_print.specs.Values.{pair_members, pairs_value}
+use Rattle.json_print.proofs.lengths.Length.pairs_object.Given as goal
+
+abbrev pub invariant-loop-pair : goal.invariant-loop-pair
+invariant-loop-pair l = counted l.length (members_tokens (members_outline (pair_members (map pair_of (drop l.pair-index l.pairs))))) ≡ counted l.fn.self (value_tokens (pairs_value (map pair_of l.pairs)))

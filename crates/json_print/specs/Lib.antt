@@ -1,0 +1,5 @@
+pub mod Fields
+pub mod Lengths
+pub mod Plain
+pub mod Tokens
+pub mod Values

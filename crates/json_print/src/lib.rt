@@ -1,0 +1,18 @@
+//! JSON objects (RFC 8259) printed compactly, field after field, and read back.
+#![tactic(auto)]
+
+mod field_lengths;
+mod fields;
+mod lengths;
+mod text;
+
+pub use fields::{
+    count_field, flag_field, nonempty_pairs_field, optional_count_field, optional_pairs_field,
+    optional_text_field, optional_texts_field, optional_whole_field, pairs_field, text_field,
+    texts_field, whole_field,
+};
+pub use lengths::Length;
+pub use text::{begin_object, end_object, new_writer, printed};
+
+#[cfg(test)]
+mod tests;

@@ -1,0 +1,211 @@
+// The line of an action.
+ghost use Rattle.std.specs.Prelude.{◌≡◌, ◌<◌, ◌^◌, Ok, Some, IfOk, IfSome, OnOk, codes, false, option_map};
+ghost use Rattle.json_print.specs.Fields.{object_of};
+ghost use Rattle.json_print.specs.Tokens.{Adds, field_tokens, value_tokens};
+ghost use Rattle.json_print.specs.Values.{count_value};
+ghost use Rattle.log_actions.specs.Kept.{Kept, KeptAdd, KeptCdc, KeptCommitInfo, KeptMetaData, KeptProtocol, KeptRemove, KeptTxn};
+ghost use Rattle.log_actions.specs.Lines.{action_at};
+ghost use Rattle.log_actions.specs.Printing.{action_data, action_fields, action_name, add_fields, cdc_fields, commit_info_fields, format_fields, has_vector, line_text, meta_data_fields, protocol_fields, remove_fields, txn_fields};
+ghost use Rattle.log_actions.specs.Ranges.{times_end};
+ghost use Rattle.json_tree.specs.Pairs.{IsPairs};
+
+use crate::{
+    Action, AddFile, CdcFile, CommitInfo, CommitTime, FileSize, Format, MetaData, Protocol,
+    ProtocolVersion, RemoveFile, Txn,
+};
+use json::Writer;
+use json_print::{
+    begin_object, count_field, end_object, flag_field, new_writer, optional_pairs_field,
+    optional_text_field, optional_texts_field, optional_whole_field, pairs_field, printed,
+    text_field, texts_field, whole_field,
+};
+use json_tree::Text;
+use std::alloc::{AllocError, Global};
+
+// Room for most lines.
+const ROOM: usize = 512;
+
+fn version_field(line: &mut Writer, name: &str, version: ProtocolVersion) -> Result<(), AllocError>
+    ensures written { OnOk result (Adds line.old line.new (field_tokens (name.now, Some (count_value version)))) }
+    ensures bound { version < 2 ^ 31 }
+{
+    count_field(line, name, version.get().into())
+}
+
+fn size_field(line: &mut Writer, size: FileSize) -> Result<(), AllocError>
+    ensures written { OnOk result (Adds line.old line.new (field_tokens (codes "size", Some (count_value size)))) }
+    ensures bound { size < 2 ^ 63 }
+{
+    count_field(line, "size", size.get())
+}
+
+fn optional_size_field(line: &mut Writer, size: Option<FileSize>) -> Result<(), AllocError>
+    ensures written { OnOk result (Adds line.old line.new (field_tokens (codes "size", option_map count_value size))) }
+    ensures bound { IfSome size (λ n. n < 2 ^ 63) }
+{
+    match size {
+        Some(size) => size_field(line, size),
+        None => Ok(()),
+    }
+}
+
+fn optional_time_field(line: &mut Writer, time: Option<CommitTime>) -> Result<(), AllocError>
+    ensures written { OnOk result (Adds line.old line.new (field_tokens (codes "timestamp", option_map count_value time))) }
+    ensures bound { IfSome time (λ n. n < times_end) }
+{
+    match time {
+        Some(time) => count_field(line, "timestamp", time.get()),
+        None => Ok(()),
+    }
+}
+
+fn protocol_object(line: &mut Writer, protocol: &Protocol) -> Result<(), AllocError>
+    ensures written { OnOk result (Adds line.old line.new (value_tokens (object_of (protocol_fields protocol.now)))) }
+    ensures kept { OnOk result (KeptProtocol protocol.now) }
+{
+    begin_object(line)?;
+    version_field(line, "minReaderVersion", protocol.min_reader)?;
+    version_field(line, "minWriterVersion", protocol.min_writer)?;
+    optional_texts_field(line, "readerFeatures", &protocol.reader_features)?;
+    optional_texts_field(line, "writerFeatures", &protocol.writer_features)?;
+    end_object(line)
+}
+
+fn format_object(line: &mut Writer, format: &Format) -> Result<(), AllocError>
+    ensures written { OnOk result (Adds line.old line.new (value_tokens (object_of (format_fields format.now)))) }
+    ensures kept { OnOk result (IsPairs format.now.options) }
+{
+    begin_object(line)?;
+    pairs_field(line, "options", &format.options)?;
+    text_field(line, "provider", &format.provider)?;
+    end_object(line)
+}
+
+fn meta_data_object(line: &mut Writer, meta: &MetaData) -> Result<(), AllocError>
+    ensures written { OnOk result (Adds line.old line.new (value_tokens (object_of (meta_data_fields meta.now)))) }
+    ensures kept { OnOk result (KeptMetaData meta.now) }
+{
+    begin_object(line)?;
+    pairs_field(line, "configuration", &meta.configuration)?;
+    optional_whole_field(line, "createdTime", meta.created)?;
+    optional_text_field(line, "description", &meta.description)?;
+    line.key("format")?;
+    format_object(line, &meta.format)?;
+    text_field(line, "id", &meta.id)?;
+    optional_text_field(line, "name", &meta.name)?;
+    texts_field(line, "partitionColumns", &meta.columns)?;
+    text_field(line, "schemaString", &meta.schema)?;
+    end_object(line)
+}
+
+fn add_object(line: &mut Writer, file: &AddFile) -> Result<(), AllocError>
+    ensures written { OnOk result (Adds line.old line.new (value_tokens (object_of (add_fields file.now)))) }
+    ensures kept { OnOk result (KeptAdd file.now) }
+{
+    begin_object(line)?;
+    flag_field(line, "dataChange", file.data_change)?;
+    whole_field(line, "modificationTime", file.modified)?;
+    pairs_field(line, "partitionValues", &file.values)?;
+    text_field(line, "path", &file.path)?;
+    size_field(line, file.size)?;
+    optional_text_field(line, "stats", &file.stats)?;
+    optional_pairs_field(line, "tags", &file.tags)?;
+    end_object(line)
+}
+
+fn remove_object(line: &mut Writer, file: &RemoveFile) -> Result<(), AllocError>
+    ensures written { OnOk result (Adds line.old line.new (value_tokens (object_of (remove_fields file.now)))) }
+    ensures kept { OnOk result (KeptRemove file.now) }
+{
+    begin_object(line)?;
+    flag_field(line, "dataChange", file.data_change)?;
+    optional_whole_field(line, "deletionTimestamp", file.deleted)?;
+    optional_pairs_field(line, "partitionValues", &file.values)?;
+    text_field(line, "path", &file.path)?;
+    optional_size_field(line, file.size)?;
+    end_object(line)
+}
+
+fn cdc_object(line: &mut Writer, file: &CdcFile) -> Result<(), AllocError>
+    ensures written { OnOk result (Adds line.old line.new (value_tokens (object_of (cdc_fields file.now)))) }
+    ensures kept { OnOk result (KeptCdc file.now) }
+{
+    begin_object(line)?;
+    flag_field(line, "dataChange", false)?;
+    pairs_field(line, "partitionValues", &file.values)?;
+    text_field(line, "path", &file.path)?;
+    size_field(line, file.size)?;
+    end_object(line)
+}
+
+fn txn_object(line: &mut Writer, txn: &Txn) -> Result<(), AllocError>
+    ensures written { OnOk result (Adds line.old line.new (value_tokens (object_of (txn_fields txn.now)))) }
+    ensures kept { OnOk result (KeptTxn txn.now) }
+{
+    begin_object(line)?;
+    text_field(line, "appId", &txn.app)?;
+    optional_whole_field(line, "lastUpdated", txn.updated)?;
+    whole_field(line, "version", txn.version)?;
+    end_object(line)
+}
+
+fn commit_info_object(line: &mut Writer, info: &CommitInfo) -> Result<(), AllocError>
+    ensures written { OnOk result (Adds line.old line.new (value_tokens (object_of (commit_info_fields info.now)))) }
+    ensures kept { OnOk result (KeptCommitInfo info.now) }
+{
+    begin_object(line)?;
+    optional_time_field(line, info.timestamp)?;
+    end_object(line)
+}
+
+pub fn name_of(action: &Action) -> &'static str
+    ensures { result.now ≡ action_name action.now }
+{
+    match action {
+        Action::Protocol(_) => "protocol",
+        Action::MetaData(_) => "metaData",
+        Action::Add(_) => "add",
+        Action::Remove(_) => "remove",
+        Action::Cdc(_) => "cdc",
+        Action::Txn(_) => "txn",
+        Action::CommitInfo(_) => "commitInfo",
+    }
+}
+
+fn value_object(line: &mut Writer, action: &Action) -> Result<(), AllocError>
+    ensures written { OnOk result (Adds line.old line.new (value_tokens (object_of (action_fields action.now)))) }
+    ensures kept { OnOk result (Kept action.now) }
+{
+    match action {
+        Action::Protocol(protocol) => protocol_object(line, protocol),
+        Action::MetaData(meta) => meta_data_object(line, meta),
+        Action::Add(file) => add_object(line, file),
+        Action::Remove(file) => remove_object(line, file),
+        Action::Cdc(file) => cdc_object(line, file),
+        Action::Txn(txn) => txn_object(line, txn),
+        Action::CommitInfo(info) => commit_info_object(line, info),
+    }
+}
+
+fn action_object(line: &mut Writer, action: &Action) -> Result<(), AllocError>
+    ensures written { OnOk result (Adds line.old line.new (value_tokens (action_data action.now))) }
+    ensures kept { OnOk result (Kept action.now) }
+{
+    begin_object(line)?;
+    line.key(name_of(action))?;
+    value_object(line, action)?;
+    end_object(line)
+}
+
+/// The line of an action, without a line feed: a compact JSON object with the action's name alone,
+/// whose value has each field that has a value, in byte order of the names. A deletion vector is
+/// left out; the line of an action without one is read as that action. It fails where memory is
+/// wanting.
+pub fn line_of_action(alloc: Global, action: &Action) -> Result<Text, AllocError>
+    ensures text { IfOk result (λ t. t ≡ line_text action.now) }
+    ensures back { IfOk result (λ t. has_vector action.now ≡ false → action_at t ≡ Ok (Some action.now)) }
+{
+    let mut line = new_writer(alloc, ROOM)?;
+    action_object(&mut line, action)?;
+    Ok(Text::of(printed(line)))
+}
