@@ -1,0 +1,4 @@
+pub mod Printing
+pub mod Reading
+pub mod RecordNames
+pub mod Records

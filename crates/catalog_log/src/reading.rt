@@ -1,0 +1,355 @@
+// The edits that JSON values and records stand for.
+ghost use Rattle.std.specs.Prelude.{◌≡◌, ◌≤◌, bytes_eq, option_map, option_and_then, codes};
+ghost use Rattle.serde_json.specs.Find.{as_bool};
+ghost use Rattle.serde_json.specs.View.{view};
+ghost use Rattle.hex.specs.Hex.{encode_lower};
+ghost use Rattle.json_tree.specs.Fields.{present};
+ghost use Rattle.catalog_log.specs.Reading.{bind_in, binding_in, credential_in, digest_in, digest_of as digest_of_text, drop_recipient_in, drop_share_in, edit_in, expiry_of, grant_in, has as has_member, kind_count, grants_in, kind_in, location_in, millis, name_in, new_recipient_in, new_share_in, one_if, recipients_in, revoke_in, rotate_in, table_in, text_in, unbind_in};
+ghost use Rattle.catalog_log.specs.Records.{Gives, GivesRecord, edit_of_record, is_version_1 as is_1, record_in, without_line_feed as without_line_feed_in};
+
+use crate::RecordFault;
+use edge_core::{Name, is_name_text};
+use hex::FromHex;
+use json_tree::{TreeFault, member_at, tree_of};
+use serde_json::Value;
+use share_catalog::{
+    Binding, CatalogName, Credential, Edit, Expiry, Location, TableName, is_catalog_name_text,
+};
+use std::alloc::Global;
+
+fn text_at<'a>(object: &'a Value, name: &str) -> Option<&'a str>
+    ensures { option_map (λ s. s.now) result ≡ text_in name.now (view object.now) }
+{
+    member_at(object, name)?.as_str()
+}
+
+fn name_at(alloc: Global, object: &Value, field: &str) -> Result<CatalogName, RecordFault>
+    ensures { Gives result (name_in field.now (view object.now)) }
+{
+    let Some(text) = text_at(object, field) else {
+        return Err(RecordFault::BadRecord);
+    };
+    if !is_catalog_name_text(text) {
+        return Err(RecordFault::BadRecord);
+    }
+    match CatalogName::of(String::from_str(alloc, text)?) {
+        Some(name) => Ok(name),
+        None => Err(RecordFault::BadRecord),
+    }
+}
+
+fn location_at(alloc: Global, object: &Value) -> Result<Location, RecordFault>
+    ensures { Gives result (location_in (view object.now)) }
+{
+    let Some(text) = text_at(object, "location") else {
+        return Err(RecordFault::BadRecord);
+    };
+    if !is_name_text(text) {
+        return Err(RecordFault::BadRecord);
+    }
+    let Some(name) = Name::of(String::from_str(alloc, text)?) else {
+        return Err(RecordFault::BadRecord);
+    };
+    match Location::of(name) {
+        Some(location) => Ok(location),
+        None => Err(RecordFault::BadRecord),
+    }
+}
+
+fn digits_of(bytes: &[u8; 32]) -> [u8; 64]
+    ensures { result ≡ encode_lower bytes.now }
+{
+    let mut text = [0u8; 64];
+    hex::encode_to_slice(bytes.as_slice(), &mut text).unwrap();
+    text
+}
+
+fn spells(bytes: &[u8; 32], text: &str) -> bool
+    ensures { result ≡ bytes_eq (encode_lower bytes.now) text.now }
+{
+    digits_of(bytes).as_slice() == text.as_bytes()
+}
+
+// The bytes that 64 lower-case digits spell.
+fn digest_of(text: &str) -> Option<[u8; 32]>
+    ensures { result ≡ digest_of_text text.now }
+{
+    match <[u8; 32] as FromHex>::from_hex(text) {
+        Ok(bytes) => {
+            if spells(&bytes, text) {
+                Some(bytes)
+            } else {
+                None
+            }
+        }
+        Err(_) => None,
+    }
+}
+
+fn digest_at(object: &Value) -> Option<[u8; 32]>
+    ensures { result ≡ digest_in (view object.now) }
+{
+    digest_of(text_at(object, "digest")?)
+}
+
+// When a credential ends: `Some(None)` where it has no end, and `None` where the field is of another
+// kind.
+fn expiry_at(object: &Value) -> Option<Option<Expiry>>
+    ensures { result ≡ expiry_of (present (codes "expires") (view object.now)) }
+{
+    let Some(value) = member_at(object, "expires") else {
+        return Some(None);
+    };
+    match u64::try_from(value.as_i64()?) {
+        Ok(moment) => Some(Some(Expiry::of(moment)?)),
+        Err(_) => None,
+    }
+}
+
+fn credential_at(object: &Value) -> Option<Credential>
+    ensures { result ≡ credential_in (view object.now) }
+{
+    let digest = digest_at(object)?;
+    let expires = expiry_at(object)?;
+    Some(Credential { digest, expires })
+}
+
+fn table_at(alloc: Global, object: &Value) -> Result<TableName, RecordFault>
+    ensures { Gives result (table_in (view object.now)) }
+{
+    Ok(TableName {
+        share: name_at(alloc, object, "share")?,
+        schema: name_at(alloc, object, "schema")?,
+        table: name_at(alloc, object, "table")?,
+    })
+}
+
+fn history_at(object: &Value) -> Option<bool>
+    ensures { result ≡ option_and_then as_bool (present (codes "history") (view object.now)) }
+{
+    member_at(object, "history")?.as_bool()
+}
+
+fn binding_at(alloc: Global, object: &Value) -> Result<Binding, RecordFault>
+    ensures { Gives result (binding_in (view object.now)) }
+{
+    let Some(history) = history_at(object) else {
+        return Err(RecordFault::BadRecord);
+    };
+    Ok(Binding {
+        history,
+        location: location_at(alloc, object)?,
+    })
+}
+
+fn new_share_at(alloc: Global, object: &Value) -> Result<Edit, RecordFault>
+    ensures { Gives result (new_share_in (view object.now)) }
+{
+    Ok(Edit::NewShare {
+        name: name_at(alloc, object, "name")?,
+    })
+}
+
+fn drop_share_at(alloc: Global, object: &Value) -> Result<Edit, RecordFault>
+    ensures { Gives result (drop_share_in (view object.now)) }
+{
+    Ok(Edit::DropShare {
+        name: name_at(alloc, object, "name")?,
+    })
+}
+
+fn bind_at(alloc: Global, object: &Value) -> Result<Edit, RecordFault>
+    ensures { Gives result (bind_in (view object.now)) }
+{
+    Ok(Edit::Bind {
+        table: table_at(alloc, object)?,
+        binding: binding_at(alloc, object)?,
+    })
+}
+
+fn unbind_at(alloc: Global, object: &Value) -> Result<Edit, RecordFault>
+    ensures { Gives result (unbind_in (view object.now)) }
+{
+    Ok(Edit::Unbind {
+        table: table_at(alloc, object)?,
+    })
+}
+
+fn new_recipient_at(alloc: Global, object: &Value) -> Result<Edit, RecordFault>
+    ensures { Gives result (new_recipient_in (view object.now)) }
+{
+    let name = name_at(alloc, object, "name")?;
+    match credential_at(object) {
+        Some(credential) => Ok(Edit::NewRecipient { name, credential }),
+        None => Err(RecordFault::BadRecord),
+    }
+}
+
+fn rotate_at(alloc: Global, object: &Value) -> Result<Edit, RecordFault>
+    ensures { Gives result (rotate_in (view object.now)) }
+{
+    let name = name_at(alloc, object, "name")?;
+    match credential_at(object) {
+        Some(credential) => Ok(Edit::Rotate { name, credential }),
+        None => Err(RecordFault::BadRecord),
+    }
+}
+
+fn drop_recipient_at(alloc: Global, object: &Value) -> Result<Edit, RecordFault>
+    ensures { Gives result (drop_recipient_in (view object.now)) }
+{
+    Ok(Edit::DropRecipient {
+        name: name_at(alloc, object, "name")?,
+    })
+}
+
+fn grant_at(alloc: Global, object: &Value) -> Result<Edit, RecordFault>
+    ensures { Gives result (grant_in (view object.now)) }
+{
+    Ok(Edit::Grant {
+        recipient: name_at(alloc, object, "recipient")?,
+        share: name_at(alloc, object, "share")?,
+    })
+}
+
+fn revoke_at(alloc: Global, object: &Value) -> Result<Edit, RecordFault>
+    ensures { Gives result (revoke_in (view object.now)) }
+{
+    Ok(Edit::Revoke {
+        recipient: name_at(alloc, object, "recipient")?,
+        share: name_at(alloc, object, "share")?,
+    })
+}
+
+fn has(object: &Value, name: &str) -> u8
+    ensures value { result ≡ one_if (has_member name.now (view object.now)) }
+    ensures small { result ≤ 1 }
+{
+    if member_at(object, name).is_some() {
+        1
+    } else {
+        0
+    }
+}
+
+// How many of the nine kinds have a member that isn't null.
+fn count_kinds(object: &Value) -> u8
+    ensures { result ≡ kind_count (view object.now) }
+{
+    has(object, "newShare")
+        + has(object, "dropShare")
+        + has(object, "bind")
+        + has(object, "unbind")
+        + has(object, "newRecipient")
+        + has(object, "rotate")
+        + has(object, "dropRecipient")
+        + has(object, "grant")
+        + has(object, "revoke")
+}
+
+// The edit of a kind of the grants, by the member of the kind.
+fn grants_at(alloc: Global, object: &Value) -> Result<Edit, RecordFault>
+    ensures { Gives result (grants_in (view object.now)) }
+{
+    if let Some(value) = member_at(object, "grant") {
+        return grant_at(alloc, value);
+    }
+    if let Some(value) = member_at(object, "revoke") {
+        return revoke_at(alloc, value);
+    }
+    Err(RecordFault::BadRecord)
+}
+
+// The edit of a kind of the recipients or the grants.
+fn recipients_at(alloc: Global, object: &Value) -> Result<Edit, RecordFault>
+    ensures { Gives result (recipients_in (view object.now)) }
+{
+    if let Some(value) = member_at(object, "newRecipient") {
+        return new_recipient_at(alloc, value);
+    }
+    if let Some(value) = member_at(object, "rotate") {
+        return rotate_at(alloc, value);
+    }
+    if let Some(value) = member_at(object, "dropRecipient") {
+        return drop_recipient_at(alloc, value);
+    }
+    grants_at(alloc, object)
+}
+
+// The edit of the kind that has a member.
+fn kind_at(alloc: Global, object: &Value) -> Result<Edit, RecordFault>
+    ensures { Gives result (kind_in (view object.now)) }
+{
+    if let Some(value) = member_at(object, "newShare") {
+        return new_share_at(alloc, value);
+    }
+    if let Some(value) = member_at(object, "dropShare") {
+        return drop_share_at(alloc, value);
+    }
+    if let Some(value) = member_at(object, "bind") {
+        return bind_at(alloc, value);
+    }
+    if let Some(value) = member_at(object, "unbind") {
+        return unbind_at(alloc, value);
+    }
+    recipients_at(alloc, object)
+}
+
+/// The edit that a JSON object stands for: of the nine kinds `newShare`, `dropShare`, `bind`,
+/// `unbind`, `newRecipient`, `rotate`, `dropRecipient`, `grant` and `revoke` it has exactly one
+/// member that isn't null, which has the fields of the kind. Other members are passed over. The
+/// fault is `BadRecord` or `NoMemory`.
+pub fn edit_at(alloc: Global, object: &Value) -> Result<Edit, RecordFault>
+    ensures { Gives result (edit_in (view object.now)) }
+{
+    if count_kinds(object) == 1 {
+        kind_at(alloc, object)
+    } else {
+        Err(RecordFault::BadRecord)
+    }
+}
+
+fn is_version_1(object: &Value) -> bool
+    ensures { result ≡ is_1 (option_and_then millis (present (codes "version") (view object.now))) }
+{
+    match member_at(object, "version") {
+        Some(version) => version.as_i64() == Some(1),
+        None => false,
+    }
+}
+
+// The edit of a record's object.
+fn record_edit(alloc: Global, object: &Value) -> Result<Edit, RecordFault>
+    ensures { Gives result (edit_of_record (view object.now)) }
+{
+    if !is_version_1(object) {
+        return Err(RecordFault::BadRecord);
+    }
+    match member_at(object, "edit") {
+        Some(edit) => edit_at(alloc, edit),
+        None => Err(RecordFault::BadRecord),
+    }
+}
+
+fn without_line_feed(bytes: &[u8]) -> &[u8]
+    ensures { result.now ≡ without_line_feed_in bytes.now }
+{
+    match bytes.last() {
+        Some(b'\n') => &bytes[..bytes.len() - 1],
+        _ => bytes,
+    }
+}
+
+/// The edit of a record: the JSON text of an object with the members `edit` and `version`, which is
+/// 1, perhaps with a line feed behind it. Other members are passed over. It is what `bytes_of_edit`
+/// writes.
+pub fn edit_of(alloc: Global, bytes: &[u8]) -> Result<Edit, RecordFault>
+    ensures { GivesRecord result (record_in bytes.now) }
+{
+    match tree_of(alloc, without_line_feed(bytes)) {
+        Ok(object) => record_edit(alloc, &object),
+        Err(TreeFault::NotUtf8) => Err(RecordFault::NotUtf8),
+        Err(TreeFault::NotJson) => Err(RecordFault::NotJson),
+        Err(TreeFault::NoMemory) => Err(RecordFault::NoMemory),
+    }
+}

@@ -1,0 +1,13 @@
+mod After
+mod AfterGrants
+mod AfterRecipients
+mod AfterShares
+mod KeyTests
+mod LawProofs
+mod ListingLemmas
+mod Orders
+mod Quiet
+mod Refusals
+mod Set
+mod SortedLemmas
+mod Words

@@ -1,0 +1,16 @@
+pub mod CatalogState
+pub mod Catalogue
+pub mod Entries
+pub mod Fits
+pub mod Grammar
+pub mod HeldMaps
+pub mod Kept
+pub mod Laws
+pub mod Listed
+pub mod Listing
+pub mod Locations
+pub mod Maps
+pub mod Past
+pub mod Sorted
+pub mod Spares
+pub mod TableNames

@@ -1,0 +1,32 @@
+// Laws of the catalogue. Each function does nothing when it is called.
+ghost use Rattle.share_catalog.specs.Laws.{ComesBackEmpty, CountedIsNeverFull, EditionsRise, GrantsAgain, LeavesOthers, LeavesShares};
+
+/// A law: a share that was dropped and made again has no bindings and no grants. It does nothing
+/// when it is called.
+pub fn share_comes_back_empty()
+    ensures { ComesBackEmpty }
+{}
+
+/// A law: a grant that was taken back and given again has the next edition. It does nothing when it
+/// is called.
+pub fn grant_comes_back_later()
+    ensures { GrantsAgain }
+{}
+
+/// A law: no edition falls by an edit. It does nothing when it is called.
+pub fn editions_rise()
+    ensures { EditionsRise }
+{}
+
+/// A law: an edit leaves what a recipient sees that it doesn't name, in shares that it doesn't name.
+/// It does nothing when it is called.
+pub fn others_see_the_same()
+    ensures recipients { LeavesOthers }
+    ensures shares { LeavesShares }
+{}
+
+/// A law: a name, a pair or a location that was counted before meets no limit. It does nothing when
+/// it is called.
+pub fn counted_is_never_full()
+    ensures { CountedIsNeverFull }
+{}

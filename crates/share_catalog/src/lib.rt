@@ -1,0 +1,31 @@
+//! The catalogue of shares, bindings of tables, recipients and grants.
+#![tactic(auto)]
+
+mod catalog;
+mod changes;
+mod credential;
+mod edit;
+mod held;
+mod laws;
+mod listing;
+mod location;
+mod name;
+mod past;
+mod sorted;
+mod state;
+mod table_name;
+
+pub use catalog::Catalog;
+pub use credential::{Credential, Expiry};
+pub use edit::{Binding, Edit, EditRefusal};
+pub use laws::{
+    counted_is_never_full, editions_rise, grant_comes_back_later, others_see_the_same,
+    share_comes_back_empty,
+};
+pub use listing::{Bound, Granted};
+pub use location::Location;
+pub use name::{CatalogName, is_catalog_name_text};
+pub use table_name::TableName;
+
+#[cfg(test)]
+mod tests;

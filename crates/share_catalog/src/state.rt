@@ -1,0 +1,55 @@
+// What is held of a share, a recipient, a table's name and a pair that was granted.
+use crate::credential::Credential;
+use crate::edit::Binding;
+use crate::name::CatalogName;
+
+// A share that was ever made.
+#[derive(Clone, Copy)]
+pub struct ShareState {
+    // Whether it is there now.
+    pub stands: bool,
+    // How often it was made.
+    pub made: u64,
+}
+
+// A recipient that was ever made.
+#[derive(Clone, Copy)]
+pub struct RecipientState {
+    // Whether it is there now.
+    pub stands: bool,
+    // How often it was made.
+    pub made: u64,
+    // The credential that it got last.
+    pub credential: Credential,
+}
+
+// A table that was ever bound.
+#[derive(Drop)]
+pub struct TableState {
+    // What the last edit of the table itself left.
+    pub binding: Option<Binding>,
+    // How often its share had been made then. The binding ended where the share was dropped since.
+    pub share_made: u64,
+    // How often the table was bound.
+    pub edition: u64,
+}
+
+// A pair that was ever granted.
+#[derive(Clone, Copy)]
+pub struct GrantState {
+    // What the last edit of the pair itself left.
+    pub granted: bool,
+    // How often its recipient had been made then. The grant ended where it was dropped since.
+    pub recipient_made: u64,
+    // How often its share had been made then. The grant ended where it was dropped since.
+    pub share_made: u64,
+    // How often the pair was granted.
+    pub edition: u64,
+}
+
+// A recipient with a share.
+#[derive(Drop)]
+pub struct Pair {
+    pub recipient: CatalogName,
+    pub share: CatalogName,
+}
