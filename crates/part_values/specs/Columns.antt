@@ -1,5 +1,6 @@
 -- The types of partition columns (Delta Lake PROTOCOL.md, "Schema Serialization Format").
 use Rattle.std.specs.Prelude.{ℕ, Bool, false, List, map, bytes_eq, codes, Option, Some, None, Result, Ok, Err, option_and_then, option_map, if◌then◌else◌}
+use Rattle.std.specs.List.{find}
 use Rattle.serde_json.specs.Data.{Data, null, Items, no_items, item}
 use Rattle.serde_json.specs.Find.{as_array, as_str, get}
 use Rattle.json_tree.specs.Tree.{tree_in}
@@ -73,3 +74,7 @@ fields_in schema = or_no_items (option_and_then as_array (get (codes "fields") s
 -- each column with its type
 abbrev pub columns_in : List ℕ → List (List ℕ) → List (List ℕ × PartType)
 columns_in schema columns = map (λ column. (column, or_other (first_kind column (fields_in (schema_in schema))))) columns
+
+-- the type of the first column of that name
+abbrev pub kind_of_column : List ℕ → List (List ℕ × PartType) → Option PartType
+kind_of_column name columns = option_map (λ c. c.1) (find (λ c. bytes_eq c.0 name) columns)

@@ -1,7 +1,7 @@
 // Partition columns and their types.
 ghost use Rattle.std.specs.Prelude.{◌≡◌, IfOk, List, map, option_map, ℕ};
 ghost use Rattle.serde_json.specs.View.{items_view, view};
-ghost use Rattle.part_values.specs.Columns.{column_of, columns_in, fields_in, first_kind, kind_by, kind_named as the_kind_named, kind_of as the_kind_of, or_kind, or_other, schema_in, text_in as the_text_in};
+ghost use Rattle.part_values.specs.Columns.{column_of, columns_in, fields_in, first_kind, kind_by, kind_of_column, kind_named as the_kind_named, kind_of as the_kind_of, or_kind, or_other, schema_in, text_in as the_text_in};
 ghost use Rattle.part_values.specs.Kinds.{kind_at};
 
 use crate::PartType;
@@ -50,6 +50,26 @@ impl Columns {
     {
         &self.items
     }
+
+    /// The type of the first column of that name, none exactly where no column has it. Names are
+    /// compared byte by byte. Takes no memory, and time in proportion to the columns.
+    pub fn kind_of(&self, name: &str) -> Option<PartType>
+        ensures { result ≡ kind_of_column name.now self.now }
+    {
+        kind_in(&self.items, name)
+    }
+}
+
+// The type of the first column of that name.
+fn kind_in(columns: &[Column], name: &str) -> Option<PartType>
+    ensures { result ≡ kind_of_column name.now (map column_of columns.now) }
+{
+    for column in columns {
+        if column.name.as_str() == name {
+            return Some(column.kind);
+        }
+    }
+    None
 }
 
 fn kind_named(name: &str) -> PartType

@@ -100,6 +100,8 @@ fn types_columns_by_the_first_field_of_their_name(rt: HostRuntime) -> Result<(),
         assert_eq!(rt; found.items()[i].kind, kinds[i], "at {i}");
         assert!(rt; found.items()[i].name.as_str() == names[i]);
     }
+    assert!(rt; found.kind_of("y") == Some(PartType::Int));
+    assert!(rt; found.kind_of("x").is_none());
     Ok(())
 }
 
