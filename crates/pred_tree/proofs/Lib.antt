@@ -1,0 +1,4 @@
+mod Fronts
+mod Kleene
+mod LawProofs
+mod Levels

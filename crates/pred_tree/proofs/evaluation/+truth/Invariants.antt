@@ -1,0 +1,15 @@
+use Rattle.std.proofs.Common.{◌≡◌, drop}
+use Rattle.pred_tree.specs.Tree.{trees}
+use Rattle.pred_tree.specs.Truth.{all_true, any_true, both, either, truths}
+use Rattle.pred_tree.proofs.evaluation.+truth.Given as goal
+
+-- what is known, and the truths of the predicates that are left, make the truth of all
+abbrev pub invariant-all_true-loop-child : goal.invariant-all_true-loop-child
+invariant-all_true-loop-child l =
+    both l.all (all_true (truths l.columns l.values (trees (drop l.child-index l.child-items))))
+    ≡ all_true (truths l.columns l.values (trees l.child-items))
+
+abbrev pub invariant-any_true-loop-child : goal.invariant-any_true-loop-child
+invariant-any_true-loop-child l =
+    either l.any (any_true (truths l.columns l.values (trees (drop l.child-index l.child-items))))
+    ≡ any_true (truths l.columns l.values (trees l.child-items))

@@ -1,0 +1,45 @@
+-- Laws of the truth of predicates.
+use Rattle.std.specs.Prelude.{◌≡◌, ℕ, List, Bool, true, false, ◌||◌, Option, Some, None, bytes_eq}
+use Rattle.json_tree.specs.declared.pairs.Pairs.{Pairs}
+use Rattle.part_values.specs.declared.columns.Columns.{Columns}
+use Rattle.pred_tree.specs.Tree.{Tree, all_of, any_of, negated, null_at, compared, Trees, no_trees, first_tree}
+use Rattle.pred_tree.specs.Truth.{is_listed, text_of_column, truth}
+use Rattle.pred_tree.specs.declared.tree.Leaf.{Leaf}
+use Rattle.pred_tree.specs.declared.tree.Leaf.TheVariants.{Column, Literal}
+
+abbrev pub leaf_names : List ℕ → Leaf → Bool
+leaf_names column (Column name kind) = bytes_eq name column
+leaf_names column (Literal value kind) = false
+
+-- whether the predicate names the column
+abbrev mutual
+  pub names : List ℕ → Tree → Bool
+  names column (all_of ts) = one_names column ts
+  names column (any_of ts) = one_names column ts
+  names column (negated t) = names column t
+  names column (null_at name) = bytes_eq name column
+  names column (compared c left right) = leaf_names column left || leaf_names column right
+
+  pub one_names : List ℕ → Trees → Bool
+  one_names column no_trees = false
+  one_names column (first_tree t ts) = names column t || one_names column ts
+
+-- files that hold the same at each column that a predicate names have one truth
+abbrev pub RestsOnNamed : Type 0
+RestsOnNamed = (columns : Columns) (values others : Pairs) (t : Tree)
+    → ((column : List ℕ) → names column t ≡ true → text_of_column column values ≡ text_of_column column others)
+    → truth columns values t ≡ truth columns others t
+
+-- `not` of `not` says the same
+abbrev pub NotTwiceIsSame : Type 0
+NotTwiceIsSame = (columns : Columns) (values : Pairs) (t : Tree) → truth columns values (negated (negated t)) ≡ truth columns values t
+
+-- without a predicate every file is listed
+abbrev pub NoneListsAll : Type 0
+NoneListsAll = (columns : Columns) (values : Pairs) → is_listed None columns values ≡ true
+
+-- what two predicates joined by `and` list, each of the two lists
+abbrev pub JoinedListNoMore : Type 0
+JoinedListNoMore = (columns : Columns) (values : Pairs) (s t : Tree)
+    → is_listed (Some (all_of (first_tree s (first_tree t no_trees)))) columns values ≡ true
+    → (is_listed (Some s) columns values ≡ true) × (is_listed (Some t) columns values ≡ true)

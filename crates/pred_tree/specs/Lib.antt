@@ -1,0 +1,6 @@
+pub mod Bound
+pub mod Grammar
+pub mod Kinds
+pub mod Laws
+pub mod Tree
+pub mod Truth

@@ -1,0 +1,18 @@
+//! Predicates over partition columns, and what they say of a file (Delta Sharing PROTOCOL.md,
+//! "JSON predicates for Filtering").
+#![tactic(auto)]
+
+mod bound;
+mod evaluation;
+mod kinds;
+pub mod laws;
+mod look;
+mod reading;
+mod tree;
+mod truth;
+
+pub use bound::{BoundPred, bind};
+pub use evaluation::eval;
+pub use reading::pred_of;
+pub use tree::{Comparison, Leaf, Pred};
+pub use truth::Truth;
