@@ -9,3 +9,4 @@ pub mod Reached
 pub mod NextLemmas
 pub mod PartLemmas
 pub mod CheckpointLemmas
+pub mod TimeLemmas

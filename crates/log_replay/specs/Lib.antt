@@ -2,3 +2,4 @@ pub mod Reconciliation
 pub mod Support
 pub mod State
 pub mod Applied
+pub mod Times

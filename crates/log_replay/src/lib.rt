@@ -9,8 +9,12 @@ mod snapshot;
 mod standing;
 #[cfg(test)]
 mod tests;
+#[cfg(test)]
+mod time_tests;
+mod times;
 
 pub use commits::{advance, replay};
 pub use refusal::{Cause, ReplayRefusal};
 pub use snapshot::Snapshot;
 pub use standing::Support;
+pub use times::{Bound, Mark, Unresolved, mark_of, marks_of, resolve};
