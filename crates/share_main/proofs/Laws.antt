@@ -11,7 +11,8 @@ use Rattle.share_main.specs.Words.{command_in}
 use Rattle.share_main.specs.Ends.{status, note}
 use Rattle.share_main.specs.Table.{lines_in}
 use Rattle.share_main.specs.Outside.{Outside}
-use Rattle.share_main.specs.Run.{IsSomething, IsQuery, Answers, Means, Notes, IsRun}
+use Rattle.share_main.specs.Query.{asked_in}
+use Rattle.share_main.specs.Run.{IsQuery, Answers, Means, Notes, IsRun}
 use Rattle.share_main.specs.Expected.{Deed, answered, refused, queried, done, IsCalm, Does, IsExact, IsExactAlone}
 use Rattle.share_main.specs.declared.ends.End.{End}
 use Rattle.share_main.specs.declared.ends.End.TheVariants as ends
@@ -50,17 +51,16 @@ by_answer (Some command.Help) old new input objects held noted result answer cal
     at_beginning (Some command.Help) old new input objects held noted result calm grows (deed_then old new input objects held noted result (answered answer) _ calm st n o (ap answered a))
 by_answer (Some command.Version) old new input objects held noted result answer calm grows a st n o =
     at_beginning (Some command.Version) old new input objects held noted result calm grows (deed_then old new input objects held noted result (answered answer) _ calm st n o (ap answered a))
-by_answer (Some (command.Query location)) old new input objects held noted result answer calm grows (empty, left, between) st n o =
-    let (listed, begun, ended, lines) = listed_at objects new.objects (λ os. lines_in location os ≡ answer) (subst (λ o. Between o new.objects (λ os. lines_in location os ≡ answer)) calm.tells_objects between) in
-    let nothing : input ≡ [] = subst (λ l. IfSome l (λ bytes. bytes ≡ [])) calm.tells_left empty in
-    (listed, begun, ended, deed_then old new input objects held noted result (answered answer) _ calm st n o (ap answered (sym lines) ∙ sym (ap (λ i. queried location i listed) nothing)))
+by_answer (Some (command.Query location)) old new input objects held noted result answer calm grows (query, asks, end, between) st n o =
+    let (listed, begun, ended, lines) = listed_at objects new.objects (λ os. lines_in location query os ≡ answer) (subst (λ o. Between o new.objects (λ os. lines_in location query os ≡ answer)) calm.tells_objects between) in
+    let asked : asked_in input ≡ Some query = subst (λ l. IfSome l (λ bytes. asked_in bytes ≡ Some query)) calm.tells_left asks in
+    (listed, begun, ended, deed_then old new input objects held noted result (answered answer) _ calm st n o (ap answered (sym lines) ∙ sym (ap (λ q. queried location q listed) asked)))
 
-more_then : (asked : Option Command) (input : List ℕ) (objects : Objects) → IsQuery asked → IsSomething input → refused ends.Input ≡ done asked input objects
-more_then None input objects query more = absurd query
-more_then (Some command.Help) input objects query more = absurd query
-more_then (Some command.Version) input objects query more = absurd query
-more_then (Some (command.Query location)) [] objects query more = absurd more
-more_then (Some (command.Query location)) (b ∷ bytes) objects query more = refl
+nothing_asked : (asked : Option Command) (input : List ℕ) (objects : Objects) → IsQuery asked → asked_in input ≡ None → refused ends.Input ≡ done asked input objects
+nothing_asked None input objects query none = absurd query
+nothing_asked (Some command.Help) input objects query none = absurd query
+nothing_asked (Some command.Version) input objects query none = absurd query
+nothing_asked (Some (command.Query location)) input objects query none = sym (ap (λ q. queried location q objects) none)
 
 law_at : (asked : Option Command) (old new : Outside) (end : End) (result : ℕ) (input : List ℕ) (objects : Objects) (held noted : List ℕ) → result ≡ status end → Means asked old new end → Notes old new (note end) → Grows old.objects new.objects
     → IsCalm old new input objects held noted → (result ≡ 6) ⊎ DoesAt asked new input objects held noted result
@@ -68,7 +68,7 @@ law_at asked old new ends.Words result input objects held noted st m n g calm =
     inr (at_beginning asked old new input objects held noted result calm g (deed_then old new input objects held noted result (refused ends.Words) _ calm st n (kept_then old new held calm.tells_held m.1) (sym (ap (λ a. done a input objects) m.0))))
 law_at asked old new ends.Input result input objects held noted st m n g calm =
     inr (at_beginning asked old new input objects held noted result calm g
-    (deed_then old new input objects held noted result (refused ends.Input) _ calm st n (kept_then old new held calm.tells_held m.2) (more_then asked input objects m.0 (subst (λ l. IfSome l IsSomething) calm.tells_left m.1))))
+    (deed_then old new input objects held noted result (refused ends.Input) _ calm st n (kept_then old new held calm.tells_held m.2) (nothing_asked asked input objects m.0 (subst (λ l. IfSome l (λ bytes. asked_in bytes ≡ None)) calm.tells_left m.1))))
 law_at asked old new ends.ReadFault result input objects held noted st m n g calm = absurd (calm.reads m.1)
 law_at asked old new ends.StoreFault result input objects held noted st m n g calm = absurd (calm.stores m.2)
 law_at asked old new ends.WriteFault result input objects held noted st m n g calm = absurd (calm.writes m.0)

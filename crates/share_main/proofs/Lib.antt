@@ -3,3 +3,4 @@ mod Flows
 mod Runs
 mod Laws
 mod Tables
+pub mod Queries

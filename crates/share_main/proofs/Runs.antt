@@ -9,6 +9,7 @@ use Rattle.share_main.specs.declared.ends.TableRefusal.{TableRefusal}
 use Rattle.share_main.specs.Ends.{note}
 use Rattle.share_main.specs.Table.{lines_in}
 use Rattle.share_main.specs.Outside.{Outside}
+use Rattle.share_main.specs.Query.{IsReadToEnd}
 use Rattle.share_main.specs.Run.{Answers, Means, Notes, IsRun}
 use Rattle.share_main.specs.Steps.{LeavesRest, Found, Prints, Runs, Tells}
 use Rattle.share_main.specs.declared.ends.End.{End}
@@ -38,13 +39,21 @@ printed_means asked old mid new text ends.ReadFault answers held faults p = absu
 printed_means asked old mid new text ends.StoreFault answers held faults p = absurd p
 printed_means asked old mid new text ends.NoMemory answers held faults p = absurd p
 
+-- an answer speaks of the input and of the objects alone
+answers_rest : (asked : Option Command) (old mid new : Outside) (answer : Result (List ℕ) TableRefusal) → mid.left ≡ new.left → mid.objects ≡ new.objects → Answers asked old mid answer → Answers asked old new answer
+answers_rest None old mid new answer left objects a = absurd a
+answers_rest (Some command.Help) old mid new answer left objects a = a
+answers_rest (Some command.Version) old mid new answer left objects a = a
+answers_rest (Some (command.Query location)) old mid new answer left objects (query, asks, end, between) =
+    (query, asks, subst (IsReadToEnd old.left) left end, subst (λ o. Between old.objects o (λ os. lines_in location query os ≡ answer)) objects between)
+
 -- The lines of a table were found and printed.
 pub printed_runs : (location : List ℕ) (old mid new : Outside) (text : List ℕ) (end : End) → Found location old mid text → Prints text mid new end → Runs (Some (command.Query location)) old new end
 printed_runs location old mid new text end found p =
     let rest = prints_rest text mid new end p in
     let objects : mid.objects ≡ new.objects = sym (ap (λ o. o.objects) rest) in
     record {
-      means = printed_means (Some (command.Query location)) old mid new text end (found.empty, ap (λ o. o.left) rest ∙ found.left, subst (λ o. Between old.objects o (λ os. lines_in location os ≡ Ok text)) objects found.lines) found.held found.write_faults p;
+      means = printed_means (Some (command.Query location)) old mid new text end (answers_rest (Some (command.Query location)) old mid new (Ok text) (sym (ap (λ o. o.left) rest)) objects found.answers) found.held found.write_faults p;
       notes = ap (λ o. o.noted) rest ∙ found.notes;
       note_faults = ap (λ o. o.note_faults) rest ∙ found.note_faults;
       grows = subst (λ o. Grows old.objects o) objects found.grows;
@@ -66,10 +75,7 @@ record SameCauses (mid new : Outside) : Type 0 where
   writes : mid.write_faults ≡ new.write_faults
 
 answers_then : (asked : Option Command) (old mid new : Outside) (answer : Result (List ℕ) TableRefusal) → SameCauses mid new → Answers asked old mid answer → Answers asked old new answer
-answers_then None old mid new answer same a = absurd a
-answers_then (Some command.Help) old mid new answer same a = a
-answers_then (Some command.Version) old mid new answer same a = a
-answers_then (Some (command.Query location)) old mid new answer same a = (a.0, subst (λ l. l ≡ old.left) same.left a.1, subst (λ o. Between old.objects o (λ os. lines_in location os ≡ answer)) same.objects a.2)
+answers_then asked old mid new answer same a = answers_rest asked old mid new answer same.left same.objects a
 
 means_then : (asked : Option Command) (old mid new : Outside) (end : End) → SameCauses mid new → Means asked old mid end → Means asked old new end
 means_then asked old mid new ends.Words same m = (m.0, subst (λ h. h ≡ old.held) same.held m.1)

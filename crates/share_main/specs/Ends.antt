@@ -6,11 +6,22 @@ use Rattle.share_main.specs.declared.ends.End.{End}
 use Rattle.share_main.specs.declared.ends.End.TheVariants as ends
 use Rattle.share_main.specs.declared.ends.Note.{Note}
 
+-- a table that hasn't what was asked for, and one that isn't read
+abbrev pub table_status : TableRefusal → ℕ
+table_status table.NoCommits = 4
+table_status (table.NeedsCheckpoint lowest) = 4
+table_status (table.Gap version) = 4
+table_status (table.Commit version) = 4
+table_status (table.Unsupported version) = 4
+table_status (table.TooLarge version) = 4
+table_status table.VersionRange = 3
+table_status table.TimestampRange = 3
+
 abbrev pub status : End → ℕ
 status ends.Done = 0
 status ends.Words = 2
 status ends.Input = 3
-status (ends.Table why) = 4
+status (ends.Table why) = table_status why
 status ends.ReadFault = 5
 status ends.StoreFault = 5
 status ends.WriteFault = 5
@@ -23,6 +34,8 @@ table_note (table.Gap version) = codes "share: table: gap at " ++ (decimal versi
 table_note (table.Commit version) = codes "share: table: commit " ++ (decimal version ++ codes "\n")
 table_note (table.Unsupported version) = codes "share: table: unsupported at " ++ (decimal version ++ codes "\n")
 table_note (table.TooLarge version) = codes "share: table: too large at " ++ (decimal version ++ codes "\n")
+table_note table.VersionRange = codes "share: version out of range\n"
+table_note table.TimestampRange = codes "share: timestamp out of range\n"
 
 abbrev pub note : End → List ℕ
 note ends.Done = []

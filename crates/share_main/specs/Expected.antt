@@ -6,7 +6,9 @@ use Rattle.edge_core.specs.Objects.{Objects, Grows}
 use Rattle.share_main.specs.declared.ends.TableRefusal.{TableRefusal}
 use Rattle.share_main.specs.Words.{command_in}
 use Rattle.share_main.specs.Ends.{status, note}
+use Rattle.share_main.specs.Query.{asked_in}
 use Rattle.share_main.specs.Table.{lines_in}
+use Rattle.share_request.specs.declared.query.QueryBody.{QueryBody}
 use Rattle.share_main.specs.Outside.{Outside}
 use Rattle.share_main.specs.declared.ends.End.{End}
 use Rattle.share_main.specs.declared.ends.End.TheVariants as ends
@@ -30,16 +32,15 @@ abbrev pub answered : Result (List ℕ) TableRefusal → Deed
 answered (Ok text) = printed text
 answered (Err why) = refused (ends.Table why)
 
--- a query takes no body yet, so its input is empty
-abbrev pub queried : List ℕ → List ℕ → Objects → Deed
-queried location [] objects = answered (lines_in location objects)
-queried location (b ∷ bytes) objects = refused ends.Input
+abbrev pub queried : List ℕ → Option QueryBody → Objects → Deed
+queried location (Some query) objects = answered (lines_in location query objects)
+queried location None objects = refused ends.Input
 
 abbrev pub done : Option Command → List ℕ → Objects → Deed
 done None input objects = refused ends.Words
 done (Some command.Help) input objects = printed HELP.now
 done (Some command.Version) input objects = printed VERSION.now
-done (Some (command.Query location)) input objects = queried location input objects
+done (Some (command.Query location)) input objects = queried location (asked_in input) objects
 
 abbrev pub expected : List (String Global) → List ℕ → Objects → Deed
 expected words input objects = done (command_in words) input objects

@@ -1,5 +1,6 @@
 pub mod Words
 pub mod Ends
+pub mod Query
 pub mod Table
 pub mod Outside
 pub mod Run

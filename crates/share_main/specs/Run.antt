@@ -7,23 +7,21 @@ use Rattle.edge_core.specs.Objects.{Grows, Between}
 use Rattle.share_main.specs.declared.ends.TableRefusal.{TableRefusal}
 use Rattle.share_main.specs.Ends.{note}
 use Rattle.share_main.specs.Outside.{Outside}
+use Rattle.share_main.specs.Query.{IsReadToEnd, asked_in}
 use Rattle.share_main.specs.Table.{lines_in}
+use Rattle.share_request.specs.declared.query.QueryBody.{QueryBody}
 use Rattle.share_main.specs.declared.ends.End.{End}
 use Rattle.share_main.specs.declared.ends.End.TheVariants as ends
 use Rattle.share_main.specs.declared.words.Command.{Command}
 use Rattle.share_main.specs.declared.words.Command.TheVariants as command
 use Rattle.share_main.specs.declared.words.TheConstants.{HELP, VERSION}
 
--- the input is at its end; something is left of it; each where it tells
-abbrev pub IsAtEnd : Outside → Type 0
-IsAtEnd outside = IfSome outside.left (λ bytes. bytes ≡ [])
+-- The input asks that; it asks nothing that is a query of the whole answer; each where it tells.
+abbrev pub Asks : Outside → QueryBody → Type 0
+Asks outside query = IfSome outside.left (λ input. asked_in input ≡ Some query)
 
-abbrev pub IsSomething : List ℕ → Type 0
-IsSomething [] = ⊥
-IsSomething (b ∷ bytes) = ⊤
-
-abbrev pub HasMore : Outside → Type 0
-HasMore outside = IfSome outside.left IsSomething
+abbrev pub AsksNothing : Outside → Type 0
+AsksNothing outside = IfSome outside.left (λ input. asked_in input ≡ None)
 
 -- the text was written to the output
 abbrev pub Writes : Outside → Outside → List ℕ → Type 0
@@ -42,20 +40,20 @@ IsQuery (Some command.Help) = ⊥
 IsQuery (Some command.Version) = ⊥
 IsQuery (Some (command.Query location)) = ⊤
 
--- What the command is answered. A query whose input is at its end is answered the lines of the table as the store was at one moment of the call, or why there are none.
+-- What the command is answered. A query, whose input is then read to its end, is answered the lines of the table as the store was at one moment of the call, or why there are none.
 abbrev pub Answers : Option Command → Outside → Outside → Result (List ℕ) TableRefusal → Type 0
 Answers None old new answer = ⊥
 Answers (Some command.Help) old new answer = answer ≡ Ok HELP.now
 Answers (Some command.Version) old new answer = answer ≡ Ok VERSION.now
-Answers (Some (command.Query location)) old new answer = IsAtEnd old × (new.left ≡ old.left) × Between old.objects new.objects (λ objects. lines_in location objects ≡ answer)
+Answers (Some (command.Query location)) old new answer = (query : QueryBody) × Asks old query × IsReadToEnd old.left new.left × Between old.objects new.objects (λ objects. lines_in location query objects ≡ answer)
 
 -- Why a run of the command ends so, and what it has written to the output then. Want of memory needs no cause.
 abbrev pub Means : Option Command → Outside → Outside → End → Type 0
 Means asked old new ends.Words = (asked ≡ None) × WritesNothing old new
-Means asked old new ends.Input = IsQuery asked × HasMore old × WritesNothing old new
+Means asked old new ends.Input = IsQuery asked × AsksNothing old × WritesNothing old new
 Means asked old new ends.ReadFault = IsQuery asked × Rose old.read_faults new.read_faults × WritesNothing old new
 Means asked old new (ends.Table why) = Answers asked old new (Err why) × WritesNothing old new
-Means asked old new ends.StoreFault = IsQuery asked × IsAtEnd old × Rose old.store_faults new.store_faults × WritesNothing old new
+Means asked old new ends.StoreFault = IsQuery asked × ((query : QueryBody) × Asks old query) × Rose old.store_faults new.store_faults × WritesNothing old new
 Means asked old new ends.WriteFault = Rose old.write_faults new.write_faults × ((text : List ℕ) × Answers asked old new (Ok text) × ((n : ℕ) × Writes old new (take n text)))
 Means asked old new ends.NoMemory = WritesNothing old new
 Means asked old new ends.Done = (text : List ℕ) × Answers asked old new (Ok text) × Writes old new text

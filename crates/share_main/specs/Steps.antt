@@ -4,10 +4,9 @@ use Rattle.std.specs.Bool.{OnTrue}
 use Rattle.std.specs.Io.KnownBytes.{append_known}
 use Rattle.std.specs.declared.alloc.Global.{Global}
 use Rattle.edge_core.specs.Faults.{Rose}
-use Rattle.edge_core.specs.Objects.{Grows, Between}
+use Rattle.edge_core.specs.Objects.{Grows}
 use Rattle.share_main.specs.Outside.{Outside}
-use Rattle.share_main.specs.Run.{IsAtEnd, Means, Notes, Writes}
-use Rattle.share_main.specs.Table.{lines_in}
+use Rattle.share_main.specs.Run.{Answers, Means, Notes, Writes}
 use Rattle.share_main.specs.declared.ends.End.{End}
 use Rattle.share_main.specs.declared.ends.End.TheVariants as ends
 use Rattle.share_main.specs.declared.words.Command.{Command}
@@ -38,9 +37,7 @@ pub record Runs (asked : Option Command) (old new : Outside) (end : End) : Type 
 
 -- The lines of a table were found, and nothing is written yet.
 pub record Found (location : List ℕ) (old new : Outside) (text : List ℕ) : Type 0 where
-  pub empty : IsAtEnd old
-  pub left : new.left ≡ old.left
-  pub lines : Between old.objects new.objects (λ objects. lines_in location objects ≡ Ok text)
+  pub answers : Answers (Some (command.Query location)) old new (Ok text)
   pub grows : Grows old.objects new.objects
   pub same : OnTrue old.alone (new.objects ≡ old.objects)
   pub held : new.held ≡ old.held

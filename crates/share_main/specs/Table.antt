@@ -1,9 +1,13 @@
--- The lines of a table's latest version, as a function of the store's objects.
-use Rattle.std.specs.Prelude.{◌≡◌, ℕ, List, [], ◌∷◌, ◌++◌, flat_map, Option, Some, None, Result, Ok, Err, String, string_bytes, Bool, true, false, ⊤}
+-- The lines of a query's answer, as a function of the store's objects.
+use Rattle.std.specs.Prelude.{◌≡◌, ℕ, ◌+◌, List, [], ◌∷◌, ◌++◌, filter, flat_map, take, Option, Some, None, Result, Ok, Err, String, string_bytes, Bool, true, false, ⊤}
 use Rattle.std.specs.declared.alloc.Global.{Global}
 use Rattle.edge_core.specs.Objects.{Objects}
 use Rattle.log_actions.specs.declared.actions.Action.{Action}
+use Rattle.log_actions.specs.declared.actions.AddFile.{AddFile}
 use Rattle.log_replay.specs.State.{State, state_of}
+use Rattle.log_replay.specs.Times.{marks_in, resolved}
+use Rattle.log_replay.specs.declared.times.Unresolved.{Unresolved}
+use Rattle.log_replay.specs.declared.times.Unresolved.TheVariants as unresolved
 use Rattle.log_replay.specs.declared.refusal.ReplayRefusal.{ReplayRefusal}
 use Rattle.log_replay.specs.declared.refusal.ReplayRefusal.TheVariants as replay
 use Rattle.log_store.specs.Log.{log_in}
@@ -14,14 +18,32 @@ use Rattle.log_store.specs.declared.loaded.BlockCause.TheVariants as cause
 use Rattle.log_store.specs.declared.refusal.LoadRefusal.{LoadRefusal}
 use Rattle.log_store.specs.declared.refusal.LoadRefusal.TheVariants as load
 use Rattle.share_lines.specs.Lines.{protocol_line, meta_line, file_line}
+use Rattle.part_values.specs.Columns.{columns_in}
+use Rattle.pred_tree.specs.Tree.{Tree}
+use Rattle.pred_tree.specs.Bound.{bound_truth}
+use Rattle.pred_tree.specs.Grammar.{predicate_in}
+use Rattle.pred_tree.specs.Truth.{is_listed, is_not_false, truth}
+use Rattle.pred_tree.specs.declared.bound.BoundPred.{BoundPred}
+use Rattle.part_values.specs.declared.value.PartType.{PartType}
+use Rattle.share_request.specs.declared.query.QueryBody.{QueryBody}
+use Rattle.share_main.specs.Query.{bound_of}
 use Rattle.share_main.specs.declared.ends.TableRefusal.{TableRefusal}
 use Rattle.share_main.specs.declared.ends.TableRefusal.TheVariants as table
 use Rattle.share_main.specs.declared.table.LinesFault.{LinesFault}
 use Rattle.share_main.specs.declared.table.LinesFault.TheVariants as fault
 
--- protocol, metaData, and the live files in byte order of path
-abbrev pub state_lines : State → List ℕ
-state_lines state = protocol_line ++ meta_line state.meta ++ flat_map file_line state.files
+-- the predicate of a hint: none where no hint is given, and where the text is no predicate
+abbrev pub pred_by : Option (List ℕ) → Option Tree
+pred_by None = None
+pred_by (Some text) = predicate_in text
+
+-- the live files that the predicate doesn't make False, in byte order of path
+abbrev pub listed_files : Option (List ℕ) → State → List AddFile
+listed_files hint state = filter (λ file. is_listed (pred_by hint) (columns_in state.meta.schema state.meta.columns) file.values) state.files
+
+-- protocol, metaData, and the files that are listed
+abbrev pub state_lines : Option (List ℕ) → State → List ℕ
+state_lines hint state = protocol_line ++ meta_line state.meta ++ flat_map file_line (listed_files hint state)
 
 -- the version that isn't supported
 abbrev pub unsupported_version : ReplayRefusal → ℕ
@@ -41,27 +63,37 @@ refusal_by version cause.TooLarge = table.TooLarge version
 abbrev pub block_refusal : Block → TableRefusal
 block_refusal block = refusal_by block.version block.cause
 
-abbrev pub lines_of_state : Result State ReplayRefusal → Result (List ℕ) TableRefusal
-lines_of_state (Ok state) = Ok (state_lines state)
-lines_of_state (Err refused) = Err (table.Unsupported (unsupported_version refused))
+abbrev pub lines_of_state : Option (List ℕ) → Result State ReplayRefusal → Result (List ℕ) TableRefusal
+lines_of_state hint (Ok state) = Ok (state_lines hint state)
+lines_of_state hint (Err refused) = Err (table.Unsupported (unsupported_version refused))
+
+-- why a version isn't answered of a log without a block
+abbrev pub unresolved_by : Unresolved → TableRefusal
+unresolved_by unresolved.Unsupported = table.NoCommits
+unresolved_by unresolved.VersionRange = table.VersionRange
+unresolved_by unresolved.TimestampRange = table.TimestampRange
+
+-- the lines at the version that was meant
+abbrev pub lines_at : Option (List ℕ) → List (List Action) → Result ℕ Unresolved → Result (List ℕ) TableRefusal
+lines_at hint commits (Ok version) = lines_of_state hint (state_of (take (version + 1) commits))
+lines_at hint commits (Err refused) = Err (unresolved_by refused)
 
 -- the lines of a log without a block
-abbrev pub lines_of_commits : List (List Action) → Result (List ℕ) TableRefusal
-lines_of_commits [] = Err table.NoCommits
-lines_of_commits (c ∷ cs) = lines_of_state (state_of (c ∷ cs))
+abbrev pub lines_of_commits : QueryBody → List (List Action) → Result (List ℕ) TableRefusal
+lines_of_commits query commits = lines_at query.hint commits (resolved (marks_in commits) false (bound_of query))
 
-abbrev pub lines_under : Option Block → List (List Action) → Result (List ℕ) TableRefusal
-lines_under None commits = lines_of_commits commits
-lines_under (Some block) commits = Err (block_refusal block)
+abbrev pub lines_under : QueryBody → Option Block → List (List Action) → Result (List ℕ) TableRefusal
+lines_under query None commits = lines_of_commits query commits
+lines_under query (Some block) commits = Err (block_refusal block)
 
-abbrev pub lines_of_log : Loaded → Result (List ℕ) TableRefusal
-lines_of_log log = lines_under log.block log.commits
+abbrev pub lines_of_log : QueryBody → Loaded → Result (List ℕ) TableRefusal
+lines_of_log query log = lines_under query log.block log.commits
 
--- the lines of the table's latest version, or why there are none
-abbrev pub lines_in : List ℕ → Objects → Result (List ℕ) TableRefusal
-lines_in location objects = lines_of_log (log_in location objects)
+-- the lines of the table that answer the query, or why there are none
+abbrev pub lines_in : List ℕ → QueryBody → Objects → Result (List ℕ) TableRefusal
+lines_in location query objects = lines_of_log query (log_in location objects)
 
--- The text is the lines of that state, or there is none. Want of memory says nothing.
+-- The text is these lines, or there is none. Want of memory says nothing.
 abbrev pub IsLog : Result (List ℕ) TableRefusal → Result (String Global) LinesFault → Type 0
 IsLog said (Ok text) = said ≡ Ok (string_bytes text)
 IsLog said (Err (fault.Refused why)) = said ≡ Err why
@@ -84,3 +116,25 @@ failed_lines (Ok text) = false
 failed_lines (Err (fault.Refused why)) = false
 failed_lines (Err fault.StoreFault) = true
 failed_lines (Err fault.NoMemory) = false
+
+-- whether a predicate whose columns were found doesn't make a file False
+abbrev pub passes : BoundPred → AddFile → Bool
+passes pred file = is_not_false (bound_truth file.values pred)
+
+-- the files that are listed then
+abbrev pub files_under : Option BoundPred → List AddFile → List AddFile
+files_under None files = files
+files_under (Some pred) files = filter (passes pred) files
+
+-- the predicate, its columns found among these; nothing where there is no predicate
+abbrev pub IsBound : Option Tree → List (List ℕ × PartType) → Option BoundPred → Type 0
+IsBound None columns bound = bound ≡ None
+IsBound (Some t) columns None = ⊥
+IsBound (Some t) columns (Some pred) = (values : List (List ℕ × Option (List ℕ))) → bound_truth values pred ≡ truth columns values t
+
+-- The version is the one that is meant, or it is said why there is none. Want of memory says nothing.
+abbrev pub IsVersion : Result ℕ Unresolved → Result ℕ LinesFault → Type 0
+IsVersion meant (Ok version) = meant ≡ Ok version
+IsVersion meant (Err (fault.Refused why)) = (refused : Unresolved) × (meant ≡ Err refused) × (why ≡ unresolved_by refused)
+IsVersion meant (Err fault.StoreFault) = ⊥
+IsVersion meant (Err fault.NoMemory) = ⊤

@@ -1,11 +1,11 @@
 // How a run can end.
 ghost use Rattle.std.specs.Prelude.{◌≡◌, ◌++◌, None, Some};
-ghost use Rattle.share_main.specs.Ends.{note, note_line, note_text, status, table_note};
+ghost use Rattle.share_main.specs.Ends.{note, note_line, note_text, status, table_note, table_status};
 ghost use Rattle.share_main.specs.declared.ends.End.TheVariants.{NoMemory as memory};
 
 use std::alloc::AllocError;
 
-/// Why a table isn't read.
+/// Why a table isn't answered.
 #[derive(Clone, Copy, Debug, PartialEq, Eq)]
 pub enum TableRefusal {
     /// The folder of its log names no commit.
@@ -20,6 +20,10 @@ pub enum TableRefusal {
     Unsupported { version: u64 },
     /// With this version the texts of the commits pass 64 MiB.
     TooLarge { version: u64 },
+    /// The table has no version of the number that was asked for.
+    VersionRange,
+    /// The table has no version at or before the moment that was asked for.
+    TimestampRange,
 }
 
 /// How a run ended.
@@ -31,7 +35,8 @@ pub enum End {
     Words,
     /// Status 3: the input isn't what the command takes.
     Input,
-    /// Status 4: the table isn't read, and why.
+    /// The table isn't answered, and why: status 3 where it hasn't what was asked for, else 4, since
+    /// it isn't read.
     Table(TableRefusal),
     /// Status 5: a read of the input failed.
     ReadFault,
@@ -86,7 +91,7 @@ impl End {
             End::Done => 0,
             End::Words => 2,
             End::Input => 3,
-            End::Table(_) => 4,
+            End::Table(why) => why.status(),
             End::ReadFault | End::StoreFault | End::WriteFault => 5,
             End::NoMemory => 6,
         }
@@ -110,6 +115,20 @@ impl End {
 }
 
 impl TableRefusal {
+    fn status(&self) -> u8
+        ensures { result ≡ table_status self.now }
+    {
+        match self {
+            TableRefusal::VersionRange | TableRefusal::TimestampRange => 3,
+            TableRefusal::NoCommits
+            | TableRefusal::NeedsCheckpoint { .. }
+            | TableRefusal::Gap { .. }
+            | TableRefusal::Commit { .. }
+            | TableRefusal::Unsupported { .. }
+            | TableRefusal::TooLarge { .. } => 4,
+        }
+    }
+
     fn note(&self) -> Note
         ensures { note_line result ≡ table_note self.now }
     {
@@ -126,6 +145,8 @@ impl TableRefusal {
             TableRefusal::TooLarge { version } => {
                 Note::with("share: table: too large at ", *version)
             }
+            TableRefusal::VersionRange => Note::plain("share: version out of range"),
+            TableRefusal::TimestampRange => Note::plain("share: timestamp out of range"),
         }
     }
 }

@@ -2,6 +2,9 @@
 #![tactic(auto)]
 
 mod ends;
+mod input;
+#[cfg(test)]
+mod query_tests;
 mod run;
 mod table;
 #[cfg(test)]

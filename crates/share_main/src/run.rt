@@ -10,9 +10,10 @@ ghost use Rattle.share_main.specs.declared.ends.End.TheVariants as ends;
 ghost use Rattle.share_main.specs.declared.words.Command.TheVariants.{Query};
 
 use crate::ends::{End, Note};
+use crate::input::asked;
 use crate::table::{LinesFault, table_lines};
 use crate::words::{Command, HELP, VERSION, command_of};
-use edge_core::{Gave, Name, Sink, Source, Store, Took};
+use edge_core::{Gave, Name, Sink, Source, Store};
 use itoa::Buffer;
 use std::alloc::Global;
 use std::marker::Model;
@@ -126,13 +127,8 @@ fn find_lines<S: Source, K: Sink, M: Sink, W: Store, L>(
     requires { length location.now ≤ 256 }
     ensures { Finds location.now edge.old edge.new result }
 {
-    let mut first = [0u8; 1];
-    match edge.input.read(&mut first) {
-        Took::Bytes(_) => return Err(End::Input),
-        Took::Failed => return Err(End::ReadFault),
-        Took::End => {}
-    }
-    match table_lines(alloc, &mut edge.store, location, &mut edge.steps) {
+    let query = asked(alloc, &mut edge.input)?;
+    match table_lines(alloc, &mut edge.store, location, &query, &mut edge.steps) {
         Ok(lines) => Ok(lines),
         Err(LinesFault::Refused(why)) => Err(End::Table(why)),
         Err(LinesFault::StoreFault) => Err(End::StoreFault),

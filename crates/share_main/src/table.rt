@@ -1,20 +1,27 @@
 // The lines of a table.
-ghost use Rattle.std.specs.Prelude.{◌≡◌, ◌++◌, ◌<◌, false, ◌≤◌, IfOk, OnOk, flat_map, length, map, string_bytes};
+ghost use Rattle.std.specs.Prelude.{◌≡◌, ◌++◌, ◌∷◌, [], ◌<◌, false, ◌≤◌, IfOk, OnOk, filter, flat_map, length, map, string_bytes};
 ghost use Rattle.edge_core.specs.Faults.{Cause};
 ghost use Rattle.edge_core.specs.Objects.{Between};
 ghost use Rattle.log_store.specs.Reading.{Looked};
-ghost use Rattle.share_lines.specs.Lines.{file_line};
+ghost use Rattle.share_lines.specs.Lines.{file_line, meta_line, protocol_line};
 ghost use Rattle.std.specs.Arc.{arc_value};
 ghost use Rattle.log_replay.specs.State.{state_of};
-ghost use Rattle.share_main.specs.Table.{IsLog, block_refusal, failed_lines, lines_in, lines_of_commits, lines_of_log, lines_of_state, load_fault, replay_fault, state_lines};
+ghost use Rattle.log_replay.specs.Times.{marks_in, resolved};
+ghost use Rattle.part_values.specs.Columns.{columns_in};
+ghost use Rattle.share_main.specs.Query.{bound_of};
+ghost use Rattle.share_main.specs.Table.{IsBound, IsLog, IsVersion, block_refusal, failed_lines, files_under, lines_in, lines_of_commits, lines_of_log, lines_of_state, load_fault, passes, pred_by, replay_fault, state_lines, unresolved_by};
 ghost use Rattle.share_main.specs.declared.table.LinesFault.TheVariants as fault;
 
 use crate::ends::TableRefusal;
 use edge_core::{Name, Store};
-use log_actions::Commit;
-use log_replay::{ReplayRefusal, Snapshot, replay};
+use json_tree::Text;
+use log_actions::{AddFile, Commit, MetaData};
+use log_replay::{Bound, ReplayRefusal, Snapshot, Unresolved, marks_of, replay, resolve};
 use log_store::{Block, BlockCause, LoadRefusal, Loaded, load};
+use part_values::columns_of;
+use pred_tree::{BoundPred, Truth, bind, pred_of};
 use share_lines::{push_file, push_meta, push_protocol};
+use share_request::QueryBody;
 use std::alloc::{AllocError, Global};
 use std::sync::Arc;
 use step_count::Steps;
@@ -29,14 +36,97 @@ fn push_files(alloc: Global, out: &mut String, snapshot: &Snapshot) -> Result<()
     Ok(())
 }
 
-fn snapshot_lines(alloc: Global, snapshot: &Snapshot) -> Result<String, AllocError>
-    ensures { IfOk result (λ text. string_bytes text ≡ state_lines snapshot.now) }
+// Pushes the line of a file that the predicate doesn't make False.
+fn push_if_listed(
+    alloc: Global,
+    out: &mut String,
+    file: &AddFile,
+    pred: &BoundPred,
+) -> Result<(), AllocError>
+    ensures { OnOk result (string_bytes out.new
+        ≡ string_bytes out.old ++ flat_map file_line (filter (passes pred.now) (file.now ∷ []))) }
+{
+    match pred.eval(file) {
+        Truth::False => Ok(()),
+        Truth::True | Truth::Unknown => push_file(alloc, out, file),
+    }
+}
+
+fn push_listed(
+    alloc: Global,
+    out: &mut String,
+    snapshot: &Snapshot,
+    pred: &BoundPred,
+) -> Result<(), AllocError>
+    ensures { OnOk result (string_bytes out.new
+        ≡ string_bytes out.old ++ flat_map file_line (filter (passes pred.now) snapshot.now.files)) }
+{
+    for place in 0..snapshot.len() {
+        push_if_listed(alloc, out, snapshot.file(place), pred)?;
+    }
+    Ok(())
+}
+
+// The predicate of a hint over the columns of a table, none where the hint is none or no predicate.
+fn bound_pred(
+    alloc: Global,
+    hint: &Option<Text>,
+    meta: &MetaData,
+) -> Result<Option<BoundPred>, AllocError>
+    ensures { IfOk result (IsBound (pred_by hint.now) (columns_in meta.now.schema meta.now.columns)) }
+{
+    let Some(text) = hint else {
+        return Ok(None);
+    };
+    match pred_of(alloc, text.as_str())? {
+        Some(pred) => {
+            let columns = columns_of(alloc, &meta.schema, &meta.columns)?;
+            Ok(Some(bind(alloc, &pred, &columns)?))
+        }
+        None => Ok(None),
+    }
+}
+
+fn push_under(
+    alloc: Global,
+    out: &mut String,
+    snapshot: &Snapshot,
+    pred: &Option<BoundPred>,
+) -> Result<(), AllocError>
+    ensures { OnOk result (string_bytes out.new
+        ≡ string_bytes out.old ++ flat_map file_line (files_under pred.now snapshot.now.files)) }
+{
+    match pred {
+        Some(pred) => push_listed(alloc, out, snapshot, pred),
+        None => push_files(alloc, out, snapshot),
+    }
+}
+
+fn lines_under(
+    alloc: Global,
+    pred: &Option<BoundPred>,
+    snapshot: &Snapshot,
+) -> Result<String, AllocError>
+    ensures { IfOk result (λ text. string_bytes text
+        ≡ protocol_line ++ meta_line snapshot.now.meta ++ flat_map file_line (files_under pred.now snapshot.now.files)) }
 {
     let mut out = String::new(alloc);
     push_protocol(&mut out)?;
     push_meta(alloc, &mut out, snapshot.meta())?;
-    push_files(alloc, &mut out, snapshot)?;
+    push_under(alloc, &mut out, snapshot, pred)?;
     Ok(out)
+}
+
+// The lines of a state.
+fn snapshot_lines(
+    alloc: Global,
+    hint: &Option<Text>,
+    snapshot: &Snapshot,
+) -> Result<String, AllocError>
+    ensures { IfOk result (λ text. string_bytes text ≡ state_lines hint.now snapshot.now) }
+{
+    let pred = bound_pred(alloc, hint, snapshot.meta())?;
+    lines_under(alloc, &pred, snapshot)
 }
 
 /// Why there are no lines of a table.
@@ -98,63 +188,101 @@ fn block_refusal_of(block: &Block) -> TableRefusal
     }
 }
 
-// The lines of the last state of some commits.
+impl From<Unresolved> for LinesFault {
+    ghost from_gives = { λ refused e. e ≡ fault.Refused (unresolved_by refused) };
+
+    fn from(refused: Unresolved) -> Self {
+        LinesFault::Refused(match refused {
+            Unresolved::Unsupported => TableRefusal::NoCommits,
+            Unresolved::VersionRange => TableRefusal::VersionRange,
+            Unresolved::TimestampRange => TableRefusal::TimestampRange,
+        })
+    }
+}
+
+// The version that a query asks for.
+fn bound_by(query: &QueryBody) -> Bound
+    ensures { result ≡ bound_of query.now }
+{
+    match (query.version, query.moment) {
+        (Some(version), _) => Bound::Version(version),
+        (None, Some(moment)) => Bound::AtOrBefore(moment),
+        (None, None) => Bound::Latest,
+    }
+}
+
+// The lines of the state after some commits.
 fn replayed_lines<L>(
     alloc: Global,
+    hint: &Option<Text>,
     commits: &[Arc<Commit>],
     steps: &mut Steps<L>,
 ) -> Result<String, LinesFault>
     requires { 0 < length commits.now }
-    ensures lines { IsLog (lines_of_state (state_of (map arc_value commits.now))) result }
+    ensures lines { IsLog (lines_of_state hint.now (state_of (map arc_value commits.now))) result }
     ensures inside { failed_lines result ≡ false }
 {
     let snapshot = replay(alloc, commits, steps)?;
-    Ok(snapshot_lines(alloc, &snapshot)?)
+    Ok(snapshot_lines(alloc, hint, &snapshot)?)
+}
+
+// The version that a query asks for in a log without a block.
+fn version_of(alloc: Global, query: &QueryBody, commits: &[Arc<Commit>]) -> Result<u64, LinesFault>
+    ensures version { IsVersion (resolved (marks_in (map arc_value commits.now)) false (bound_of query.now)) result }
+    ensures kept { IfOk result (λ version. version < length commits.now) }
+{
+    let marks = marks_of(alloc, commits)?;
+    Ok(resolve(&marks, false, bound_by(query))?)
 }
 
 // The lines of a log without a block.
 fn commit_lines<L>(
     alloc: Global,
+    query: &QueryBody,
     commits: &[Arc<Commit>],
     steps: &mut Steps<L>,
 ) -> Result<String, LinesFault>
-    ensures lines { IsLog (lines_of_commits (map arc_value commits.now)) result }
+    ensures lines { IsLog (lines_of_commits query.now (map arc_value commits.now)) result }
     ensures inside { failed_lines result ≡ false }
 {
-    if commits.is_empty() {
-        Err(LinesFault::Refused(TableRefusal::NoCommits))
-    } else {
-        replayed_lines(alloc, commits, steps)
-    }
+    let version = version_of(alloc, query, commits)?;
+    replayed_lines(alloc, &query.hint, &commits[..version as usize + 1], steps)
 }
 
-fn log_lines<L>(alloc: Global, log: &Loaded, steps: &mut Steps<L>) -> Result<String, LinesFault>
-    ensures lines { IsLog (lines_of_log log.now) result }
+fn log_lines<L>(
+    alloc: Global,
+    query: &QueryBody,
+    log: &Loaded,
+    steps: &mut Steps<L>,
+) -> Result<String, LinesFault>
+    ensures lines { IsLog (lines_of_log query.now log.now) result }
     ensures inside { failed_lines result ≡ false }
 {
     match &log.block {
         Some(block) => Err(LinesFault::Refused(block_refusal_of(block))),
-        None => commit_lines(alloc, log.commits.items(), steps),
+        None => commit_lines(alloc, query, log.commits.items(), steps),
     }
 }
 
-/// The printed lines of a table's latest version: protocol, metaData and files.
+/// The printed lines of the table that answer a query: protocol, metaData, and the files of the
+/// version that it asks for which its predicate doesn't make False.
 ///
-/// `LinesFault::Refused` comes exactly where the table isn't read, `StoreFault` only where the
-/// store's count of faults rose in this call.
+/// `LinesFault::Refused` comes exactly where the table isn't read or hasn't the version,
+/// `StoreFault` only where the store's count of faults rose in this call.
 pub fn table_lines<W: Store, L>(
     alloc: Global,
     store: &mut W,
     location: &Name,
+    query: &QueryBody,
     steps: &mut Steps<L>,
 ) -> Result<String, LinesFault>
     requires { length location.now ≤ 256 }
     ensures table { Between (W.objects store.old) (W.objects store.new)
-        (λ objects. IsLog (lines_in location.now objects) result) }
+        (λ objects. IsLog (lines_in location.now query.now objects) result) }
     ensures looked { Looked (W.objects store.old) (W.objects store.new)
         (W.alone store.old) (W.alone store.new) }
     ensures cause { Cause (W.faults store.old) (W.faults store.new) (failed_lines result) }
 {
     let log = load(alloc, store, location)?;
-    log_lines(alloc, &log, steps)
+    log_lines(alloc, query, &log, steps)
 }

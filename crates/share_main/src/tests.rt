@@ -8,26 +8,27 @@ use step_count::Steps;
 
 type Memory = Edge<MemSource, MemSink, MemSink, MemStore, ()>;
 
-const OPENING: &str =
+pub(crate) const OPENING: &str =
     "{\"protocol\":{\"minReaderVersion\":1,\"minWriterVersion\":2}}\n{\"metaData\":{\"id\":\"m1\",\"format\":{\"provider\":\"parquet\",\"options\":{}},\"schemaString\":\"{\\\"type\\\":\\\"struct\\\",\\\"fields\\\":[]}\",\"partitionColumns\":[],\"configuration\":{},\"createdTime\":1}}\n";
 
-const ADD_OF_SIZE_1: &str =
+pub(crate) const ADD_OF_SIZE_1: &str =
     "{\"add\":{\"path\":\"a\",\"partitionValues\":{},\"size\":1,\"modificationTime\":1,\"dataChange\":true}}\n";
 
-const REMOVE: &str = "{\"remove\":{\"path\":\"a\",\"deletionTimestamp\":1,\"dataChange\":true}}\n";
+pub(crate) const REMOVE: &str =
+    "{\"remove\":{\"path\":\"a\",\"deletionTimestamp\":1,\"dataChange\":true}}\n";
 
-const ADD_OF_SIZE_2: &str =
+pub(crate) const ADD_OF_SIZE_2: &str =
     "{\"add\":{\"path\":\"a\",\"partitionValues\":{},\"size\":2,\"modificationTime\":1,\"dataChange\":true}}\n";
 
-const PRINTED_OPENING: &str =
+pub(crate) const PRINTED_OPENING: &str =
     "{\"protocol\":{\"minReaderVersion\":1}}\n{\"metaData\":{\"format\":{\"provider\":\"parquet\"},\"id\":\"m1\",\"partitionColumns\":[],\"schemaString\":\"{\\\"type\\\":\\\"struct\\\",\\\"fields\\\":[]}\"}}\n";
 
-const PRINTED_FILE: &str =
+pub(crate) const PRINTED_FILE: &str =
     "{\"file\":{\"id\":\"a\",\"partitionValues\":{},\"size\":2,\"url\":\"a\"}}\n";
 
 // What fails at its first call.
 #[derive(Clone, Copy, PartialEq, Eq)]
-enum Failing {
+pub(crate) enum Failing {
     Nothing,
     Input,
     Store,
@@ -37,20 +38,20 @@ enum Failing {
 
 // A run over table t, and what it is to do.
 #[derive(Clone, Copy)]
-struct Case<'a> {
-    words: &'a [&'a str],
-    input: &'a str,
+pub(crate) struct Case<'a> {
+    pub(crate) words: &'a [&'a str],
+    pub(crate) input: &'a str,
     // the lines of its commits, version after version
-    commits: &'a [&'a [&'a str]],
+    pub(crate) commits: &'a [&'a [&'a str]],
     // the name of one more object, without bytes
-    other: &'a str,
-    failing: Failing,
-    status: u8,
-    output: &'a [&'a str],
-    notes: &'a str,
+    pub(crate) other: &'a str,
+    pub(crate) failing: Failing,
+    pub(crate) status: u8,
+    pub(crate) output: &'a [&'a str],
+    pub(crate) notes: &'a str,
 }
 
-const QUERY: Case<'static> = Case {
+pub(crate) const QUERY: Case<'static> = Case {
     words: &["query", "t"],
     input: "",
     commits: &[],
@@ -144,7 +145,11 @@ fn expect(rt: &impl Abort, alloc: Global, case: &Case<'_>) -> Result<(), AllocEr
     Ok(())
 }
 
-fn expect_all(rt: &impl Abort, alloc: Global, cases: &[Case<'_>]) -> Result<(), AllocError> {
+pub(crate) fn expect_all(
+    rt: &impl Abort,
+    alloc: Global,
+    cases: &[Case<'_>],
+) -> Result<(), AllocError> {
     for case in cases {
         expect(rt, alloc, case)?;
     }

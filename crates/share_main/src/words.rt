@@ -7,7 +7,7 @@ use std::alloc::{AllocError, Global};
 
 /// What `--help` prints.
 pub const HELP: &str =
-    "usage: share query LOCATION\n       share --help | --version\n\nquery prints the protocol, metaData and file lines of the Delta table in the folder\nLOCATION at its latest version. LOCATION is a path below the current folder. Standard\ninput must be empty.\n";
+    "usage: share query LOCATION\n       share --help | --version\n\nquery prints the protocol, metaData and file lines of the Delta table in the folder\nLOCATION, a path below the current folder. Standard input is empty, for the latest\nversion, or a query body: a JSON object with version or timestamp, and perhaps\njsonPredicateHints. The status is 0, or 2 for wrong words, 3 for a wrong input or a\nversion that isn't there, 4 for a table that isn't read, 5 for a fault of the outside,\n6 for want of memory; each but 0 writes one line to standard error.\n";
 
 /// What `--version` prints.
 pub const VERSION: &str = "share 0.1.0\n";

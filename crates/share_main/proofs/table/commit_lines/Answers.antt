@@ -1,7 +1,7 @@
-use Rattle.std.proofs.Common.{sym, ◌∙◌}
-use Rattle.share_main.proofs.Tables.{of_some}
+use Rattle.std.proofs.Common.{◌+◌, take, refl}
+use Rattle.share_main.proofs.Tables.{at_version}
 use Rattle.share_main.proofs.table.commit_lines.Goals as goal
 
-pub returns-else-is_empty-clause-lines : goal.returns-else-is_empty-clause-lines
-returns-else-is_empty-clause-lines g c =
-    of_some c.args.commits.now c.replayed_lines.result (sym c.if-is_empty.false ∙ c.is_empty.ensures) c.replayed_lines.ensures.lines
+pub returns-clause-lines : goal.returns-clause-lines
+returns-clause-lines g c =
+    at_version c.args.query.now.hint c.args.commits.now (take (c.in_ok-version.version + 1) c.args.commits.now) _ c.in_ok-version.version c.replayed_lines.result c.in_ok-version.ensures.version refl c.replayed_lines.ensures.lines
