@@ -1,0 +1,5 @@
+mod Bytes
+mod Cuts
+mod Escapes
+mod Numbers
+mod Read

@@ -1,0 +1,15 @@
+//! Signed links: where a recipient reads one file of a table, as a text that only who has the key can make.
+#![tactic(auto)]
+
+mod escape;
+mod fault;
+mod parts;
+mod reading;
+mod signed;
+mod spelling;
+
+pub use parts::LinkParts;
+pub use signed::{link, one_link, parts_of};
+
+#[cfg(test)]
+mod tests;
