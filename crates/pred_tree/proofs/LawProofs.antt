@@ -8,7 +8,7 @@ use Rattle.part_values.specs.Typed.{typed}
 use Rattle.pred_tree.specs.Kinds.{compared_type}
 use Rattle.pred_tree.specs.Laws.{JoinedListNoMore, NoneListsAll, NotTwiceIsSame, RestsOnNamed, leaf_names, names, one_names}
 use Rattle.pred_tree.specs.Tree.{Tree, all_of, any_of, negated, null_at, compared, Trees, no_trees, first_tree}
-use Rattle.pred_tree.specs.Truth.{all_true, any_true, both, if_ordered, is_not_false, null_truth, opposite, order, text_of_column, truth, truths, value_of_leaf}
+use Rattle.pred_tree.specs.Truth.{all_true, any_true, both, is_not_false, null_truth, opposite, text_of_column, truth, truths, value_of_leaf}
 use Rattle.pred_tree.specs.declared.tree.Leaf.{Leaf}
 use Rattle.pred_tree.specs.declared.tree.Leaf.TheVariants.{Column, Literal}
 use Rattle.pred_tree.specs.declared.truth.Truth.{Truth}

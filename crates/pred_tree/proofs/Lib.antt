@@ -1,4 +1,6 @@
+mod DepthLemmas
 mod Fronts
-mod Kleene
+mod Halving
 mod LawProofs
 mod Levels
+mod TableLemmas

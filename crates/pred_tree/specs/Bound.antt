@@ -1,19 +1,28 @@
 -- Predicates whose columns were looked up beforehand.
-use Rattle.std.specs.Prelude.{ℕ, List, Option, Some}
 use Rattle.json_tree.specs.declared.pairs.Pairs.{Pairs}
-use Rattle.part_values.specs.Typed.{Typed, typed}
+use Rattle.part_values.specs.Typed.{Typed, null, boolean, whole, text, day, unread, typed}
 use Rattle.pred_tree.specs.declared.truth.Truth.{Truth}
 use Rattle.pred_tree.specs.Truth.{all_true, any_true, opposite, null_truth, if_ordered, order, text_of_column}
 use Rattle.pred_tree.specs.declared.bound.BoundPred.{BoundPred}
+use Rattle.pred_tree.specs.declared.bound.Known.{Known}
+use Rattle.pred_tree.specs.declared.bound.Known.TheVariants as known
 use Rattle.pred_tree.specs.declared.bound.Side.{Side}
 use Rattle.pred_tree.specs.declared.bound.Side.TheVariants.{Column, Literal}
 use Rattle.pred_tree.specs.declared.bound.Node.{Node}
 use Rattle.pred_tree.specs.declared.bound.Node.TheOpen.{Node-F}
 use Rattle.pred_tree.specs.declared.bound.Node.TheFolds.{fold-Node}
 
+abbrev pub typed_of_known : Known → Typed
+typed_of_known known.Null = null
+typed_of_known (known.Bool b) = boolean b
+typed_of_known (known.Whole n) = whole n
+typed_of_known (known.Text t) = text t
+typed_of_known (known.Day d) = day d
+typed_of_known known.Unread = unread
+
 abbrev pub value_of_side : Pairs → Side → Typed
 value_of_side values (Column name kind) = typed (text_of_column name values) kind
-value_of_side values (Literal value kind) = typed (Some value) kind
+value_of_side values (Literal k) = typed_of_known k
 
 -- one level, with the truth of each predicate inside in its place
 abbrev pub answer_step : Pairs → Node-F Truth → Truth

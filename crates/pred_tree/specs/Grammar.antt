@@ -1,9 +1,9 @@
 -- The texts that are predicates (Delta Sharing PROTOCOL.md, "JSON predicates for Filtering").
 use Rattle.std.specs.Prelude.{ℕ, zero, suc, List, [], ◌∷◌, length, nat_le, Option, Some, None, option_map, option_and_then, bytes_eq, codes, if◌then◌else◌}
 use Rattle.serde_json.specs.Data.{Data, Items, no_items, item}
-use Rattle.serde_json.specs.Find.{as_array, as_str, get}
+use Rattle.serde_json.specs.Find.{as_array, get}
 use Rattle.serde_json.specs.Read.{read}
-use Rattle.part_values.specs.Columns.{is_text}
+use Rattle.part_values.specs.Columns.{is_text, text_in}
 use Rattle.part_values.specs.declared.value.PartType.{PartType}
 use Rattle.pred_tree.specs.Kinds.{value_type}
 use Rattle.pred_tree.specs.Tree.{Tree, all_of, any_of, negated, null_at, compared, trees_of}
@@ -18,15 +18,11 @@ infixl 10 ◌>>=◌
 abbrev pub ◌>>=◌ : {A B : Type 0} → Option A → (A → Option B) → Option B
 o >>= f = option_and_then f o
 
--- the member of that name, where it is a text
-abbrev pub text_at : List ℕ → Data → Option (List ℕ)
-text_at name d = option_and_then as_str (get name d)
-
 -- the text of that field and the type, in an object with that `op`
 abbrev pub part_in : List ℕ → List ℕ → Data → Option (List ℕ × PartType)
-part_in op field d = if is_text (text_at (codes "op") d) op then (do
-  text ← text_at field d
-  word ← text_at (codes "valueType") d
+part_in op field d = if is_text (text_in (codes "op") d) op then (do
+  text ← text_in field d
+  word ← text_in (codes "valueType") d
   Some (text, value_type word)) else None
 
 abbrev pub column_in : Data → Option (List ℕ × PartType)
@@ -57,7 +53,7 @@ operator_named word =
     else None))))))))
 
 abbrev pub operator_in : Data → Option Operator
-operator_in d = option_and_then operator_named (text_at (codes "op") d)
+operator_in d = option_and_then operator_named (text_in (codes "op") d)
 
 abbrev pub children_in : Data → Option Items
 children_in d = option_and_then as_array (get (codes "children") d)

@@ -1,7 +1,12 @@
 -- Laws of the truth of predicates.
-use Rattle.std.specs.Prelude.{◌≡◌, ℕ, List, Bool, true, false, ◌||◌, Option, Some, None, bytes_eq}
+use Rattle.std.specs.Prelude.{◌≡◌, ◌↔◌, ◌≤◌, ℕ, suc, max, List, Bool, true, false, ◌||◌, Option, Some, None, option_map, bytes_eq}
+use Rattle.case_table.specs.Tables.{case_of_word, cases_in}
+use Rattle.case_table.specs.declared.tables.TheConstants.{VALUE_TYPES}
 use Rattle.json_tree.specs.declared.pairs.Pairs.{Pairs}
 use Rattle.part_values.specs.declared.columns.Columns.{Columns}
+use Rattle.serde_json.specs.Data.{Data}
+use Rattle.pred_tree.specs.Grammar.{node_within}
+use Rattle.pred_tree.specs.Kinds.{class, value_type}
 use Rattle.pred_tree.specs.Tree.{Tree, all_of, any_of, negated, null_at, compared, Trees, no_trees, first_tree}
 use Rattle.pred_tree.specs.Truth.{is_listed, text_of_column, truth}
 use Rattle.pred_tree.specs.declared.tree.Leaf.{Leaf}
@@ -43,3 +48,32 @@ abbrev pub JoinedListNoMore : Type 0
 JoinedListNoMore = (columns : Columns) (values : Pairs) (s t : Tree)
     → is_listed (Some (all_of (first_tree s (first_tree t no_trees)))) columns values ≡ true
     → (is_listed (Some s) columns values ≡ true) × (is_listed (Some t) columns values ≡ true)
+
+abbrev pub or_no_class : Option ℕ → ℕ
+or_no_class None = 0
+or_no_class (Some number) = number
+
+-- the class of each word is that of the table of value types, where it has the word
+abbrev pub FollowsTable : Type 0
+FollowsTable = (word : List ℕ) → class (value_type word) ≡ or_no_class (option_map (λ case. case.2) (case_of_word (cases_in VALUE_TYPES) word))
+
+-- how many levels a predicate has, its leaves counted
+abbrev mutual
+  pub depth : Tree → ℕ
+  depth (all_of ts) = suc (greatest_depth ts)
+  depth (any_of ts) = suc (greatest_depth ts)
+  depth (negated t) = suc (depth t)
+  depth (null_at name) = 2
+  depth (compared c left right) = 2
+
+  pub greatest_depth : Trees → ℕ
+  greatest_depth no_trees = 0
+  greatest_depth (first_tree t ts) = max (depth t) (greatest_depth ts)
+
+-- the value is a node of that tree, however deep
+abbrev pub IsNodeOf : Data → Tree → Type 0
+IsNodeOf d t = (levels : ℕ) × (node_within levels d ≡ Some t)
+
+-- a node is read in so many levels exactly where its tree has no more
+abbrev pub LevelsAreDepth : Type 0
+LevelsAreDepth = (levels : ℕ) (d : Data) (t : Tree) → (node_within levels d ≡ Some t) ↔ (IsNodeOf d t × (depth t ≤ levels))

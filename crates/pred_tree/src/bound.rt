@@ -1,13 +1,14 @@
 // Predicates whose columns are found once, for many files.
-ghost use Rattle.std.specs.Prelude.{◌≡◌, List, Option, ℕ, IfOk, map};
+ghost use Rattle.std.specs.Prelude.{◌≡◌, List, Option, ℕ, Some, IfOk, map};
 ghost use Rattle.json_tree.specs.declared.pairs.Pairs.{Pairs as Values};
-ghost use Rattle.part_values.specs.Typed.{seen};
-ghost use Rattle.pred_tree.specs.Bound.{answer, bound_truth, value_of_side as the_value_of_side};
+ghost use Rattle.part_values.specs.Typed.{seen, typed};
+ghost use Rattle.pred_tree.specs.Bound.{answer, bound_truth, typed_of_known, value_of_side as the_value_of_side};
 ghost use Rattle.pred_tree.specs.Tree.{tree, trees};
 ghost use Rattle.pred_tree.specs.Truth as spec;
 
 use crate::kinds::compared_type;
 use crate::look::text_of_column;
+use crate::reading::copied;
 use crate::truth::{compared, null_truth};
 use crate::{Comparison, Leaf, Pred, Truth};
 use json_tree::{Pairs, Text};
@@ -15,16 +16,26 @@ use log_actions::AddFile;
 use part_values::{Columns, PartType, PartValue, value_of};
 use std::alloc::{AllocError, Global};
 
+// A literal's value.
+#[derive(Drop)]
+enum Known {
+    Null,
+    Bool(bool),
+    Whole(i64),
+    Text(Text),
+    Day(i32),
+    Unread,
+}
+
 // One side of a comparison.
 #[derive(Drop)]
 enum Side {
     // The column of that name, and the type by which it is compared.
     Column(Text, PartType),
-    // A value as a text, and its type.
-    Literal(Text, PartType),
+    Literal(Known),
 }
 
-// A predicate, each column with its type.
+// A predicate, each column with its type and each literal typed.
 #[derive(Drop)]
 enum Node {
     All(Vec<Node>),
@@ -41,22 +52,56 @@ pub struct BoundPred {
     root: Node,
 }
 
+fn known_of(alloc: Global, value: PartValue<'_>) -> Result<Known, AllocError>
+    ensures { IfOk result (λ k. typed_of_known k ≡ seen value.entry) }
+{
+    match value {
+        PartValue::Null => Ok(Known::Null),
+        PartValue::Bool(b) => Ok(Known::Bool(b)),
+        PartValue::Whole(number) => Ok(Known::Whole(number)),
+        PartValue::Text(text) => Ok(Known::Text(copied(alloc, text)?)),
+        PartValue::Day(day) => Ok(Known::Day(day)),
+        PartValue::Unread => Ok(Known::Unread),
+    }
+}
+
+fn value_of_known(known: &Known) -> PartValue<'_>
+    ensures { seen result ≡ typed_of_known known.now }
+{
+    match known {
+        Known::Null => PartValue::Null,
+        Known::Bool(b) => PartValue::Bool(*b),
+        Known::Whole(number) => PartValue::Whole(*number),
+        Known::Text(text) => PartValue::Text(text.as_str()),
+        Known::Day(day) => PartValue::Day(*day),
+        Known::Unread => PartValue::Unread,
+    }
+}
+
+fn literal_of(alloc: Global, text: &Text, kind: PartType) -> Result<Side, AllocError>
+    ensures { IfOk result
+        (λ s. (values : Values) → the_value_of_side values s ≡ typed (Some text.now) kind) }
+{
+    let value = value_of(Some(text.as_str()), kind);
+    Ok(Side::Literal(known_of(alloc, value)?))
+}
+
 fn side_of(alloc: Global, leaf: &Leaf, columns: &Columns) -> Result<Side, AllocError>
     ensures { IfOk result
         (λ s. (values : Values)
         → the_value_of_side values s ≡ spec.value_of_leaf columns.now values leaf.now) }
 {
     match leaf {
-        Leaf::Column(name, kind) => {
+        Leaf::Column { name, kind } => {
             let column = columns.kind_of(name.as_str());
             Ok(Side::Column(name.copy(alloc)?, compared_type(*kind, column)))
         }
-        Leaf::Literal(text, kind) => Ok(Side::Literal(text.copy(alloc)?, *kind)),
+        Leaf::Literal { value, kind } => literal_of(alloc, value, *kind),
     }
 }
 
-/// The predicate over a table's columns: the type of each column that it names is found once. It
-/// says of each file what [`crate::eval`] says.
+/// The predicate over a table's columns: the type of each column that it names is found once, and
+/// each literal is typed once. It says of each file what [`crate::eval`] says.
 ///
 /// # Errors
 ///
@@ -121,7 +166,7 @@ fn value_of_side<'a>(side: &'a Side, values: &'a Pairs) -> PartValue<'a>
 {
     match side {
         Side::Column(name, kind) => value_of(text_of_column(values, name.as_str()), *kind),
-        Side::Literal(text, kind) => value_of(Some(text.as_str()), *kind),
+        Side::Literal(known) => value_of_known(known),
     }
 }
 

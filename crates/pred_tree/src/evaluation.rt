@@ -16,18 +16,26 @@ fn value_of_leaf<'a>(leaf: &'a Leaf, columns: &Columns, values: &'a Pairs) -> Pa
     ensures { seen result ≡ spec.value_of_leaf columns.now values.now leaf.now }
 {
     match leaf {
-        Leaf::Column(name, kind) => {
+        Leaf::Column { name, kind } => {
             let column = columns.kind_of(name.as_str());
             value_of(
                 text_of_column(values, name.as_str()),
                 compared_type(*kind, column),
             )
         }
-        Leaf::Literal(text, kind) => value_of(Some(text.as_str()), *kind),
+        Leaf::Literal { value, kind } => value_of(Some(value.as_str()), *kind),
     }
 }
 
-/// What the predicate says of a file of a table with these partition columns.
+/// What the predicate says of a file of a table with these partition columns (Delta Sharing
+/// PROTOCOL.md, "JSON predicates for Filtering"). Takes no memory.
+///
+/// A comparison is unknown unless both sides have values of one class: truth values (false is the
+/// lesser), whole numbers, texts (by their bytes) or days. A column has no value to compare where it
+/// is no partition column, where its type has another class than the predicate gives it, and where
+/// its text is null or unread; a literal is typed as the predicate says. `isNull` is true exactly
+/// where a partition column is null, and unknown of any other column. `and`, `or` and `not` are
+/// Kleene's. Names of columns are compared byte by byte.
 pub fn eval(pred: &Pred, columns: &Columns, file: &AddFile) -> Truth
     ensures { result ≡ spec.truth columns.now file.now.values (tree pred.now) }
 {

@@ -16,3 +16,6 @@ pub use evaluation::eval;
 pub use reading::pred_of;
 pub use tree::{Comparison, Leaf, Pred};
 pub use truth::Truth;
+
+#[cfg(test)]
+mod tests;

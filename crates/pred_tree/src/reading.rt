@@ -2,7 +2,7 @@
 ghost use Rattle.std.specs.Prelude.{◌≡◌, IfOk, codes, map, option_and_then, option_map};
 ghost use Rattle.serde_json.specs.Read.{read};
 ghost use Rattle.serde_json.specs.View.{items_view, view};
-ghost use Rattle.part_values.specs.Columns.{is_text};
+ghost use Rattle.part_values.specs.Columns.{is_text, text_in as the_text_in};
 ghost use Rattle.pred_tree.specs.Grammar as spec;
 ghost use Rattle.pred_tree.specs.Tree.{all_of as the_all_of, any_of as the_any_of, negated, null_at, tree, trees_of};
 
@@ -12,6 +12,11 @@ use json_tree::Text;
 use part_values::PartType;
 use serde_json::Value;
 use std::alloc::{AllocError, Global};
+
+// The bounds of a predicate's text and of its tree.
+const LONGEST_TEXT: usize = 2048;
+
+const LEVELS: u8 = 32;
 
 // What a node says of its children.
 #[derive(Clone, Copy, Debug, PartialEq, Eq)]
@@ -41,8 +46,8 @@ fn operator_named(word: &str) -> Option<Operator>
 }
 
 // The text at that name in an object.
-fn text_at<'a>(object: &'a Value, name: &str) -> Option<&'a str>
-    ensures { option_map (λ t. t.now) result ≡ spec.text_at name.now (view object.now) }
+fn text_in<'a>(object: &'a Value, name: &str) -> Option<&'a str>
+    ensures { option_map (λ t. t.now) result ≡ the_text_in name.now (view object.now) }
 {
     match object.get(name) {
         Some(value) => value.as_str(),
@@ -53,7 +58,7 @@ fn text_at<'a>(object: &'a Value, name: &str) -> Option<&'a str>
 fn operator_in(node: &Value) -> Option<Operator>
     ensures { result ≡ spec.operator_in (view node.now) }
 {
-    match text_at(node, "op") {
+    match text_in(node, "op") {
         Some(word) => operator_named(word),
         None => None,
     }
@@ -69,9 +74,9 @@ fn children_in(node: &Value) -> Option<&[Value]>
 }
 
 fn is_op(part: &Value, op: &str) -> bool
-    ensures { result ≡ is_text (spec.text_at (codes "op") (view part.now)) op.now }
+    ensures { result ≡ is_text (the_text_in (codes "op") (view part.now)) op.now }
 {
-    match text_at(part, "op") {
+    match text_in(part, "op") {
         Some(word) => word == op,
         None => false,
     }
@@ -84,8 +89,8 @@ fn part_in<'a>(part: &'a Value, op: &str, field: &str) -> Option<(&'a str, PartT
     if !is_op(part, op) {
         return None;
     }
-    let text = text_at(part, field)?;
-    let word = text_at(part, "valueType")?;
+    let text = text_in(part, field)?;
+    let word = text_in(part, "valueType")?;
     Some((text, value_type(word)))
 }
 
@@ -101,7 +106,7 @@ fn literal_in(part: &Value) -> Option<(&str, PartType)>
     part_in(part, "literal", "value")
 }
 
-fn copied(alloc: Global, text: &str) -> Result<Text, AllocError>
+pub(crate) fn copied(alloc: Global, text: &str) -> Result<Text, AllocError>
     ensures { IfOk result (λ t. t ≡ text.now) }
 {
     Ok(Text::of(String::from_str(alloc, text)?))
@@ -111,10 +116,16 @@ fn leaf_in(alloc: Global, part: &Value) -> Result<Option<Leaf>, AllocError>
     ensures { IfOk result (λ o. o ≡ spec.leaf_in (view part.now)) }
 {
     if let Some((name, kind)) = column_in(part) {
-        return Ok(Some(Leaf::Column(copied(alloc, name)?, kind)));
+        return Ok(Some(Leaf::Column {
+            name: copied(alloc, name)?,
+            kind,
+        }));
     }
     match literal_in(part) {
-        Some((value, kind)) => Ok(Some(Leaf::Literal(copied(alloc, value)?, kind))),
+        Some((value, kind)) => Ok(Some(Leaf::Literal {
+            value: copied(alloc, value)?,
+            kind,
+        })),
         None => Ok(None),
     }
 }
@@ -342,7 +353,7 @@ fn node_of_text(alloc: Global, text: &str) -> Result<Option<Pred>, AllocError>
     ensures { IfOk result (λ o. option_map tree o ≡ option_and_then (spec.node_within 32) (read text.now)) }
 {
     match value_of_text(alloc, text)? {
-        Some(value) => node_within(alloc, &value, 32),
+        Some(value) => node_within(alloc, &value, LEVELS),
         None => Ok(None),
     }
 }
@@ -361,7 +372,7 @@ fn node_of_text(alloc: Global, text: &str) -> Result<Option<Pred>, AllocError>
 pub fn pred_of(alloc: Global, text: &str) -> Result<Option<Pred>, AllocError>
     ensures { IfOk result (λ o. option_map tree o ≡ spec.predicate_in text.now) }
 {
-    if text.len() > 2048 {
+    if text.len() > LONGEST_TEXT {
         return Ok(None);
     }
     node_of_text(alloc, text)

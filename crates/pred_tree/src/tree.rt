@@ -20,13 +20,24 @@ pub enum Comparison {
 /// One side of a comparison.
 #[derive(Drop)]
 pub enum Leaf {
-    /// The column of that name, and the type that the predicate gives it.
-    Column(Text, PartType),
-    /// A value as a text, and its type.
-    Literal(Text, PartType),
+    /// A column of the table.
+    Column {
+        /// The column's name, in its own case.
+        name: Text,
+        /// The type that the predicate gives it, [`PartType::Other`] for any word beside `bool`,
+        /// `int`, `long`, `string` and `date`.
+        kind: PartType,
+    },
+    /// A value.
+    Literal {
+        /// The value as a text.
+        value: Text,
+        /// Its type, as that of a column.
+        kind: PartType,
+    },
 }
 
-/// A predicate.
+/// A predicate, as [`crate::pred_of`] reads it. Contracts see it as its tree.
 #[derive(Drop)]
 pub enum Pred {
     /// `and`: each of the predicates.

@@ -146,8 +146,8 @@ fn is_null(value: PartValue<'_>) -> bool
 pub(crate) fn null_truth(kind: Option<PartType>, text: Option<&str>) -> Truth
     ensures { result ≡ spec.null_truth kind (option_copied text.entry) }
 {
-    match kind {
-        Some(kind) => of_test(is_null(value_of(text, kind))),
-        None => Truth::Unknown,
-    }
+    let Some(kind) = kind else {
+        return Truth::Unknown;
+    };
+    of_test(is_null(value_of(text, kind)))
 }

@@ -1,4 +1,4 @@
-use Rattle.std.proofs.Common.{◌≡◌, ◌++◌, List, Option, ℕ, drop, map}
+use Rattle.std.proofs.Common.{◌≡◌, ◌++◌, drop, map}
 use Rattle.json_tree.specs.declared.pairs.Pairs.{Pairs}
 use Rattle.pred_tree.specs.Bound.{answer}
 use Rattle.pred_tree.specs.Tree.{trees}

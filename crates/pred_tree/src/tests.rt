@@ -1,0 +1,304 @@
+use crate::{Truth, bind, eval, pred_of};
+use json_tree::{Pair, Pairs, Text};
+use log_actions::{AddFile, FileSize};
+use part_values::{Column, Columns, PartType};
+use std::alloc::{AllocError, Global};
+use std::process::Abort;
+use std::test::Fail;
+
+const EQUAL: &str =
+    "{\"op\":\"equal\",\"children\":[{\"op\":\"column\",\"name\":\"day\",\"valueType\":\"int\"},{\"op\":\"literal\",\"value\":\"7\",\"valueType\":\"int\"}]}";
+
+const IS_NULL: &str =
+    "{\"op\":\"isNull\",\"children\":[{\"op\":\"column\",\"name\":\"day\",\"valueType\":\"int\"}]}";
+
+const NOT_EQUAL: &str =
+    "{\"op\":\"not\",\"children\":[{\"op\":\"equal\",\"children\":[{\"op\":\"column\",\"name\":\"day\",\"valueType\":\"int\"},{\"op\":\"literal\",\"value\":\"7\",\"valueType\":\"int\"}]}]}";
+
+const NOT_NULL: &str =
+    "{\"op\":\"not\",\"children\":[{\"op\":\"isNull\",\"children\":[{\"op\":\"column\",\"name\":\"day\",\"valueType\":\"int\"}]}]}";
+
+fn text(alloc: Global, of: &str) -> Result<Text, AllocError> {
+    Ok(Text::of(String::from_str(alloc, of)?))
+}
+
+// A table with the one partition column `day`, a whole number of 32 bits.
+fn days(alloc: Global) -> Result<Columns, AllocError> {
+    let mut columns = Vec::new(alloc);
+    columns.push(Column {
+        name: text(alloc, "day")?,
+        kind: PartType::Int,
+    })?;
+    Ok(Columns::of(columns))
+}
+
+fn values(alloc: Global, day: Option<&str>) -> Result<Pairs, AllocError> {
+    let value = match day {
+        Some(day) => Some(text(alloc, day)?),
+        None => None,
+    };
+    let mut pairs = Vec::new(alloc);
+    pairs.push(Pair {
+        name: text(alloc, "day")?,
+        value,
+    })?;
+    Ok(Pairs::of(pairs).unwrap_or(Pairs::new(alloc)))
+}
+
+fn file(alloc: Global, values: Pairs) -> Result<Option<AddFile>, AllocError> {
+    let Some(size) = FileSize::of(1) else {
+        return Ok(None);
+    };
+    Ok(Some(AddFile {
+        path: text(alloc, "a")?,
+        values,
+        size,
+        modified: 0,
+        data_change: true,
+        stats: None,
+        tags: None,
+        vector: false,
+    }))
+}
+
+// What the predicate says of the file, and what it says once it is bound.
+fn truths(
+    alloc: Global,
+    predicate: &str,
+    values: Pairs,
+) -> Result<Option<(Truth, Truth)>, AllocError> {
+    let Some(pred) = pred_of(alloc, predicate)? else {
+        return Ok(None);
+    };
+    let Some(file) = file(alloc, values)? else {
+        return Ok(None);
+    };
+    let columns = days(alloc)?;
+    let bound = bind(alloc, &pred, &columns)?;
+    Ok(Some((eval(&pred, &columns, &file), bound.eval(&file))))
+}
+
+fn says(
+    rt: &impl Abort,
+    alloc: Global,
+    predicate: &str,
+    values: Pairs,
+    want: Truth,
+) -> Result<(), AllocError> {
+    let found = truths(alloc, predicate, values)?;
+    assert!(rt; found == Some((want, want)), "at {predicate}");
+    Ok(())
+}
+
+#[test]
+fn weighs_a_whole_number(rt: HostRuntime) -> Result<(), Fail> {
+    let alloc = rt.alloc();
+    let rows = [
+        (EQUAL, Some(""), Truth::Unknown),
+        (IS_NULL, Some(""), Truth::True),
+        (NOT_EQUAL, Some(""), Truth::Unknown),
+        (NOT_NULL, Some(""), Truth::False),
+        (EQUAL, None, Truth::Unknown),
+        (IS_NULL, None, Truth::True),
+        (NOT_EQUAL, None, Truth::Unknown),
+        (NOT_NULL, None, Truth::False),
+        (EQUAL, Some("007"), Truth::Unknown),
+        (IS_NULL, Some("007"), Truth::False),
+        (NOT_EQUAL, Some("007"), Truth::Unknown),
+        (NOT_NULL, Some("007"), Truth::True),
+        (EQUAL, Some("7"), Truth::True),
+        (IS_NULL, Some("7"), Truth::False),
+        (NOT_EQUAL, Some("7"), Truth::False),
+        (NOT_NULL, Some("7"), Truth::True),
+    ];
+    for (predicate, day, want) in rows {
+        says(&rt, alloc, predicate, values(alloc, day)?, want)?;
+    }
+    Ok(())
+}
+
+#[test]
+fn compares_within_one_class(rt: HostRuntime) -> Result<(), Fail> {
+    let alloc = rt.alloc();
+    let rows = [
+        (
+            "{\"op\":\"lessThan\",\"children\":[{\"op\":\"column\",\"name\":\"day\",\"valueType\":\"int\"},{\"op\":\"literal\",\"value\":\"7\",\"valueType\":\"int\"}]}",
+            Truth::False,
+        ),
+        (
+            "{\"op\":\"lessThanOrEqual\",\"children\":[{\"op\":\"column\",\"name\":\"day\",\"valueType\":\"int\"},{\"op\":\"literal\",\"value\":\"7\",\"valueType\":\"int\"}]}",
+            Truth::True,
+        ),
+        (
+            "{\"op\":\"greaterThan\",\"children\":[{\"op\":\"literal\",\"value\":\"8\",\"valueType\":\"int\"},{\"op\":\"column\",\"name\":\"day\",\"valueType\":\"int\"}]}",
+            Truth::True,
+        ),
+        (
+            "{\"op\":\"greaterThanOrEqual\",\"children\":[{\"op\":\"column\",\"name\":\"day\",\"valueType\":\"int\"},{\"op\":\"literal\",\"value\":\"8\",\"valueType\":\"int\"}]}",
+            Truth::False,
+        ),
+        (
+            "{\"op\":\"equal\",\"children\":[{\"op\":\"column\",\"name\":\"day\",\"valueType\":\"int\"},{\"op\":\"literal\",\"value\":\"7\",\"valueType\":\"long\"}]}",
+            Truth::True,
+        ),
+        (
+            "{\"op\":\"equal\",\"children\":[{\"op\":\"column\",\"name\":\"day\",\"valueType\":\"int\"},{\"op\":\"literal\",\"value\":\"7\",\"valueType\":\"string\"}]}",
+            Truth::Unknown,
+        ),
+        (
+            "{\"op\":\"equal\",\"children\":[{\"op\":\"column\",\"name\":\"day\",\"valueType\":\"string\"},{\"op\":\"literal\",\"value\":\"7\",\"valueType\":\"int\"}]}",
+            Truth::Unknown,
+        ),
+        (
+            "{\"op\":\"equal\",\"children\":[{\"op\":\"column\",\"name\":\"day\",\"valueType\":\"integer\"},{\"op\":\"literal\",\"value\":\"7\",\"valueType\":\"int\"}]}",
+            Truth::Unknown,
+        ),
+        (
+            "{\"op\":\"equal\",\"children\":[{\"op\":\"column\",\"name\":\"Day\",\"valueType\":\"int\"},{\"op\":\"literal\",\"value\":\"7\",\"valueType\":\"int\"}]}",
+            Truth::Unknown,
+        ),
+        (
+            "{\"op\":\"isNull\",\"children\":[{\"op\":\"column\",\"name\":\"Day\",\"valueType\":\"int\"}]}",
+            Truth::Unknown,
+        ),
+        (
+            "{\"op\":\"isNull\",\"children\":[{\"op\":\"column\",\"name\":\"day\",\"valueType\":\"float\"}]}",
+            Truth::False,
+        ),
+        (
+            "{\"op\":\"lessThan\",\"children\":[{\"op\":\"column\",\"name\":\"day\",\"valueType\":\"int\"},{\"op\":\"literal\",\"value\":\"2147483648\",\"valueType\":\"int\"}]}",
+            Truth::Unknown,
+        ),
+        (
+            "{\"op\":\"lessThan\",\"children\":[{\"op\":\"column\",\"name\":\"day\",\"valueType\":\"int\"},{\"op\":\"literal\",\"value\":\"2147483648\",\"valueType\":\"long\"}]}",
+            Truth::True,
+        ),
+        (
+            "{\"op\":\"equal\",\"children\":[{\"op\":\"literal\",\"value\":\"\",\"valueType\":\"int\"},{\"op\":\"literal\",\"value\":\"\",\"valueType\":\"string\"}]}",
+            Truth::Unknown,
+        ),
+        (
+            "{\"op\":\"lessThan\",\"children\":[{\"op\":\"literal\",\"value\":\"false\",\"valueType\":\"bool\"},{\"op\":\"literal\",\"value\":\"true\",\"valueType\":\"bool\"}]}",
+            Truth::True,
+        ),
+        (
+            "{\"op\":\"lessThan\",\"children\":[{\"op\":\"literal\",\"value\":\"1969-12-31\",\"valueType\":\"date\"},{\"op\":\"literal\",\"value\":\"1970-01-01\",\"valueType\":\"date\"}]}",
+            Truth::True,
+        ),
+        (
+            "{\"op\":\"lessThan\",\"children\":[{\"op\":\"literal\",\"value\":\"Z\",\"valueType\":\"string\"},{\"op\":\"literal\",\"value\":\"a\",\"valueType\":\"string\"}]}",
+            Truth::True,
+        ),
+    ];
+    for (predicate, want) in rows {
+        says(&rt, alloc, predicate, values(alloc, Some("7"))?, want)?;
+    }
+    Ok(())
+}
+
+#[test]
+fn joins_by_kleenes_tables(rt: HostRuntime) -> Result<(), Fail> {
+    let alloc = rt.alloc();
+    let rows = [
+        (
+            "{\"op\":\"and\",\"children\":[{\"op\":\"equal\",\"children\":[{\"op\":\"column\",\"name\":\"day\",\"valueType\":\"int\"},{\"op\":\"literal\",\"value\":\"7\",\"valueType\":\"int\"}]},{\"op\":\"equal\",\"children\":[{\"op\":\"column\",\"name\":\"x\",\"valueType\":\"int\"},{\"op\":\"literal\",\"value\":\"7\",\"valueType\":\"int\"}]}]}",
+            Truth::Unknown,
+        ),
+        (
+            "{\"op\":\"and\",\"children\":[{\"op\":\"not\",\"children\":[{\"op\":\"equal\",\"children\":[{\"op\":\"column\",\"name\":\"day\",\"valueType\":\"int\"},{\"op\":\"literal\",\"value\":\"7\",\"valueType\":\"int\"}]}]},{\"op\":\"equal\",\"children\":[{\"op\":\"column\",\"name\":\"x\",\"valueType\":\"int\"},{\"op\":\"literal\",\"value\":\"7\",\"valueType\":\"int\"}]}]}",
+            Truth::False,
+        ),
+        (
+            "{\"op\":\"and\",\"children\":[{\"op\":\"equal\",\"children\":[{\"op\":\"column\",\"name\":\"x\",\"valueType\":\"int\"},{\"op\":\"literal\",\"value\":\"7\",\"valueType\":\"int\"}]},{\"op\":\"not\",\"children\":[{\"op\":\"equal\",\"children\":[{\"op\":\"column\",\"name\":\"day\",\"valueType\":\"int\"},{\"op\":\"literal\",\"value\":\"7\",\"valueType\":\"int\"}]}]}]}",
+            Truth::False,
+        ),
+        (
+            "{\"op\":\"and\",\"children\":[{\"op\":\"equal\",\"children\":[{\"op\":\"column\",\"name\":\"day\",\"valueType\":\"int\"},{\"op\":\"literal\",\"value\":\"7\",\"valueType\":\"int\"}]}]}",
+            Truth::True,
+        ),
+        (
+            "{\"op\":\"or\",\"children\":[{\"op\":\"equal\",\"children\":[{\"op\":\"column\",\"name\":\"day\",\"valueType\":\"int\"},{\"op\":\"literal\",\"value\":\"7\",\"valueType\":\"int\"}]},{\"op\":\"equal\",\"children\":[{\"op\":\"column\",\"name\":\"x\",\"valueType\":\"int\"},{\"op\":\"literal\",\"value\":\"7\",\"valueType\":\"int\"}]}]}",
+            Truth::True,
+        ),
+        (
+            "{\"op\":\"or\",\"children\":[{\"op\":\"equal\",\"children\":[{\"op\":\"column\",\"name\":\"x\",\"valueType\":\"int\"},{\"op\":\"literal\",\"value\":\"7\",\"valueType\":\"int\"}]},{\"op\":\"equal\",\"children\":[{\"op\":\"column\",\"name\":\"day\",\"valueType\":\"int\"},{\"op\":\"literal\",\"value\":\"7\",\"valueType\":\"int\"}]}]}",
+            Truth::True,
+        ),
+        (
+            "{\"op\":\"or\",\"children\":[{\"op\":\"not\",\"children\":[{\"op\":\"equal\",\"children\":[{\"op\":\"column\",\"name\":\"day\",\"valueType\":\"int\"},{\"op\":\"literal\",\"value\":\"7\",\"valueType\":\"int\"}]}]},{\"op\":\"equal\",\"children\":[{\"op\":\"column\",\"name\":\"x\",\"valueType\":\"int\"},{\"op\":\"literal\",\"value\":\"7\",\"valueType\":\"int\"}]}]}",
+            Truth::Unknown,
+        ),
+        (
+            "{\"op\":\"or\",\"children\":[{\"op\":\"not\",\"children\":[{\"op\":\"equal\",\"children\":[{\"op\":\"column\",\"name\":\"day\",\"valueType\":\"int\"},{\"op\":\"literal\",\"value\":\"7\",\"valueType\":\"int\"}]}]},{\"op\":\"not\",\"children\":[{\"op\":\"equal\",\"children\":[{\"op\":\"column\",\"name\":\"day\",\"valueType\":\"int\"},{\"op\":\"literal\",\"value\":\"7\",\"valueType\":\"int\"}]}]}]}",
+            Truth::False,
+        ),
+        (
+            "{\"op\":\"not\",\"children\":[{\"op\":\"equal\",\"children\":[{\"op\":\"column\",\"name\":\"x\",\"valueType\":\"int\"},{\"op\":\"literal\",\"value\":\"7\",\"valueType\":\"int\"}]}]}",
+            Truth::Unknown,
+        ),
+    ];
+    for (predicate, want) in rows {
+        says(&rt, alloc, predicate, values(alloc, Some("7"))?, want)?;
+    }
+    says(&rt, alloc, IS_NULL, Pairs::new(alloc), Truth::True)?;
+    assert!(rt; !Truth::False.is_listed() && Truth::Unknown.is_listed());
+    Ok(())
+}
+
+#[test]
+fn takes_no_other_text(rt: HostRuntime) -> Result<(), Fail> {
+    let alloc = rt.alloc();
+    let texts = [
+        "{",
+        "",
+        "{\"op\":\"column\",\"name\":\"day\",\"valueType\":\"int\"}",
+        "{\"op\":\"literal\",\"value\":\"7\",\"valueType\":\"int\"}",
+        "{\"op\":\"and\",\"children\":[]}",
+        "{\"op\":\"or\",\"children\":[]}",
+        "{\"op\":\"not\",\"children\":[{\"op\":\"isNull\",\"children\":[{\"op\":\"column\",\"name\":\"day\",\"valueType\":\"int\"}]},{\"op\":\"isNull\",\"children\":[{\"op\":\"column\",\"name\":\"day\",\"valueType\":\"int\"}]}]}",
+        "{\"op\":\"equal\",\"children\":[{\"op\":\"column\",\"name\":\"day\",\"valueType\":\"int\"}]}",
+        "{\"op\":\"equal\",\"children\":[{\"op\":\"column\",\"name\":\"day\",\"valueType\":\"int\"},{\"op\":\"literal\",\"value\":\"7\",\"valueType\":\"int\"},{\"op\":\"literal\",\"value\":\"7\",\"valueType\":\"int\"}]}",
+        "{\"op\":\"isNull\",\"children\":[{\"op\":\"literal\",\"value\":\"7\",\"valueType\":\"int\"}]}",
+        "{\"op\":\"and\",\"children\":[{\"op\":\"column\",\"name\":\"day\",\"valueType\":\"int\"}]}",
+        "{\"op\":\"not\",\"children\":[{\"op\":\"column\",\"name\":\"day\",\"valueType\":\"int\"}]}",
+        "{\"op\":\"equal\",\"children\":[{\"op\":\"isNull\",\"children\":[{\"op\":\"column\",\"name\":\"day\",\"valueType\":\"int\"}]},{\"op\":\"literal\",\"value\":\"7\",\"valueType\":\"int\"}]}",
+        "{\"op\":\"Equal\",\"children\":[{\"op\":\"column\",\"name\":\"day\",\"valueType\":\"int\"},{\"op\":\"literal\",\"value\":\"7\",\"valueType\":\"int\"}]}",
+        "{\"op\":\"not\"}",
+        "{\"op\":\"not\",\"children\":{}}",
+        "[]",
+        "{\"op\":\"isNull\",\"children\":[{\"op\":\"column\",\"name\":\"day\"}]}",
+        "{\"op\":\"isNull\",\"children\":[{\"op\":\"column\",\"name\":7,\"valueType\":\"int\"}]}",
+    ];
+    for text in texts {
+        assert!(rt; pred_of(alloc, text)?.is_none(), "at {text}");
+    }
+    Ok(())
+}
+
+// A null test under so many `not`s, and then spaces.
+fn nested(alloc: Global, nots: usize, spaces: usize) -> Result<String, AllocError> {
+    let mut text = String::new(alloc);
+    for _ in 0..nots {
+        text.push_str("{\"op\":\"not\",\"children\":[")?;
+    }
+    text.push_str(IS_NULL)?;
+    for _ in 0..nots {
+        text.push_str("]}")?;
+    }
+    for _ in 0..spaces {
+        text.push(' ')?;
+    }
+    Ok(text)
+}
+
+#[test]
+fn keeps_to_its_bounds(rt: HostRuntime) -> Result<(), Fail> {
+    let alloc = rt.alloc();
+    assert!(rt; pred_of(alloc, &nested(alloc, 30, 0)?)?.is_some());
+    assert!(rt; pred_of(alloc, &nested(alloc, 31, 0)?)?.is_none());
+    let longest = nested(alloc, 0, 1973)?;
+    assert_eq!(rt; longest.len(), 2048);
+    assert!(rt; pred_of(alloc, &longest)?.is_some());
+    assert!(rt; pred_of(alloc, &nested(alloc, 0, 1974)?)?.is_none());
+    Ok(())
+}
