@@ -2,7 +2,8 @@
 use json_tree::Text;
 use share_catalog::{CatalogName, TableName};
 
-/// The parts of a link to one file of a shared table.
+/// The parts of a link to one file of a shared table. In a link the two editions and the expiry are below
+/// 2^63.
 #[derive(Drop)]
 pub struct LinkParts {
     /// The table's name.
