@@ -1,0 +1,26 @@
+-- Fields by their names, and the elements of their values (RFC 9110, sections 5.1 and 5.6.1).
+use Rattle.std.specs.Prelude.{ℕ, Bool, ◌==◌, List, [], ◌∷◌, map, bytes_eq, codes, if◌then◌else◌}
+use Rattle.std.specs.Char.{to_ascii_lowercase}
+use Rattle.std.specs.List.{list_any, slice_split}
+use Rattle.httparse.specs.Grammar.{trim_ows}
+use Rattle.http_message.specs.declared.field.Field.{Field}
+
+-- a field as the pair of its name and its value
+abbrev pub field_parts : Field → List ℕ × List ℕ
+field_parts f = (f.name, f.value.items)
+
+-- the texts are the same but for the case of ASCII letters
+abbrev pub same_text : List ℕ → List ℕ → Bool
+same_text a b = bytes_eq (map to_ascii_lowercase a) (map to_ascii_lowercase b)
+
+abbrev pub is_named : List ℕ → List ℕ × List ℕ → Bool
+is_named name field = same_text field.0 name
+
+-- the value of the first field of that name, or the empty value
+abbrev pub first_named : List ℕ → List (List ℕ × List ℕ) → List ℕ
+first_named name [] = []
+first_named name (field ∷ fields) = if is_named name field then field.1 else first_named name fields
+
+-- one of the elements between commas is the option, without the white space around it
+abbrev pub lists_option : List ℕ → List ℕ → Bool
+lists_option option value = list_any (λ element. same_text (trim_ows element) option) (slice_split (λ b. b == 44) value)

@@ -1,0 +1,9 @@
+pub mod Ends
+pub mod Refusals
+pub mod Fields
+pub mod Heads
+pub mod Fronts
+pub mod Framing
+pub mod Lines
+pub mod Bodies
+pub mod Messages

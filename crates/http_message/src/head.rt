@@ -1,0 +1,117 @@
+// Heads as texts.
+ghost use Rattle.std.specs.Prelude.{◌≡◌, map, IfOk, MatchBool};
+ghost use Rattle.httparse.specs.Borrowed.{header_parts};
+ghost use Rattle.http_message.specs.Heads.{IsTrailersText, TellsHead};
+ghost use Rattle.http_message.specs.Fronts.{TellsFront};
+ghost use Rattle.http_message.specs.Fields.{field_parts};
+
+use crate::field::{Field, Fields};
+use httparse::{EMPTY_HEADER, Error, Header, Request, Status, parse_headers};
+use json_tree::Text;
+use std::alloc::{AllocError, Global};
+
+/// The head of a request (RFC 9112, section 3).
+#[derive(Drop)]
+pub struct Head {
+    /// The method, as `GET`.
+    pub method: Text,
+    /// The target, as it was written.
+    pub target: Text,
+    /// The minor version: 0 for HTTP/1.0, and 1 for HTTP/1.1.
+    pub minor: u8,
+    /// The fields, in order.
+    pub fields: Fields,
+}
+
+// Why the front of a text is no head with at most 64 fields.
+#[derive(Clone, Copy, Debug, PartialEq, Eq)]
+pub(crate) enum HeadFault {
+    NoHead,
+    NoMemory,
+}
+
+impl From<AllocError> for HeadFault {
+    ghost use Rattle.std.specs.Prelude.{◌≡◌};
+    ghost use Rattle.http_message.specs.declared.head.HeadFault.TheVariants.{NoMemory};
+
+    ghost from_gives = { λ _ e. e ≡ NoMemory };
+
+    fn from(_error: AllocError) -> HeadFault {
+        HeadFault::NoMemory
+    }
+}
+
+fn copy_fields(alloc: Global, headers: &[Header<'_>]) -> Result<Vec<Field>, AllocError>
+    ensures { IfOk result (λ fields. map field_parts fields.items ≡ map header_parts headers.now) }
+{
+    let mut fields = Vec::new(alloc);
+    for header in headers {
+        let name = Text::of(String::from_str(alloc, header.name)?);
+        let value = Vec::from_slice(alloc, header.value)?;
+        fields.push(Field { name, value })?;
+    }
+    Ok(fields)
+}
+
+// The head at the front of the text, and its length; a fault where no head of at most 64 fields is at the front.
+fn front_of(alloc: Global, text: &[u8]) -> Result<(Head, usize), HeadFault>
+    ensures { TellsFront text.now result }
+{
+    let mut room = [EMPTY_HEADER; 64];
+    let mut request = Request::new(&mut room);
+    match request.parse(text) {
+        Ok(Status::Complete(len)) => {
+            let method = Text::of(String::from_str(alloc, request.method.unwrap())?);
+            let target = Text::of(String::from_str(alloc, request.path.unwrap())?);
+            let minor = request.version.unwrap();
+            let fields = Fields::of(copy_fields(alloc, request.headers)?);
+            Ok((
+                Head {
+                    method,
+                    target,
+                    minor,
+                    fields,
+                },
+                len,
+            ))
+        }
+        Ok(Status::Partial) => Err(HeadFault::NoHead),
+        Err(Error::TooManyHeaders) => Err(HeadFault::NoHead),
+        Err(_) => Err(HeadFault::NoHead),
+    }
+}
+
+/// The head that the whole text is, or none where it is no head with at most 64 fields.
+///
+/// The error is want of memory.
+pub fn head_in(alloc: Global, text: &[u8]) -> Result<Option<Head>, AllocError>
+    ensures { IfOk result (TellsHead text.now) }
+{
+    match front_of(alloc, text) {
+        Ok((head, len)) => {
+            if len != text.len() {
+                return Ok(None);
+            }
+            if head.fields.items().len() > 64 {
+                return Ok(None);
+            }
+            Ok(Some(head))
+        }
+        Err(HeadFault::NoHead) => Ok(None),
+        Err(HeadFault::NoMemory) => Err(AllocError),
+    }
+}
+
+/// Whether the whole text is field lines, at most 64, and an empty line: the trailers of a chunked body
+/// (RFC 9112, section 7.1.2).
+pub fn is_trailers(text: &[u8]) -> bool
+    ensures { MatchBool result (IsTrailersText text.now) (¬ (IsTrailersText text.now)) }
+{
+    let mut room = [EMPTY_HEADER; 64];
+    match parse_headers(text, &mut room) {
+        Ok(Status::Complete((len, headers))) => len == text.len() && headers.len() <= 64,
+        Ok(Status::Partial) => false,
+        Err(Error::TooManyHeaders) => false,
+        Err(_) => false,
+    }
+}

@@ -1,0 +1,92 @@
+use crate::chunk::chunk_line;
+use crate::ends::{blank_len, end_after, line_count};
+use crate::framing::{Form, closes, request_form};
+use crate::head::{head_in, is_trailers};
+use crate::refusal::{BAD_MESSAGE, BODY_TOO_LARGE, TRANSFER_CODING};
+use std::alloc::{AllocError, Global};
+
+const MOST: u64 = 16_777_216;
+
+#[test]
+fn a_head_ends_with_its_first_empty_line(rt: HostRuntime) {
+    let text = b"\r\n\nGET / HTTP/1.0\n\nrest\n\n";
+    assert!(&rt; blank_len(text) == 3);
+    assert!(&rt; end_after(text, 3, 3) == Some(19));
+    assert!(&rt; line_count(b"a\nb\r\n") == 2);
+}
+
+// The form of the body of the request that the text is the head of, or none where it is no head.
+fn form(alloc: Global, text: &[u8]) -> Result<Option<Result<Form, u16>>, AllocError> {
+    match head_in(alloc, text)? {
+        Some(head) => Ok(Some(request_form(MOST, &head))),
+        None => Ok(None),
+    }
+}
+
+#[test]
+fn bodies_are_framed_by_fields(rt: HostRuntime) -> Result<(), AllocError> {
+    let a = rt.alloc();
+    assert!(&rt;
+        form(
+            a,
+            b"POST / HTTP/1.1\r\nhost: x\r\nContent-Length:  007 \r\n\r\n"
+        )? == Some(Ok(Form::Length(7)))
+    );
+    assert!(&rt;
+        form(
+            a,
+            b"POST / HTTP/1.1\r\nHost: x\r\nTransfer-Encoding: Chunked\r\n\r\n"
+        )? == Some(Ok(Form::Chunked))
+    );
+    assert!(&rt; form(a, b"GET / HTTP/1.0\n\n")? == Some(Ok(Form::Length(0))));
+    assert!(&rt; form(a, b"GET / HTTP/1.1\r\nHost : x\r\n\r\n")? == None);
+    Ok(())
+}
+
+#[test]
+fn broken_framing_is_refused(rt: HostRuntime) -> Result<(), AllocError> {
+    let a = rt.alloc();
+    assert!(&rt;
+        form(a, b"GET / HTTP/1.1\r\nHost: x\r\nHost: x\r\n\r\n")? == Some(Err(BAD_MESSAGE))
+    );
+    assert!(&rt;
+        form(
+            a,
+            b"GET / HTTP/1.1\r\nHost: x\r\nContent-Length: +1\r\n\r\n"
+        )? == Some(Err(BAD_MESSAGE))
+    );
+    assert!(&rt;
+        form(
+            a,
+            b"GET / HTTP/1.1\r\nHost: x\r\nTransfer-Encoding: gzip\r\n\r\n"
+        )? == Some(Err(TRANSFER_CODING))
+    );
+    assert!(&rt;
+        form(
+            a,
+            b"GET / HTTP/1.1\r\nHost: x\r\nContent-Length: 16777217\r\n\r\n"
+        )? == Some(Err(BODY_TOO_LARGE))
+    );
+    Ok(())
+}
+
+#[test]
+fn close_is_an_element(rt: HostRuntime) -> Result<(), AllocError> {
+    match head_in(
+        rt.alloc(),
+        b"GET / HTTP/1.1\r\nHost: x\r\nConnection: keep-alive , CLOSE\r\n\r\n",
+    )? {
+        Some(head) => assert!(&rt; closes(head.minor, &head.fields)),
+        None => assert!(&rt; false),
+    }
+    Ok(())
+}
+
+#[test]
+fn lines_of_chunks_and_trailers(rt: HostRuntime) {
+    assert!(&rt; chunk_line(b"1f;name=value\r\n") == Ok(Some((15, 31))));
+    assert!(&rt; chunk_line(b"1f") == Ok(None));
+    assert!(&rt; chunk_line(b"zz").is_err());
+    assert!(&rt; is_trailers(b"A: b\r\n\r\n"));
+    assert!(&rt; !is_trailers(b"A: b\r\n"));
+}

@@ -1,0 +1,10 @@
+pub mod Streams
+pub mod HeadEnds
+pub mod Windows
+pub mod HeadReads
+pub mod Contents
+pub mod Trailers
+pub mod Chunks
+pub mod Decoding
+pub mod Flows
+pub mod Wires

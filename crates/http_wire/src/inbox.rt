@@ -1,0 +1,107 @@
+// The bytes that were read from a source and not yet used.
+ghost use Rattle.std.specs.Prelude.{◌≡◌, ◌≤◌, ◌+◌, ◌-◌, ◌^◌, [], drop, length, min};
+ghost use Rattle.http_wire.specs.Streams.{Fills, Grows};
+
+use edge_core::{Source, Took};
+use std::alloc::{AllocError, Global};
+use std::marker::Model;
+
+// How many bytes are asked for in one read.
+const PIECE: usize = 8192;
+
+/// What came of one read.
+#[derive(Clone, Copy, Debug, PartialEq, Eq)]
+pub(crate) enum Filled {
+    /// Bytes came, and stand behind those that were there.
+    More,
+    /// The source has ended.
+    End,
+    /// The read failed.
+    Failed,
+}
+
+/// Bytes that were read and not yet used, and the place of the first of them in the stream, which stands still at 2^64 - 1.
+/// Contracts see both.
+#[derive(Drop)]
+pub(crate) struct Inbox {
+    buffer: Vec<u8>,
+    at: usize,
+    place: u64,
+}
+
+impl Model for Inbox {
+    ghost use Rattle.std.specs.Prelude.{List, ℕ, ◌≤◌, drop, length};
+
+    ghost Value = { List ℕ × ℕ };
+
+    ghost view = { λ i. (drop i.at i.buffer.items, i.place) };
+
+    ghost invariant = { λ i. i.at ≤ length i.buffer.items };
+}
+
+impl Inbox {
+    pub(crate) fn new(alloc: Global) -> Inbox
+        ensures { result ≡ ([], 0) }
+    {
+        Inbox {
+            buffer: Vec::new(alloc),
+            at: 0,
+            place: 0,
+        }
+    }
+
+    /// The bytes.
+    pub(crate) fn bytes(&self) -> &[u8]
+        ensures { result.now ≡ self.now.0 }
+    {
+        &self.buffer[self.at..]
+    }
+
+    /// The place of the first byte.
+    pub(crate) fn place(&self) -> u64
+        ensures { result ≡ self.now.1 }
+    {
+        self.place
+    }
+
+    /// Takes the first bytes away.
+    pub(crate) fn consume(&mut self, count: usize)
+        requires { count ≤ length self.old.0 }
+        ensures bytes { self.new.0 ≡ drop count self.old.0 }
+        ensures place { self.new.1 ≡ min (self.old.1 + count) (2 ^ 64 - 1) }
+    {
+        self.at += count;
+        self.place = self.place.saturating_add(count as u64);
+    }
+
+    // Moves the bytes to the front of the buffer, where no more of them are left than were used.
+    fn compact(&mut self)
+        ensures { self.new ≡ self.old }
+    {
+        let left = self.buffer.len() - self.at;
+        if self.at >= left {
+            self.buffer.copy_within(self.at.., 0);
+            self.buffer.truncate(left);
+            self.at = 0;
+        }
+    }
+
+    /// Reads once. Want of memory comes before the read.
+    pub(crate) fn fill<S: Source>(&mut self, source: &mut S) -> Result<Filled, AllocError>
+        ensures grows { Grows self.old self.new (S.left source.old) (S.left source.new) }
+        ensures told { Fills self.old.0 self.new.0 (S.left source.new) (S.faults source.old) (S.faults source.new) result }
+        ensures later { S.faults source.old ≤ S.faults source.new }
+    {
+        let mut piece = [0u8; PIECE];
+        self.compact();
+        self.buffer.reserve(PIECE)?;
+        match source.read(&mut piece) {
+            Took::Bytes(count) => {
+                self.buffer.extend_from_slice(&piece[..count])?;
+                Ok(Filled::More)
+            }
+            Took::End => Ok(Filled::End),
+            Took::Failed => Ok(Filled::Failed),
+        }
+    }
+}

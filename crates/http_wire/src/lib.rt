@@ -1,0 +1,15 @@
+//! The messages of a connection (RFC 9112), read from a source however its pieces are cut.
+#![tactic(auto)]
+
+mod body;
+mod head;
+mod inbox;
+mod reading;
+mod wire;
+mod writing;
+
+pub use wire::{Message, Wire};
+pub use writing::write_all;
+
+#[cfg(test)]
+mod tests;

@@ -1,0 +1,167 @@
+// Reading as far as a part of a message needs. Nothing is used here.
+ghost use Rattle.std.specs.Prelude.{◌≡◌, ◌≤◌, length, take};
+ghost use Rattle.http_wire.specs.Streams.{Grows};
+ghost use Rattle.http_wire.specs.Parts.{TellsBlank, TellsEndIn, TellsLine, TellsNeed};
+
+use crate::inbox::{Filled, Inbox};
+use edge_core::Source;
+use http_message::chunk::chunk_line;
+use http_message::ends::{blank_len_from, end_after};
+use std::alloc::AllocError;
+
+/// The most bytes of a head, and of trailers.
+pub(crate) const MOST: usize = 16_384;
+
+/// The empty lines at the front.
+#[derive(Clone, Copy, Debug, PartialEq, Eq)]
+pub(crate) enum Blank {
+    /// They end there, and at least two bytes follow.
+    Start(usize),
+    /// Fewer than two bytes follow within the most.
+    TooLarge,
+    /// The input ended, and fewer than two bytes follow.
+    Ended,
+    /// A read failed.
+    Failed,
+}
+
+/// The first empty line behind a place.
+#[derive(Clone, Copy, Debug, PartialEq, Eq)]
+pub(crate) enum EndIn {
+    /// It ends there.
+    At(usize),
+    /// None ends within the most.
+    TooLarge,
+    /// The input ended, and none had.
+    Ended,
+    /// A read failed.
+    Failed,
+}
+
+/// The line in front of a chunk.
+#[derive(Clone, Copy, Debug, PartialEq, Eq)]
+pub(crate) enum Line {
+    /// Its length, and the size that it announces.
+    Size(usize, u64),
+    /// The input ended inside it.
+    Ended,
+    /// It is none.
+    Bad,
+    /// A read failed.
+    Failed,
+}
+
+/// Whether so many bytes are there.
+#[derive(Clone, Copy, Debug, PartialEq, Eq)]
+pub(crate) enum Need {
+    /// They are.
+    Enough,
+    /// The input ended before.
+    Ended,
+    /// A read failed.
+    Failed,
+}
+
+/// Reads until so many bytes are there.
+pub(crate) fn await_bytes<S: Source>(
+    inbox: &mut Inbox,
+    source: &mut S,
+    size: usize,
+) -> Result<Need, AllocError>
+    ensures grows { Grows inbox.old inbox.new (S.left source.old) (S.left source.new) }
+    ensures later { S.faults source.old ≤ S.faults source.new }
+    ensures told { TellsNeed size inbox.new.0 (S.left source.new) (S.faults source.old) (S.faults source.new) result }
+{
+    'turns: loop {
+        if inbox.bytes().len() >= size {
+            return Ok(Need::Enough);
+        }
+        match inbox.fill(source)? {
+            Filled::More => {}
+            Filled::End => return Ok(Need::Ended),
+            Filled::Failed => return Ok(Need::Failed),
+        }
+    }
+}
+
+/// Reads until the line in front of a chunk is there.
+pub(crate) fn await_line<S: Source>(inbox: &mut Inbox, source: &mut S) -> Result<Line, AllocError>
+    ensures grows { Grows inbox.old inbox.new (S.left source.old) (S.left source.new) }
+    ensures later { S.faults source.old ≤ S.faults source.new }
+    ensures told { TellsLine inbox.new.0 (S.left source.new) (S.faults source.old) (S.faults source.new) result }
+{
+    'turns: loop {
+        match chunk_line(inbox.bytes()) {
+            Ok(Some((len, size))) => return Ok(Line::Size(len, size)),
+            Ok(None) => {}
+            Err(_) => return Ok(Line::Bad),
+        }
+        match inbox.fill(source)? {
+            Filled::More => {}
+            Filled::End => return Ok(Line::Ended),
+            Filled::Failed => return Ok(Line::Failed),
+        }
+    }
+}
+
+// The first bytes, at most so many.
+fn front<'a>(bytes: &'a [u8], most: usize) -> &'a [u8]
+    ensures { result.now ≡ take most bytes.now }
+{
+    &bytes[..bytes.len().min(most)]
+}
+
+/// Reads until two bytes are there behind the empty lines in front. Each empty line is looked at once.
+pub(crate) fn await_start<S: Source>(inbox: &mut Inbox, source: &mut S) -> Result<Blank, AllocError>
+    ensures grows { Grows inbox.old inbox.new (S.left source.old) (S.left source.new) }
+    ensures later { S.faults source.old ≤ S.faults source.new }
+    ensures told { TellsBlank inbox.new.0 (S.left source.new) (S.faults source.old) (S.faults source.new) result }
+{
+    let mut known = 0;
+    'turns: loop {
+        let front = front(inbox.bytes(), MOST);
+        known = blank_len_from(front, known);
+        if known + 2 <= front.len() {
+            return Ok(Blank::Start(known));
+        }
+        if front.len() == MOST {
+            return Ok(Blank::TooLarge);
+        }
+        match inbox.fill(source)? {
+            Filled::More => {}
+            Filled::End => return Ok(Blank::Ended),
+            Filled::Failed => return Ok(Blank::Failed),
+        }
+    }
+}
+
+/// Reads until the first empty line behind a place has ended, within so many bytes. Each byte is looked at once.
+pub(crate) fn await_end<S: Source>(
+    inbox: &mut Inbox,
+    source: &mut S,
+    most: usize,
+    start: usize,
+) -> Result<EndIn, AllocError>
+    requires order { start ≤ most }
+    requires within { start ≤ length inbox.old.0 }
+    ensures grows { Grows inbox.old inbox.new (S.left source.old) (S.left source.new) }
+    ensures later { S.faults source.old ≤ S.faults source.new }
+    ensures told { TellsEndIn most start inbox.new.0 (S.left source.new) (S.faults source.old) (S.faults source.new) result }
+{
+    let mut searched = start;
+    'turns: loop {
+        let front = front(inbox.bytes(), most);
+        if let Some(end) = end_after(front, start, searched) {
+            return Ok(EndIn::At(end));
+        }
+        if front.len() == most {
+            return Ok(EndIn::TooLarge);
+        }
+        searched = front.len();
+        match inbox.fill(source)? {
+            Filled::More => {}
+            Filled::End => return Ok(EndIn::Ended),
+            Filled::Failed => return Ok(EndIn::Failed),
+        }
+    }
+}
