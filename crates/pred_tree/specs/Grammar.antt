@@ -113,6 +113,6 @@ node_within (suc levels) d = do
 abbrev pub node_of : ℕ → Operator → Items → Option Tree
 node_of levels operator children = node_by (node_within levels) (within levels leaf_in) (within levels column_in) operator children
 
--- the predicate that the text is: at most 2,048 bytes of JSON, at most 32 levels
+-- the predicate that the text is: at most 2,048 bytes of JSON and at most 32 levels, which are bounds of our own
 abbrev pub predicate_in : List ℕ → Option Tree
 predicate_in text = if nat_le (length text) 2048 then option_and_then (node_within 32) (read text) else None
