@@ -10,4 +10,7 @@ mod tables;
 mod tests;
 
 pub use look::{Row, code_of, row_of};
-pub use tables::{FIELDS, REFUSALS, ROUTES, VALUE_TYPES, fields, refusals, routes, value_types};
+pub use tables::{
+    FIELDS, MESSAGES, REFUSALS, ROUTES, VALUE_TYPES, fields, messages, refusals, routes,
+    value_types,
+};

@@ -1,4 +1,4 @@
-// The four tables.
+// The five tables.
 ghost use Rattle.std.specs.Prelude.{◌≡◌, IsTrue};
 ghost use Rattle.std.specs.List.{list_all};
 ghost use Rattle.case_table.specs.Tables.{IsTable, are_distinct, count_up, is_field, numbers_within, cases_in, cases_of};
@@ -74,6 +74,60 @@ pub fn refusals() -> [Row; 27]
     ensures statuses { IsTrue (numbers_within 400 599 result) }
 {
     refusal_rows!(row)
+}
+
+macro_rules! message_rows {
+    ($made:ident) => {
+        [
+            $made!(1 "unauthenticated" 0),
+            $made!(2 "not found" 0),
+            $made!(3 "method not allowed" 0),
+            $made!(4 "bad parameter " 1),
+            $made!(5 "bad body" 0),
+            $made!(6 "version out of range" 0),
+            $made!(7 "timestamp out of range" 0),
+            $made!(8 "history not shared" 0),
+            $made!(9 "changes not enabled at version " 1),
+            $made!(10 "unsupported table" 0),
+            $made!(11 "token invalid" 0),
+            $made!(12 "token stale" 0),
+            $made!(13 "token mismatch" 0),
+            $made!(14 "token ahead" 0),
+            $made!(15 "link invalid" 0),
+            $made!(16 "file gone" 0),
+            $made!(17 "" 1),
+            $made!(18 "contended" 0),
+            $made!(19 "store fault" 0),
+            $made!(20 "limit " 1),
+            $made!(21 "link expired" 0),
+            $made!(22 "link revoked" 0),
+            $made!(23 "catalog blocked at record " 1),
+            $made!(24 "bad message" 0),
+            $made!(25 "body too large" 0),
+            $made!(26 "head too large" 0),
+            $made!(27 "transfer coding" 0),
+        ]
+    };
+}
+
+/// The rows of [`messages`]: code, word and number of each.
+pub const MESSAGES: [(u16, &str, u16); 27] = message_rows!(case);
+
+/// The messages of the refusals: what an error body has as `message` (Delta Sharing PROTOCOL.md, the errors of the REST
+/// APIs).
+///
+/// The code is the refusal's number, as in [`refusals`]. The word is the fixed part of the message, which comes first;
+/// it is empty where the whole message is told by who refuses. The number is 1 where a variable part follows, as a
+/// parameter's name or a version, and else 0.
+#[tactic(auto, using(crate::proofs::Rules::each))]
+pub fn messages() -> [Row; 27]
+    ensures rows { cases_of result ≡ cases_in MESSAGES }
+    ensures distinct { IsTrue (are_distinct result) }
+    ensures table { IsTable result }
+    ensures in_order { IsTrue (count_up 1 result) }
+    ensures parts { IsTrue (numbers_within 0 1 result) }
+{
+    message_rows!(row)
 }
 
 macro_rules! route_rows {

@@ -106,3 +106,21 @@ fn has_the_fields(rt: HostRuntime) {
     }
     assert!(rt; code_of(&table, "path").is_none());
 }
+
+#[test]
+fn has_the_messages(rt: HostRuntime) {
+    let table = messages();
+    for (code, word, variable) in [
+        (1, "unauthenticated", 0),
+        (4, "bad parameter ", 1),
+        (9, "changes not enabled at version ", 1),
+        (12, "token stale", 0),
+        (17, "", 1),
+        (20, "limit ", 1),
+        (23, "catalog blocked at record ", 1),
+        (27, "transfer coding", 0),
+    ] {
+        assert!(rt; has(&table, code, word, variable), "{word}");
+    }
+    assert!(rt; row_of(&table, 28).is_none());
+}

@@ -1,9 +1,26 @@
-//! The lines of an answer: protocol, metaData and files (Delta Sharing PROTOCOL.md, "API Response
-//! Format in Parquet").
+//! The lines of an answer and the bodies of refusals, printed and read (Delta Sharing PROTOCOL.md,
+//! "API Response Format in Parquet", "Read Change Data Feed from a Table" and the errors of the REST
+//! APIs).
 #![tactic(auto)]
 
-mod lines;
+mod bodies;
+mod errors;
+mod faults;
+mod fields;
+mod kinds;
+#[cfg(test)]
+mod line_tests;
+mod printing;
+mod ranges;
+mod reading;
+mod table_lines;
 #[cfg(test)]
 mod tests;
 
-pub use lines::{push_file, push_meta, push_protocol};
+pub use bodies::{lines_of, lines_text};
+pub use errors::{error_of, error_text, one_error};
+pub use faults::LinesFault;
+pub use kinds::{EndLine, FileLine, Line, Lines, MetaLine};
+pub use printing::{line_onto, line_text, push_line};
+pub use ranges::{TableVersion, UrlExpiry};
+pub use table_lines::{push_file, push_meta, push_protocol};

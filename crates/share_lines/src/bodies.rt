@@ -1,0 +1,98 @@
+// The lines of a body.
+ghost use Rattle.std.specs.Prelude.{◌≡◌, ◌+◌, ◌≤◌, All, IfOk, IfSome, IsTrue, Ok, is_some, length, option_copied};
+ghost use Rattle.share_lines.specs.Bodies.{Answers, IsCut, TakesPiece, line_at as line_in_text, lines_in};
+ghost use Rattle.share_lines.specs.Printing.{body_text, is_printable};
+ghost use Rattle.share_lines.specs.Reading.{Gives};
+
+use crate::faults::LineFault;
+use crate::printing::line_onto;
+use crate::reading::line_of;
+use crate::{Line, Lines, LinesFault};
+use json_tree::{Text, TreeFault, tree_of};
+use std::alloc::{AllocError, Global};
+
+// The line that a text stands for.
+fn line_at(alloc: Global, text: &[u8]) -> Result<Line, LineFault>
+    ensures { Gives result (line_in_text text.now) }
+{
+    match tree_of(alloc, text) {
+        Ok(object) => line_of(alloc, &object),
+        Err(TreeFault::NotUtf8) => Err(LineFault::Bad),
+        Err(TreeFault::NotJson) => Err(LineFault::Bad),
+        Err(TreeFault::NoMemory) => Err(LineFault::NoMemory),
+    }
+}
+
+// The first piece, and what follows its line feed.
+fn cut(bytes: &[u8]) -> (&[u8], Option<&[u8]>)
+    ensures pieces { IsCut bytes.now result.0.now (option_copied result.1) }
+    ensures whole { IfSome result.1 (λ rest. length result.0.now + 1 + length rest.now ≡ length bytes.now) }
+    ensures short { length result.0.now ≤ length bytes.now }
+{
+    match bytes.iter().position(|byte| *byte == b'\n') {
+        Some(at) => (&bytes[..at], Some(&bytes[at + 1..])),
+        None => (bytes, None),
+    }
+}
+
+// Adds the line of a piece, none where it is empty; or answers that it is outside the grammar.
+fn take_piece(alloc: Global, lines: &mut Vec<Line>, piece: &[u8]) -> Result<bool, AllocError>
+    ensures { IfOk result (λ taken. TakesPiece piece.now lines.old.items lines.new.items taken) }
+{
+    if piece.is_empty() {
+        return Ok(true);
+    }
+    match line_at(alloc, piece) {
+        Ok(line) => {
+            lines.push(line)?;
+            Ok(true)
+        }
+        Err(LineFault::Bad) => Ok(false),
+        Err(LineFault::NoMemory) => Err(AllocError),
+    }
+}
+
+/// The lines of a body: its pieces between line feeds, of which empty ones are passed over.
+///
+/// Each other piece is the JSON text (RFC 8259) of an object that has exactly one member, not null,
+/// of the names `protocol`, `metaData`, `file`, `add`, `cdf`, `remove` and `endStreamAction`; other
+/// members are passed over. Its value is an object. A field that is null counts as absent, and a
+/// field that the kind doesn't print is passed over. A protocol has the `minReaderVersion` 1; a
+/// metaData has `id` and `schemaString`, and its format isn't looked at; a file or a change has
+/// `url`, `id`, `partitionValues` and `size`, and a change `timestamp` and `version` besides. Sizes,
+/// expiries and versions are whole numbers from 0 to 2^63 - 1.
+///
+/// The fault is that of the first piece that is something else, or want of memory.
+pub fn lines_of(alloc: Global, bytes: &[u8]) -> Result<Lines, LinesFault>
+    ensures { Answers result (lines_in bytes.now) }
+{
+    let mut lines = Vec::new(alloc);
+    let mut at = 0u64;
+    let mut rest = Some(bytes);
+    while let Some(left) = rest {
+        let (piece, more) = cut(left);
+        rest = more;
+        if !take_piece(alloc, &mut lines, piece)? {
+            return Err(LinesFault::Bad { at });
+        }
+        at += piece.len() as u64 + 1;
+    }
+    Ok(Lines::of(lines))
+}
+
+/// The body of lines: the text of each and a line feed. It is read as those lines. The error is want
+/// of memory.
+pub fn lines_text(alloc: Global, lines: &[Line]) -> Result<Text, AllocError>
+    requires { All (λ l. IsTrue (is_printable l)) lines.now }
+    ensures text { IfOk result (λ t. t ≡ body_text lines.now) }
+    ensures back { IfOk result (λ t. lines_in t ≡ Ok lines.now) }
+{
+    let mut body = Vec::new(alloc);
+    for line in lines {
+        body = line_onto(body, line)?;
+    }
+    match String::from_utf8(body) {
+        Ok(text) => Ok(Text::of(text)),
+        Err(_) => unreachable!(),
+    }
+}

@@ -1,0 +1,211 @@
+// Lines and bodies read and printed; the expected texts and places are worked by hand.
+use crate::{
+    EndLine, FileLine, Line, LinesFault, MetaLine, TableVersion, UrlExpiry, error_of, error_text,
+    line_text, lines_of, lines_text, push_line,
+};
+use json_tree::{Pairs, Text, Texts};
+use log_actions::FileSize;
+use std::alloc::{AllocError, Global};
+use std::test::Fail;
+
+const BODY: &str =
+    "{\"protocol\":{\"minReaderVersion\":1}}\n{\"metaData\":{\"format\":{\"provider\":\"parquet\"},\"id\":\"m1\",\"partitionColumns\":[],\"schemaString\":\"{\\\"type\\\":\\\"struct\\\",\\\"fields\\\":[]}\"}}\n{\"file\":{\"id\":\"a.parquet\",\"partitionValues\":{},\"size\":10,\"stats\":\"{\\\"numRecords\\\":1}\",\"url\":\"a.parquet\"}}\n{\"file\":{\"id\":\"b.parquet\",\"partitionValues\":{},\"size\":20,\"url\":\"b.parquet\"}}\n";
+
+// Members beside the kind, fields that it doesn't print, nulls, and empty lines.
+const LOOSE: &str =
+    "\n {\"x\":1,\"add\":null,\"file\":{\"url\":\"u\",\"id\":\"a\",\"partitionValues\":{},\"size\":1,\"stats\":null,\"timestamp\":\"t\",\"version\":-1,\"more\":[]}} \n\n{\"remove\":{\"url\":\"u\",\"id\":\"a\",\"partitionValues\":{\"p\":null},\"size\":9223372036854775807,\"stats\":5,\"timestamp\":-1,\"version\":0}}\n{\"metaData\":{\"id\":\"m\",\"schemaString\":\"s\",\"format\":7}}\n{\"endStreamAction\":{}}";
+
+const BAD_LINES: [&str; 15] = [
+    "[]",
+    "{}",
+    "{\"file\":null}",
+    "{\"protocol\":{\"minReaderVersion\":3}}",
+    "{\"protocol\":{}}",
+    "{\"metaData\":{\"id\":\"m\"}}",
+    "{\"file\":{\"id\":\"a\",\"partitionValues\":{},\"size\":1}}",
+    "{\"file\":{\"id\":\"a\",\"partitionValues\":{},\"size\":-1,\"url\":\"u\"}}",
+    "{\"file\":{\"id\":\"a\",\"partitionValues\":{},\"size\":1,\"url\":\"u\",\"expirationTimestamp\":1.5}}",
+    "{\"file\":{\"id\":\"a\",\"partitionValues\":{\"p\":1},\"size\":1,\"url\":\"u\"}}",
+    "{\"cdf\":{\"id\":\"a\",\"partitionValues\":{},\"size\":1,\"url\":\"u\",\"timestamp\":1}}",
+    "{\"add\":{\"id\":\"a\",\"partitionValues\":{},\"size\":1,\"url\":\"u\",\"version\":1}}",
+    "{\"endStreamAction\":7}",
+    "{\"protocol\":{\"minReaderVersion\":1},\"endStreamAction\":{}}",
+    " ",
+];
+
+fn has(alloc: Global, text: &str, count: usize) -> bool {
+    match lines_of(alloc, text.as_bytes()) {
+        Ok(lines) => lines.items().len() == count,
+        Err(_) => false,
+    }
+}
+
+// Where the first line is that is outside the grammar.
+fn bad_at(alloc: Global, bytes: &[u8]) -> Option<u64> {
+    match lines_of(alloc, bytes) {
+        Err(LinesFault::Bad { at }) => Some(at),
+        _ => None,
+    }
+}
+
+#[test]
+fn reads_the_lines_of_an_answer(rt: HostRuntime) -> Result<(), Fail> {
+    let alloc = rt.alloc();
+    assert!(rt; has(alloc, BODY, 4));
+    assert!(rt; has(alloc, LOOSE, 4));
+    assert!(rt; has(alloc, "", 0));
+    let mut text = String::from_str(alloc, BODY)?;
+    text.push_str("{")?;
+    assert!(rt; bad_at(alloc, text.as_bytes()) == Some(351));
+    Ok(())
+}
+
+#[test]
+fn refuses_what_is_no_line(rt: HostRuntime) {
+    let alloc = rt.alloc();
+    for text in BAD_LINES {
+        assert!(rt; bad_at(alloc, text.as_bytes()) == Some(0), "{text}");
+    }
+    assert!(rt; bad_at(alloc, b"\n\n\xff\n") == Some(2));
+}
+
+fn text(alloc: Global, text: &str) -> Result<Text, AllocError> {
+    Ok(Text::of(String::from_str(alloc, text)?))
+}
+
+fn size(bytes: u64) -> Result<FileSize, Fail> {
+    match FileSize::of(bytes) {
+        Some(size) => Ok(size),
+        None => Err(Fail::from("a size")),
+    }
+}
+
+#[test]
+fn prints_a_file(rt: HostRuntime) -> Result<(), Fail> {
+    let alloc = rt.alloc();
+    let line = Line::File(FileLine {
+        url: text(alloc, "http://h/a?b=1")?,
+        id: text(alloc, "a")?,
+        values: Pairs::new(alloc),
+        size: size(10)?,
+        stats: Some(text(alloc, "{}")?),
+        expires: UrlExpiry::of(3600000),
+        time: None,
+        version: None,
+    });
+    let printed = line_text(alloc, &line)?;
+    assert_eq!(rt;
+        printed.as_str(),
+        "{\"file\":{\"expirationTimestamp\":3600000,\"id\":\"a\",\"partitionValues\":{},\"size\":10,\"stats\":\"{}\",\"url\":\"http://h/a?b=1\"}}"
+    );
+    Ok(())
+}
+
+#[test]
+fn prints_a_remove(rt: HostRuntime) -> Result<(), Fail> {
+    let alloc = rt.alloc();
+    let line = Line::Remove(FileLine {
+        url: text(alloc, "u")?,
+        id: text(alloc, "a")?,
+        values: Pairs::new(alloc),
+        size: size(0)?,
+        stats: None,
+        expires: None,
+        time: Some(-1),
+        version: TableVersion::of(2),
+    });
+    let mut out = String::from_str(alloc, "\n")?;
+    push_line(alloc, &mut out, &line)?;
+    assert_eq!(rt;
+        out.as_str(),
+        "\n{\"remove\":{\"id\":\"a\",\"partitionValues\":{},\"size\":0,\"timestamp\":-1,\"url\":\"u\",\"version\":2}}\n"
+    );
+    Ok(())
+}
+
+#[test]
+fn prints_a_meta_data(rt: HostRuntime) -> Result<(), Fail> {
+    let alloc = rt.alloc();
+    let line = Line::MetaData(MetaLine {
+        id: text(alloc, "m1")?,
+        name: Some(text(alloc, "n")?),
+        description: None,
+        schema: text(alloc, "s")?,
+        columns: Texts::of(Vec::new(alloc)),
+        configuration: Pairs::new(alloc),
+    });
+    let printed = line_text(alloc, &line)?;
+    assert_eq!(rt;
+        printed.as_str(),
+        "{\"metaData\":{\"format\":{\"provider\":\"parquet\"},\"id\":\"m1\",\"name\":\"n\",\"partitionColumns\":[],\"schemaString\":\"s\"}}"
+    );
+    Ok(())
+}
+
+#[test]
+fn prints_a_body(rt: HostRuntime) -> Result<(), Fail> {
+    let alloc = rt.alloc();
+    let end = Line::End(EndLine {
+        min_expires: UrlExpiry::of(5),
+        token: Some(text(alloc, "t")?),
+    });
+    let printed = lines_text(alloc, &[Line::Protocol, end])?;
+    assert_eq!(rt;
+        printed.as_str(),
+        "{\"protocol\":{\"minReaderVersion\":1}}\n{\"endStreamAction\":{\"minUrlExpirationTimestamp\":5,\"nextPageToken\":\"t\"}}\n"
+    );
+    Ok(())
+}
+
+// Whether the text is the body of that refusal.
+fn tells(alloc: Global, body: &str, code: u16, what: &str) -> bool {
+    match error_of(alloc, body.as_bytes()) {
+        Ok(Some((told, text))) => told == code && text.as_str() == what,
+        _ => false,
+    }
+}
+
+fn is_no_error(alloc: Global, body: &str) -> bool {
+    matches!(error_of(alloc, body.as_bytes()), Ok(None))
+}
+
+#[test]
+fn prints_and_reads_an_error(rt: HostRuntime) -> Result<(), Fail> {
+    let alloc = rt.alloc();
+    let body = "{\"errorCode\":\"BAD_PARAMETER\",\"message\":\"bad parameter maxFiles\"}";
+    let printed = error_text(alloc, 4, "maxFiles")?;
+    assert_eq!(rt; printed.as_str(), body);
+    assert!(rt; tells(alloc, body, 4, "maxFiles"));
+    assert!(rt;
+        tells(
+            alloc,
+            "{\"errorCode\":\"CONFLICT\",\"message\":\"Taken\"}",
+            17,
+            "Taken"
+        )
+    );
+    assert!(rt;
+        tells(
+            alloc,
+            "{\"errorCode\":\"NOT_FOUND\",\"message\":\"not found\"}",
+            2,
+            ""
+        )
+    );
+    Ok(())
+}
+
+#[test]
+fn other_texts_are_no_errors(rt: HostRuntime) {
+    let alloc = rt.alloc();
+    for body in [
+        "{\"errorCode\":\"NOPE\",\"message\":\"x\"}",
+        "{\"errorCode\":\"NOT_FOUND\",\"message\":\"not found!\"}",
+        "{\"errorCode\":\"NOT_FOUND\",\"message\":\"bad body\"}",
+        "{\"errorCode\": \"NOT_FOUND\",\"message\":\"not found\"}",
+        "{\"message\":\"not found\",\"errorCode\":\"NOT_FOUND\"}",
+        "{",
+    ] {
+        assert!(rt; is_no_error(alloc, body), "{body}");
+    }
+}
