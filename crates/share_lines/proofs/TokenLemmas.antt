@@ -8,7 +8,12 @@ use Rattle.serde_json.specs.Data.{Data}
 use Rattle.serde_json.proofs.Texts.{print-outline}
 use Rattle.json_print.specs.Fields.{object_of}
 use Rattle.json_print.specs.Tokens.{value_tokens}
-use Rattle.share_lines.specs.Lines.{line, protocol_line}
+use Rattle.serde_json.specs.Written.{compact_text}
+use Rattle.share_lines.specs.Lines.{protocol_line}
+
+-- an object of one name, and a line feed
+abbrev pub line : List ℕ → Data → List ℕ
+line name value = compact_text (object_of ((name, Some value) ∷ [])) ++ 10 ∷ []
 
 -- what is written for a line is its text
 pub line_written : (name : List ℕ) (d : Data) (before tokens : List Token) (text : List ℕ) → before ≡ begin_object ∷ key name ∷ [] → tokens ≡ before ++ value_tokens d

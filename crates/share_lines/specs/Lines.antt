@@ -1,48 +1,26 @@
--- The lines of an answer (Delta Sharing PROTOCOL.md, "API Response Format in Parquet"): compact JSON (RFC 8259) with the names of each object in byte order.
-use Rattle.std.specs.Prelude.{ℕ, List, [], ◌∷◌, ◌++◌, Some, option_map, codes}
-use Rattle.serde_json.specs.Data.{Data, string}
-use Rattle.serde_json.specs.Written.{compact_text}
-use Rattle.json_print.specs.Fields.{Field, object_of}
-use Rattle.json_print.specs.Values.{count_value, pairs_value, texts_value, unless_empty}
+-- The lines of a table's version (Delta Sharing PROTOCOL.md, "API Response Format in Parquet"), by what its log says of it.
+use Rattle.std.specs.Prelude.{ℕ, List, [], ◌∷◌, ◌++◌, None}
 use Rattle.log_actions.specs.declared.actions.AddFile.{AddFile}
 use Rattle.log_actions.specs.declared.actions.MetaData.{MetaData}
+use Rattle.share_lines.specs.Printing.{line_text}
+use Rattle.share_lines.specs.declared.kinds.FileLine.{FileLine}
+use Rattle.share_lines.specs.declared.kinds.MetaLine.{MetaLine}
+use Rattle.share_lines.specs.declared.kinds.Line.TheVariants as line
 
--- an object of one name, and a line feed
-abbrev pub line : List ℕ → Data → List ℕ
-line name value = compact_text (object_of ((name, Some value) ∷ [])) ++ 10 ∷ []
+-- "Metadata"
+abbrev pub meta_of : MetaData → MetaLine
+meta_of m = record { id = m.id; name = m.name; description = m.description; schema = m.schema; columns = m.columns; configuration = m.configuration }
+
+-- "File": its identifier and its place are the path as spelt
+abbrev pub file_of : AddFile → FileLine
+file_of f = record { url = f.path; id = f.path; values = f.values; size = f.size; stats = f.stats; expires = None; time = None; version = None }
 
 -- "Protocol": every table that is read asks for no more of its reader
 abbrev pub protocol_line : List ℕ
-protocol_line = line (codes "protocol") (object_of ((codes "minReaderVersion", Some (count_value 1)) ∷ []))
-
--- "Format Object"
-abbrev pub format_fields : MetaData → List Field
-format_fields m = (codes "provider", Some (string m.format.provider)) ∷ []
-
--- "Metadata"
-abbrev pub meta_fields : MetaData → List Field
-meta_fields m =
-    (codes "configuration", option_map pairs_value (unless_empty m.configuration))
-    ∷ (codes "description", option_map string m.description)
-    ∷ (codes "format", Some (object_of (format_fields m)))
-    ∷ (codes "id", Some (string m.id))
-    ∷ (codes "name", option_map string m.name)
-    ∷ (codes "partitionColumns", Some (texts_value m.columns))
-    ∷ (codes "schemaString", Some (string m.schema))
-    ∷ []
+protocol_line = line_text line.Protocol ++ 10 ∷ []
 
 abbrev pub meta_line : MetaData → List ℕ
-meta_line m = line (codes "metaData") (object_of (meta_fields m))
-
--- "File": its identifier and its place are the path as spelt
-abbrev pub file_fields : AddFile → List Field
-file_fields f =
-    (codes "id", Some (string f.path))
-    ∷ (codes "partitionValues", Some (pairs_value f.values))
-    ∷ (codes "size", Some (count_value f.size))
-    ∷ (codes "stats", option_map string f.stats)
-    ∷ (codes "url", Some (string f.path))
-    ∷ []
+meta_line m = line_text (line.MetaData (meta_of m)) ++ 10 ∷ []
 
 abbrev pub file_line : AddFile → List ℕ
-file_line f = line (codes "file") (object_of (file_fields f))
+file_line f = line_text (line.File (file_of f)) ++ 10 ∷ []

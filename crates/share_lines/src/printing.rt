@@ -67,7 +67,7 @@ fn protocol_object(line: &mut Writer) -> Result<(), AllocError>
     end_object(line)
 }
 
-fn format_object(line: &mut Writer) -> Result<(), AllocError>
+pub(crate) fn format_object(line: &mut Writer) -> Result<(), AllocError>
     ensures { OnOk result (Adds line.old line.new (value_tokens (object_of parquet_fields))) }
 {
     begin_object(line)?;

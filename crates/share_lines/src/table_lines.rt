@@ -5,8 +5,10 @@ ghost use Rattle.json.specs.Token as token;
 ghost use Rattle.json_print.specs.Fields.{object_of};
 ghost use Rattle.json_print.specs.Tokens.{Adds, field_tokens, value_tokens};
 ghost use Rattle.json_print.specs.Values.{count_value};
-ghost use Rattle.share_lines.specs.Lines.{file_fields, file_line, format_fields, meta_fields, meta_line, protocol_line};
+ghost use Rattle.share_lines.specs.Lines.{file_line, file_of, meta_line, meta_of, protocol_line};
+ghost use Rattle.share_lines.specs.Printing.{file_fields, meta_fields};
 
+use crate::printing::format_object;
 use json::Writer;
 use json_print::{
     begin_object, count_field, end_object, new_writer, nonempty_pairs_field, optional_text_field,
@@ -25,7 +27,7 @@ fn size_field(line: &mut Writer, size: FileSize) -> Result<(), AllocError>
 }
 
 fn file_object(line: &mut Writer, file: &AddFile) -> Result<(), AllocError>
-    ensures { OnOk result (Adds line.old line.new (value_tokens (object_of (file_fields file.now)))) }
+    ensures { OnOk result (Adds line.old line.new (value_tokens (object_of (file_fields (file_of file.now))))) }
 {
     begin_object(line)?;
     text_field(line, "id", &file.path)?;
@@ -36,22 +38,14 @@ fn file_object(line: &mut Writer, file: &AddFile) -> Result<(), AllocError>
     end_object(line)
 }
 
-fn format_object(line: &mut Writer, meta: &MetaData) -> Result<(), AllocError>
-    ensures { OnOk result (Adds line.old line.new (value_tokens (object_of (format_fields meta.now)))) }
-{
-    begin_object(line)?;
-    text_field(line, "provider", &meta.format.provider)?;
-    end_object(line)
-}
-
 fn meta_object(line: &mut Writer, meta: &MetaData) -> Result<(), AllocError>
-    ensures { OnOk result (Adds line.old line.new (value_tokens (object_of (meta_fields meta.now)))) }
+    ensures { OnOk result (Adds line.old line.new (value_tokens (object_of (meta_fields (meta_of meta.now))))) }
 {
     begin_object(line)?;
     nonempty_pairs_field(line, "configuration", &meta.configuration)?;
     optional_text_field(line, "description", &meta.description)?;
     line.key("format")?;
-    format_object(line, meta)?;
+    format_object(line)?;
     text_field(line, "id", &meta.id)?;
     optional_text_field(line, "name", &meta.name)?;
     texts_field(line, "partitionColumns", &meta.columns)?;

@@ -1,11 +1,12 @@
 use Rattle.std.proofs.lemmas.Result.{on_ok_weaker}
 use Rattle.json_print.proofs.TokenLemmas.{then, wrote, object_written}
-use Rattle.share_lines.specs.Lines.{meta_fields}
+use Rattle.share_lines.specs.Lines.{meta_of}
+use Rattle.share_lines.specs.Printing.{meta_fields}
 use Rattle.share_lines.proofs.table_lines.meta_object.Goals as goal
 
 pub returns : goal.returns
 returns c =
-    rw (← object_written (meta_fields c.args.meta.now)) (on_ok_weaker c.end_object.result (λ last.
+    rw (← object_written (meta_fields (meta_of c.args.meta.now))) (on_ok_weaker c.end_object.result (λ last.
     then c.in_ok-begin_object.ensures
     (then c.in_ok-nonempty_pairs_field.ensures
     (then c.in_ok-optional_text_field.ensures
