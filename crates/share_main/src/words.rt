@@ -5,12 +5,12 @@ ghost use Rattle.share_main.specs.Words.{IsGood, command_in, is_own as begins_wi
 use edge_core::Name;
 use std::alloc::{AllocError, Global};
 
-/// What `--help` prints.
+/// What `--help` prints: each command with its input, its output and its statuses.
 pub const HELP: &str =
-    "usage: share query LOCATION\n       share --help | --version\n\nquery prints the protocol, metaData and file lines of the Delta table in the folder\nLOCATION, a path below the current folder. Standard input is empty, for the latest\nversion, or a query body: a JSON object with version or timestamp, and perhaps\njsonPredicateHints. The status is 0, or 2 for wrong words, 3 for a wrong input or a\nversion that isn't there, 4 for a table that isn't read, 5 for a fault of the outside,\n6 for want of memory; each but 0 writes one line to standard error.\n";
+    "usage: share COMMAND\n\nquery LOCATION  in: a query body or nothing; out: the protocol, metaData and file lines of\n                the Delta table in the folder LOCATION; status 0, 2 to 6\n--help          out: this text; status 0, 5, 6\n--version       out: the program and the kit that proved it; status 0, 5, 6\n\nStatus 2: wrong words. 3: no query body, or no such version. 4: the table isn't read.\n5: a fault of input, output or store. 6: want of memory. Each but 0 tells why on stderr.\n";
 
 /// What `--version` prints.
-pub const VERSION: &str = "share 0.1.0\n";
+pub const VERSION: &str = "share 0.1.0, proved with rattle-kit-13f logic dac8208d650f15bf\n";
 
 /// A command, with what its words name.
 #[derive(Drop)]
