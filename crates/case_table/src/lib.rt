@@ -4,7 +4,9 @@
 //! [`code_of`] the code of a word; on a table each undoes the other.
 #![tactic(auto)]
 
+pub mod field;
 mod look;
+pub mod refusal;
 mod tables;
 #[cfg(test)]
 mod tests;

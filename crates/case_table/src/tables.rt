@@ -4,17 +4,18 @@ ghost use Rattle.std.specs.List.{list_all};
 ghost use Rattle.case_table.specs.Tables.{IsTable, are_distinct, count_up, is_field, numbers_within, cases_in, cases_of};
 
 use crate::look::Row;
+use crate::{field, refusal};
 
 // A table's rows stand once, in the macro of its name. From them are made the constant, which contracts name, by `case`,
 // and the array, which callers have, by `row`.
 macro_rules! case {
-    ($code:literal $word:literal $number:literal) => {
+    ($code:expr, $word:literal, $number:literal) => {
         ($code, $word, $number)
     };
 }
 
 macro_rules! row {
-    ($code:literal $word:literal $number:literal) => {
+    ($code:expr, $word:literal, $number:literal) => {
         Row {
             code: $code,
             word: $word,
@@ -26,33 +27,33 @@ macro_rules! row {
 macro_rules! refusal_rows {
     ($made:ident) => {
         [
-            $made!(1 "UNAUTHENTICATED" 401),
-            $made!(2 "NOT_FOUND" 404),
-            $made!(3 "METHOD_NOT_ALLOWED" 405),
-            $made!(4 "BAD_PARAMETER" 400),
-            $made!(5 "BAD_BODY" 400),
-            $made!(6 "VERSION_RANGE" 400),
-            $made!(7 "TIMESTAMP_RANGE" 400),
-            $made!(8 "HISTORY_NOT_SHARED" 400),
-            $made!(9 "CHANGES_NOT_ENABLED" 400),
-            $made!(10 "UNSUPPORTED_TABLE" 400),
-            $made!(11 "TOKEN_INVALID" 400),
-            $made!(12 "TOKEN_STALE" 400),
-            $made!(13 "TOKEN_MISMATCH" 400),
-            $made!(14 "TOKEN_AHEAD" 400),
-            $made!(15 "LINK_INVALID" 403),
-            $made!(16 "FILE_GONE" 404),
-            $made!(17 "CONFLICT" 409),
-            $made!(18 "CONTENDED" 409),
-            $made!(19 "STORE_FAULT" 503),
-            $made!(20 "LIMIT" 400),
-            $made!(21 "LINK_EXPIRED" 403),
-            $made!(22 "LINK_REVOKED" 403),
-            $made!(23 "CATALOG_BLOCKED" 500),
-            $made!(24 "BAD_MESSAGE" 400),
-            $made!(25 "BODY_TOO_LARGE" 413),
-            $made!(26 "HEAD_TOO_LARGE" 431),
-            $made!(27 "TRANSFER_CODING" 501),
+            $made!(refusal::UNAUTHENTICATED, "UNAUTHENTICATED", 401),
+            $made!(refusal::NOT_FOUND, "NOT_FOUND", 404),
+            $made!(refusal::METHOD_NOT_ALLOWED, "METHOD_NOT_ALLOWED", 405),
+            $made!(refusal::BAD_PARAMETER, "BAD_PARAMETER", 400),
+            $made!(refusal::BAD_BODY, "BAD_BODY", 400),
+            $made!(refusal::VERSION_RANGE, "VERSION_RANGE", 400),
+            $made!(refusal::TIMESTAMP_RANGE, "TIMESTAMP_RANGE", 400),
+            $made!(refusal::HISTORY_NOT_SHARED, "HISTORY_NOT_SHARED", 400),
+            $made!(refusal::CHANGES_NOT_ENABLED, "CHANGES_NOT_ENABLED", 400),
+            $made!(refusal::UNSUPPORTED_TABLE, "UNSUPPORTED_TABLE", 400),
+            $made!(refusal::TOKEN_INVALID, "TOKEN_INVALID", 400),
+            $made!(refusal::TOKEN_STALE, "TOKEN_STALE", 400),
+            $made!(refusal::TOKEN_MISMATCH, "TOKEN_MISMATCH", 400),
+            $made!(refusal::TOKEN_AHEAD, "TOKEN_AHEAD", 400),
+            $made!(refusal::LINK_INVALID, "LINK_INVALID", 403),
+            $made!(refusal::FILE_GONE, "FILE_GONE", 404),
+            $made!(refusal::CONFLICT, "CONFLICT", 409),
+            $made!(refusal::CONTENDED, "CONTENDED", 409),
+            $made!(refusal::STORE_FAULT, "STORE_FAULT", 503),
+            $made!(refusal::LIMIT, "LIMIT", 400),
+            $made!(refusal::LINK_EXPIRED, "LINK_EXPIRED", 403),
+            $made!(refusal::LINK_REVOKED, "LINK_REVOKED", 403),
+            $made!(refusal::CATALOG_BLOCKED, "CATALOG_BLOCKED", 500),
+            $made!(refusal::BAD_MESSAGE, "BAD_MESSAGE", 400),
+            $made!(refusal::BODY_TOO_LARGE, "BODY_TOO_LARGE", 413),
+            $made!(refusal::HEAD_TOO_LARGE, "HEAD_TOO_LARGE", 431),
+            $made!(refusal::TRANSFER_CODING, "TRANSFER_CODING", 501),
         ]
     };
 }
@@ -79,33 +80,33 @@ pub fn refusals() -> [Row; 27]
 macro_rules! message_rows {
     ($made:ident) => {
         [
-            $made!(1 "unauthenticated" 0),
-            $made!(2 "not found" 0),
-            $made!(3 "method not allowed" 0),
-            $made!(4 "bad parameter " 1),
-            $made!(5 "bad body" 0),
-            $made!(6 "version out of range" 0),
-            $made!(7 "timestamp out of range" 0),
-            $made!(8 "history not shared" 0),
-            $made!(9 "changes not enabled at version " 1),
-            $made!(10 "unsupported table" 0),
-            $made!(11 "token invalid" 0),
-            $made!(12 "token stale" 0),
-            $made!(13 "token mismatch" 0),
-            $made!(14 "token ahead" 0),
-            $made!(15 "link invalid" 0),
-            $made!(16 "file gone" 0),
-            $made!(17 "" 1),
-            $made!(18 "contended" 0),
-            $made!(19 "store fault" 0),
-            $made!(20 "limit " 1),
-            $made!(21 "link expired" 0),
-            $made!(22 "link revoked" 0),
-            $made!(23 "catalog blocked at record " 1),
-            $made!(24 "bad message" 0),
-            $made!(25 "body too large" 0),
-            $made!(26 "head too large" 0),
-            $made!(27 "transfer coding" 0),
+            $made!(refusal::UNAUTHENTICATED, "unauthenticated", 0),
+            $made!(refusal::NOT_FOUND, "not found", 0),
+            $made!(refusal::METHOD_NOT_ALLOWED, "method not allowed", 0),
+            $made!(refusal::BAD_PARAMETER, "bad parameter ", 1),
+            $made!(refusal::BAD_BODY, "bad body", 0),
+            $made!(refusal::VERSION_RANGE, "version out of range", 0),
+            $made!(refusal::TIMESTAMP_RANGE, "timestamp out of range", 0),
+            $made!(refusal::HISTORY_NOT_SHARED, "history not shared", 0),
+            $made!(refusal::CHANGES_NOT_ENABLED, "changes not enabled at version ", 1),
+            $made!(refusal::UNSUPPORTED_TABLE, "unsupported table", 0),
+            $made!(refusal::TOKEN_INVALID, "token invalid", 0),
+            $made!(refusal::TOKEN_STALE, "token stale", 0),
+            $made!(refusal::TOKEN_MISMATCH, "token mismatch", 0),
+            $made!(refusal::TOKEN_AHEAD, "token ahead", 0),
+            $made!(refusal::LINK_INVALID, "link invalid", 0),
+            $made!(refusal::FILE_GONE, "file gone", 0),
+            $made!(refusal::CONFLICT, "", 1),
+            $made!(refusal::CONTENDED, "contended", 0),
+            $made!(refusal::STORE_FAULT, "store fault", 0),
+            $made!(refusal::LIMIT, "limit ", 1),
+            $made!(refusal::LINK_EXPIRED, "link expired", 0),
+            $made!(refusal::LINK_REVOKED, "link revoked", 0),
+            $made!(refusal::CATALOG_BLOCKED, "catalog blocked at record ", 1),
+            $made!(refusal::BAD_MESSAGE, "bad message", 0),
+            $made!(refusal::BODY_TOO_LARGE, "body too large", 0),
+            $made!(refusal::HEAD_TOO_LARGE, "head too large", 0),
+            $made!(refusal::TRANSFER_CODING, "transfer coding", 0),
         ]
     };
 }
@@ -133,19 +134,19 @@ pub fn messages() -> [Row; 27]
 macro_rules! route_rows {
     ($made:ident) => {
         [
-            $made!(1 "ListShares" 1),
-            $made!(2 "GetShare" 1),
-            $made!(3 "ListSchemas" 1),
-            $made!(4 "ListTables" 1),
-            $made!(5 "ListAll" 1),
-            $made!(6 "Version" 1),
-            $made!(7 "Metadata" 1),
-            $made!(8 "Query" 2),
-            $made!(9 "Changes" 1),
-            $made!(10 "File" 1),
-            $made!(11 "Commit" 2),
-            $made!(12 "Refresh" 2),
-            $made!(13 "Edit" 2),
+            $made!(1, "ListShares", 1),
+            $made!(2, "GetShare", 1),
+            $made!(3, "ListSchemas", 1),
+            $made!(4, "ListTables", 1),
+            $made!(5, "ListAll", 1),
+            $made!(6, "Version", 1),
+            $made!(7, "Metadata", 1),
+            $made!(8, "Query", 2),
+            $made!(9, "Changes", 1),
+            $made!(10, "File", 1),
+            $made!(11, "Commit", 2),
+            $made!(12, "Refresh", 2),
+            $made!(13, "Edit", 2),
         ]
     };
 }
@@ -171,11 +172,11 @@ pub fn routes() -> [Row; 13]
 macro_rules! value_type_rows {
     ($made:ident) => {
         [
-            $made!(1 "bool" 1),
-            $made!(2 "int" 2),
-            $made!(3 "long" 2),
-            $made!(4 "string" 3),
-            $made!(5 "date" 4),
+            $made!(1, "bool", 1),
+            $made!(2, "int", 2),
+            $made!(3, "long", 2),
+            $made!(4, "string", 3),
+            $made!(5, "date", 4),
         ]
     };
 }
@@ -201,36 +202,36 @@ pub fn value_types() -> [Row; 5]
 macro_rules! field_rows {
     ($made:ident) => {
         [
-            $made!(1 "protocol.minReaderVersion" 1),
-            $made!(2 "protocol.minWriterVersion" 1),
-            $made!(3 "protocol.readerFeatures" 1),
-            $made!(4 "protocol.writerFeatures" 1),
-            $made!(5 "metaData.id" 2),
-            $made!(6 "metaData.name" 2),
-            $made!(7 "metaData.description" 2),
-            $made!(8 "metaData.format" 2),
-            $made!(9 "metaData.schemaString" 2),
-            $made!(10 "metaData.partitionColumns" 2),
-            $made!(11 "metaData.configuration" 2),
-            $made!(12 "metaData.createdTime" 2),
-            $made!(13 "add.path" 3),
-            $made!(14 "add.partitionValues" 3),
-            $made!(15 "add.size" 3),
-            $made!(16 "add.modificationTime" 3),
-            $made!(17 "add.dataChange" 3),
-            $made!(18 "add.stats" 3),
-            $made!(19 "add.tags" 3),
-            $made!(20 "remove.path" 4),
-            $made!(21 "remove.deletionTimestamp" 4),
-            $made!(22 "remove.dataChange" 4),
-            $made!(23 "remove.partitionValues" 4),
-            $made!(24 "remove.size" 4),
-            $made!(25 "cdc.path" 5),
-            $made!(26 "cdc.partitionValues" 5),
-            $made!(27 "cdc.size" 5),
-            $made!(28 "txn.appId" 6),
-            $made!(29 "txn.version" 6),
-            $made!(30 "txn.lastUpdated" 6),
+            $made!(field::PROTOCOL_MIN_READER_VERSION, "protocol.minReaderVersion", 1),
+            $made!(field::PROTOCOL_MIN_WRITER_VERSION, "protocol.minWriterVersion", 1),
+            $made!(field::PROTOCOL_READER_FEATURES, "protocol.readerFeatures", 1),
+            $made!(field::PROTOCOL_WRITER_FEATURES, "protocol.writerFeatures", 1),
+            $made!(field::META_DATA_ID, "metaData.id", 2),
+            $made!(field::META_DATA_NAME, "metaData.name", 2),
+            $made!(field::META_DATA_DESCRIPTION, "metaData.description", 2),
+            $made!(field::META_DATA_FORMAT, "metaData.format", 2),
+            $made!(field::META_DATA_SCHEMA_STRING, "metaData.schemaString", 2),
+            $made!(field::META_DATA_PARTITION_COLUMNS, "metaData.partitionColumns", 2),
+            $made!(field::META_DATA_CONFIGURATION, "metaData.configuration", 2),
+            $made!(field::META_DATA_CREATED_TIME, "metaData.createdTime", 2),
+            $made!(field::ADD_PATH, "add.path", 3),
+            $made!(field::ADD_PARTITION_VALUES, "add.partitionValues", 3),
+            $made!(field::ADD_SIZE, "add.size", 3),
+            $made!(field::ADD_MODIFICATION_TIME, "add.modificationTime", 3),
+            $made!(field::ADD_DATA_CHANGE, "add.dataChange", 3),
+            $made!(field::ADD_STATS, "add.stats", 3),
+            $made!(field::ADD_TAGS, "add.tags", 3),
+            $made!(field::REMOVE_PATH, "remove.path", 4),
+            $made!(field::REMOVE_DELETION_TIMESTAMP, "remove.deletionTimestamp", 4),
+            $made!(field::REMOVE_DATA_CHANGE, "remove.dataChange", 4),
+            $made!(field::REMOVE_PARTITION_VALUES, "remove.partitionValues", 4),
+            $made!(field::REMOVE_SIZE, "remove.size", 4),
+            $made!(field::CDC_PATH, "cdc.path", 5),
+            $made!(field::CDC_PARTITION_VALUES, "cdc.partitionValues", 5),
+            $made!(field::CDC_SIZE, "cdc.size", 5),
+            $made!(field::TXN_APP_ID, "txn.appId", 6),
+            $made!(field::TXN_VERSION, "txn.version", 6),
+            $made!(field::TXN_LAST_UPDATED, "txn.lastUpdated", 6),
         ]
     };
 }

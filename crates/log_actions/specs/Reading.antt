@@ -4,10 +4,11 @@ use Rattle.serde_json.specs.Data.{Data}
 use Rattle.serde_json.specs.Find.{as_bool, as_str, as_object}
 use Rattle.json_tree.specs.Fields.{field, present, whole, texts, pairs}
 use Rattle.json_tree.specs.declared.fields.FieldFault.{FieldFault}
-use Rattle.log_actions.specs.declared.numbers.TheConstants.{VALUE, PROTOCOL_MIN_READER_VERSION, PROTOCOL_MIN_WRITER_VERSION, PROTOCOL_READER_FEATURES, PROTOCOL_WRITER_FEATURES, META_DATA_ID, META_DATA_NAME, META_DATA_DESCRIPTION, META_DATA_FORMAT, META_DATA_SCHEMA_STRING, META_DATA_PARTITION_COLUMNS, META_DATA_CONFIGURATION, META_DATA_CREATED_TIME, ADD_PATH, ADD_PARTITION_VALUES, ADD_SIZE, ADD_MODIFICATION_TIME, ADD_DATA_CHANGE, ADD_STATS, ADD_TAGS, REMOVE_PATH, REMOVE_DELETION_TIMESTAMP, REMOVE_DATA_CHANGE, REMOVE_PARTITION_VALUES, REMOVE_SIZE, CDC_PATH, CDC_PARTITION_VALUES, CDC_SIZE, TXN_APP_ID, TXN_VERSION, TXN_LAST_UPDATED}
+use Rattle.case_table.specs.declared.field.TheConstants.{PROTOCOL_MIN_READER_VERSION, PROTOCOL_MIN_WRITER_VERSION, PROTOCOL_READER_FEATURES, PROTOCOL_WRITER_FEATURES, META_DATA_ID, META_DATA_NAME, META_DATA_DESCRIPTION, META_DATA_FORMAT, META_DATA_SCHEMA_STRING, META_DATA_PARTITION_COLUMNS, META_DATA_CONFIGURATION, META_DATA_CREATED_TIME, ADD_PATH, ADD_PARTITION_VALUES, ADD_SIZE, ADD_MODIFICATION_TIME, ADD_DATA_CHANGE, ADD_STATS, ADD_TAGS, REMOVE_PATH, REMOVE_DELETION_TIMESTAMP, REMOVE_DATA_CHANGE, REMOVE_PARTITION_VALUES, REMOVE_SIZE, CDC_PATH, CDC_PARTITION_VALUES, CDC_SIZE, TXN_APP_ID, TXN_VERSION, TXN_LAST_UPDATED}
 use Rattle.log_actions.specs.Ranges.{within, times_end}
 use Rattle.log_actions.specs.Faults.{◌>>=◌, fault_of}
 use Rattle.log_actions.specs.declared.line_fault.LineFault.{LineFault}
+use Rattle.log_actions.specs.declared.line_fault.TheConstants.{ACTION_VALUE}
 use Rattle.log_actions.specs.declared.line_fault.LineFault.TheVariants.{Field}
 use Rattle.log_actions.specs.declared.actions.AddFile.{AddFile}
 use Rattle.log_actions.specs.declared.actions.RemoveFile.{RemoveFile}
@@ -45,7 +46,7 @@ count limit d = option_and_then (count_below limit) (whole d)
 
 -- the value of an action has to be an object
 abbrev pub as_action : Data → Result (Unit {0}) LineFault
-as_action d = if is_some (as_object d) then Ok tt else Err (Field VALUE)
+as_action d = if is_some (as_object d) then Ok tt else Err (Field ACTION_VALUE)
 
 -- "Protocol Evolution", "Table Features"
 unfoldable pub protocol_of : Data → Result Protocol LineFault

@@ -10,7 +10,8 @@ ghost use Rattle.log_actions.specs.Reading.{as_action, count, count_below, forma
 ghost use Rattle.log_actions.specs.Ranges.{times_end};
 ghost use Rattle.log_actions.specs.Reading as reading;
 
-use crate::{CommitTime, FileSize, Format, LineFault, ProtocolVersion, numbers};
+use crate::line_fault::ACTION_VALUE;
+use crate::{CommitTime, FileSize, Format, LineFault, ProtocolVersion};
 use json_tree::{FieldFault, Pairs, Text, member_at, pairs_at, text_at, whole_at};
 use serde_json::Value;
 use std::alloc::Global;
@@ -97,7 +98,7 @@ pub fn object_of(value: &Value) -> Result<(), LineFault>
         Ok(())
     } else {
         Err(LineFault::Field {
-            which: numbers::VALUE,
+            which: ACTION_VALUE,
         })
     }
 }

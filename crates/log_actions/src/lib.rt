@@ -7,7 +7,6 @@ mod fields;
 mod line_fault;
 mod line_length;
 mod lines;
-pub mod numbers;
 mod paths;
 mod printing;
 mod ranges;
@@ -17,7 +16,7 @@ pub use actions::{
     Action, Actions, AddFile, CdcFile, CommitInfo, Format, MetaData, Protocol, RemoveFile, Txn,
 };
 pub use commit::Commit;
-pub use line_fault::LineFault;
+pub use line_fault::{ACTION_VALUE, LineFault};
 pub use line_length::line_len;
 pub use lines::{action_of, action_of_line};
 pub use paths::{is_good_path, path_name};

@@ -4,6 +4,9 @@ ghost use Rattle.log_actions.specs.declared.line_fault.LineFault.TheVariants.{No
 
 use std::alloc::AllocError;
 
+/// The number by which a fault tells that the action's value is no object. Fields have numbers from 1 on.
+pub const ACTION_VALUE: u16 = 0;
+
 /// Why a line of a commit isn't read. The faults are tested in this order.
 #[derive(Clone, Copy, Debug, PartialEq, Eq)]
 pub enum LineFault {
@@ -14,7 +17,7 @@ pub enum LineFault {
     /// The line is no object, or not exactly one member of it is other than null.
     NotOneKey,
     /// A field of the action is wanting, of another kind or out of its bounds: the least number
-    /// of such a field, as `numbers` has them.
+    /// of such a field, as the table `case_table::fields` has them, or [`ACTION_VALUE`].
     Field { which: u16 },
     /// Memory is wanting.
     NoMemory,

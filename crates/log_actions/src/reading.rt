@@ -8,9 +8,8 @@ use crate::fields::{
     default_to, format_at, has_member, object_of, optional, optional_text, required, required_text,
     size_at, time_at, version_at,
 };
-use crate::{
-    AddFile, CdcFile, CommitInfo, Format, LineFault, MetaData, Protocol, RemoveFile, Txn, numbers,
-};
+use crate::{AddFile, CdcFile, CommitInfo, Format, LineFault, MetaData, Protocol, RemoveFile, Txn};
+use case_table::field;
 use json_tree::{Pairs, Text, Texts, flag_at, pairs_at, texts_at, whole_at};
 use serde_json::Value;
 use std::alloc::{AllocError, Global};
@@ -21,19 +20,19 @@ pub fn read_protocol(alloc: Global, value: &Value) -> Result<Protocol, LineFault
 {
     object_of(value)?;
     let min_reader = required(
-        numbers::PROTOCOL_MIN_READER_VERSION,
+        field::PROTOCOL_MIN_READER_VERSION,
         version_at(value, "minReaderVersion"),
     )?;
     let min_writer = required(
-        numbers::PROTOCOL_MIN_WRITER_VERSION,
+        field::PROTOCOL_MIN_WRITER_VERSION,
         version_at(value, "minWriterVersion"),
     )?;
     let reader_features = optional(
-        numbers::PROTOCOL_READER_FEATURES,
+        field::PROTOCOL_READER_FEATURES,
         texts_at(alloc, value, "readerFeatures"),
     )?;
     let writer_features = optional(
-        numbers::PROTOCOL_WRITER_FEATURES,
+        field::PROTOCOL_WRITER_FEATURES,
         texts_at(alloc, value, "writerFeatures"),
     )?;
     Ok(Protocol {
@@ -58,33 +57,28 @@ pub fn read_meta_data(alloc: Global, value: &Value) -> Result<MetaData, LineFaul
     ensures { Gives result (meta_data_of (view value.now)) }
 {
     object_of(value)?;
-    let id = required_text(alloc, value, "id", numbers::META_DATA_ID)?;
-    let name = optional_text(alloc, value, "name", numbers::META_DATA_NAME)?;
-    let description = optional_text(alloc, value, "description", numbers::META_DATA_DESCRIPTION)?;
+    let id = required_text(alloc, value, "id", field::META_DATA_ID)?;
+    let name = optional_text(alloc, value, "name", field::META_DATA_NAME)?;
+    let description = optional_text(alloc, value, "description", field::META_DATA_DESCRIPTION)?;
     let parquet = parquet_format(alloc)?;
     let format = default_to(
-        numbers::META_DATA_FORMAT,
+        field::META_DATA_FORMAT,
         parquet,
         format_at(alloc, value, "format"),
     )?;
-    let schema = required_text(
-        alloc,
-        value,
-        "schemaString",
-        numbers::META_DATA_SCHEMA_STRING,
-    )?;
+    let schema = required_text(alloc, value, "schemaString", field::META_DATA_SCHEMA_STRING)?;
     let columns = default_to(
-        numbers::META_DATA_PARTITION_COLUMNS,
+        field::META_DATA_PARTITION_COLUMNS,
         Texts::of(Vec::new(alloc)),
         texts_at(alloc, value, "partitionColumns"),
     )?;
     let configuration = default_to(
-        numbers::META_DATA_CONFIGURATION,
+        field::META_DATA_CONFIGURATION,
         Pairs::new(alloc),
         pairs_at(alloc, value, "configuration"),
     )?;
     let created = optional(
-        numbers::META_DATA_CREATED_TIME,
+        field::META_DATA_CREATED_TIME,
         whole_at(value, "createdTime"),
     )?;
     Ok(MetaData {
@@ -104,21 +98,21 @@ pub fn read_add(alloc: Global, value: &Value) -> Result<AddFile, LineFault>
     ensures { Gives result (add_of (view value.now)) }
 {
     object_of(value)?;
-    let path = required_text(alloc, value, "path", numbers::ADD_PATH)?;
+    let path = required_text(alloc, value, "path", field::ADD_PATH)?;
     let values = default_to(
-        numbers::ADD_PARTITION_VALUES,
+        field::ADD_PARTITION_VALUES,
         Pairs::new(alloc),
         pairs_at(alloc, value, "partitionValues"),
     )?;
-    let size = required(numbers::ADD_SIZE, size_at(value, "size"))?;
+    let size = required(field::ADD_SIZE, size_at(value, "size"))?;
     let modified = default_to(
-        numbers::ADD_MODIFICATION_TIME,
+        field::ADD_MODIFICATION_TIME,
         0,
         whole_at(value, "modificationTime"),
     )?;
-    let data_change = default_to(numbers::ADD_DATA_CHANGE, true, flag_at(value, "dataChange"))?;
-    let stats = optional_text(alloc, value, "stats", numbers::ADD_STATS)?;
-    let tags = optional(numbers::ADD_TAGS, pairs_at(alloc, value, "tags"))?;
+    let data_change = default_to(field::ADD_DATA_CHANGE, true, flag_at(value, "dataChange"))?;
+    let stats = optional_text(alloc, value, "stats", field::ADD_STATS)?;
+    let tags = optional(field::ADD_TAGS, pairs_at(alloc, value, "tags"))?;
     let vector = has_member(value, "deletionVector");
     Ok(AddFile {
         path,
@@ -137,21 +131,21 @@ pub fn read_remove(alloc: Global, value: &Value) -> Result<RemoveFile, LineFault
     ensures { Gives result (remove_of (view value.now)) }
 {
     object_of(value)?;
-    let path = required_text(alloc, value, "path", numbers::REMOVE_PATH)?;
+    let path = required_text(alloc, value, "path", field::REMOVE_PATH)?;
     let deleted = optional(
-        numbers::REMOVE_DELETION_TIMESTAMP,
+        field::REMOVE_DELETION_TIMESTAMP,
         whole_at(value, "deletionTimestamp"),
     )?;
     let data_change = default_to(
-        numbers::REMOVE_DATA_CHANGE,
+        field::REMOVE_DATA_CHANGE,
         true,
         flag_at(value, "dataChange"),
     )?;
     let values = optional(
-        numbers::REMOVE_PARTITION_VALUES,
+        field::REMOVE_PARTITION_VALUES,
         pairs_at(alloc, value, "partitionValues"),
     )?;
-    let size = optional(numbers::REMOVE_SIZE, size_at(value, "size"))?;
+    let size = optional(field::REMOVE_SIZE, size_at(value, "size"))?;
     let vector = has_member(value, "deletionVector");
     Ok(RemoveFile {
         path,
@@ -168,13 +162,13 @@ pub fn read_cdc(alloc: Global, value: &Value) -> Result<CdcFile, LineFault>
     ensures { Gives result (cdc_of (view value.now)) }
 {
     object_of(value)?;
-    let path = required_text(alloc, value, "path", numbers::CDC_PATH)?;
+    let path = required_text(alloc, value, "path", field::CDC_PATH)?;
     let values = default_to(
-        numbers::CDC_PARTITION_VALUES,
+        field::CDC_PARTITION_VALUES,
         Pairs::new(alloc),
         pairs_at(alloc, value, "partitionValues"),
     )?;
-    let size = required(numbers::CDC_SIZE, size_at(value, "size"))?;
+    let size = required(field::CDC_SIZE, size_at(value, "size"))?;
     Ok(CdcFile { path, values, size })
 }
 
@@ -183,9 +177,9 @@ pub fn read_txn(alloc: Global, value: &Value) -> Result<Txn, LineFault>
     ensures { Gives result (txn_of (view value.now)) }
 {
     object_of(value)?;
-    let app = required_text(alloc, value, "appId", numbers::TXN_APP_ID)?;
-    let version = required(numbers::TXN_VERSION, whole_at(value, "version"))?;
-    let updated = optional(numbers::TXN_LAST_UPDATED, whole_at(value, "lastUpdated"))?;
+    let app = required_text(alloc, value, "appId", field::TXN_APP_ID)?;
+    let version = required(field::TXN_VERSION, whole_at(value, "version"))?;
+    let updated = optional(field::TXN_LAST_UPDATED, whole_at(value, "lastUpdated"))?;
     Ok(Txn {
         app,
         version,

@@ -1,7 +1,4 @@
-//! The numbers by which the fields of actions are told in a fault.
-
-/// The value of the action itself, which has to be an object.
-pub const VALUE: u16 = 0;
+//! The codes of the fields of actions, by name: the first column of [`fields`](crate::fields).
 
 /// `protocol.minReaderVersion`.
 pub const PROTOCOL_MIN_READER_VERSION: u16 = 1;
