@@ -126,32 +126,32 @@ impl<'a> Held<'a> {
         Ok(())
     }
 
-    // The live files, copied, in byte order of path.
-    fn files(&self, alloc: Global) -> Result<Vec<AddFile>, AllocError>
-        ensures files { IfOk result (λ files. files.items ≡ map (λ f. f.now) (values self.now.live)) }
+    // The live files, in byte order of path.
+    fn files(&self, alloc: Global) -> Result<Vec<&'a AddFile>, AllocError>
+        ensures files { IfOk result (λ files. map (λ f. f.now) files.items ≡ map (λ f. f.now) (values self.now.live)) }
         ensures ordered { IsOrdered (λ x y. slice_cmp nat_cmp x.now y.now) self.now.live }
     {
         let mut files = Vec::new(alloc);
         for file in self.live.values() {
-            files.push(file.copy(alloc)?)?;
+            files.push(*file)?;
         }
         Ok(files)
     }
 
-    // The last txns, copied, in byte order of appId.
-    fn txns(&self, alloc: Global) -> Result<Vec<Txn>, AllocError>
-        ensures txns { IfOk result (λ txns. txns.items ≡ map (λ t. t.now) (values self.now.txns)) }
+    // The last txns, in byte order of appId.
+    fn txns(&self, alloc: Global) -> Result<Vec<&'a Txn>, AllocError>
+        ensures txns { IfOk result (λ txns. map (λ t. t.now) txns.items ≡ map (λ t. t.now) (values self.now.txns)) }
         ensures ordered { IsOrdered (λ x y. slice_cmp nat_cmp x.now y.now) self.now.txns }
     {
         let mut txns = Vec::new(alloc);
         for txn in self.txns.values() {
-            txns.push(txn.copy(alloc)?)?;
+            txns.push(*txn)?;
         }
         Ok(txns)
     }
 
-    // All that is in force, copied.
-    pub fn parts(&self, alloc: Global) -> Result<Parts, ReplayRefusal>
+    // All that is in force.
+    pub fn parts(&self, alloc: Global) -> Result<Parts<'a>, ReplayRefusal>
         ensures { (actions : List Action) → Holds self.now actions → AreParts actions result }
     {
         let files = self.files(alloc)?;
@@ -162,8 +162,6 @@ impl<'a> Held<'a> {
         let Some(meta) = self.meta else {
             return Err(ReplayRefusal::NoMetaData);
         };
-        let protocol = protocol.copy(alloc)?;
-        let meta = meta.copy(alloc)?;
         Ok(Parts {
             files,
             protocol,

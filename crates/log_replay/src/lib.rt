@@ -13,8 +13,8 @@ mod tests;
 mod time_tests;
 mod times;
 
-pub use commits::{advance, replay};
+pub use commits::{advance, replay, replay_ref};
 pub use refusal::{Cause, ReplayRefusal};
-pub use snapshot::Snapshot;
+pub use snapshot::{Snapshot, SnapshotRef};
 pub use standing::Support;
 pub use times::{Bound, Mark, Unresolved, mark_of, marks_of, resolve};

@@ -16,7 +16,7 @@ use crate::ends::TableRefusal;
 use edge_core::{Name, Store};
 use json_tree::Text;
 use log_actions::{AddFile, Commit, MetaData};
-use log_replay::{Bound, ReplayRefusal, Snapshot, Unresolved, marks_of, replay, resolve};
+use log_replay::{Bound, ReplayRefusal, SnapshotRef, Unresolved, marks_of, replay_ref, resolve};
 use log_store::{Block, BlockCause, LoadRefusal, Loaded, load};
 use part_values::columns_of;
 use pred_tree::{BoundPred, Truth, bind, pred_of};
@@ -26,7 +26,7 @@ use std::alloc::{AllocError, Global};
 use std::sync::Arc;
 use step_count::Steps;
 
-fn push_files(alloc: Global, out: &mut String, snapshot: &Snapshot) -> Result<(), AllocError>
+fn push_files(alloc: Global, out: &mut String, snapshot: &SnapshotRef) -> Result<(), AllocError>
     ensures { OnOk result (string_bytes out.new
         ≡ string_bytes out.old ++ flat_map file_line snapshot.now.files) }
 {
@@ -55,7 +55,7 @@ fn push_if_listed(
 fn push_listed(
     alloc: Global,
     out: &mut String,
-    snapshot: &Snapshot,
+    snapshot: &SnapshotRef,
     pred: &BoundPred,
 ) -> Result<(), AllocError>
     ensures { OnOk result (string_bytes out.new
@@ -90,7 +90,7 @@ fn bound_pred(
 fn push_under(
     alloc: Global,
     out: &mut String,
-    snapshot: &Snapshot,
+    snapshot: &SnapshotRef,
     pred: &Option<BoundPred>,
 ) -> Result<(), AllocError>
     ensures { OnOk result (string_bytes out.new
@@ -105,7 +105,7 @@ fn push_under(
 fn lines_under(
     alloc: Global,
     pred: &Option<BoundPred>,
-    snapshot: &Snapshot,
+    snapshot: &SnapshotRef,
 ) -> Result<String, AllocError>
     ensures { IfOk result (λ text. string_bytes text
         ≡ protocol_line ++ meta_line snapshot.now.meta ++ flat_map file_line (files_under pred.now snapshot.now.files)) }
@@ -121,7 +121,7 @@ fn lines_under(
 fn snapshot_lines(
     alloc: Global,
     hint: &Option<Text>,
-    snapshot: &Snapshot,
+    snapshot: &SnapshotRef,
 ) -> Result<String, AllocError>
     ensures { IfOk result (λ text. string_bytes text ≡ state_lines hint.now snapshot.now) }
 {
@@ -222,7 +222,7 @@ fn replayed_lines<L>(
     ensures lines { IsLog (lines_of_state hint.now (state_of (map arc_value commits.now))) result }
     ensures inside { failed_lines result ≡ false }
 {
-    let snapshot = replay(alloc, commits, steps)?;
+    let snapshot = replay_ref(alloc, commits, steps)?;
     Ok(snapshot_lines(alloc, hint, &snapshot)?)
 }
 
