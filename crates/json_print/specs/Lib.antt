@@ -1,5 +1,6 @@
 pub mod Fields
 pub mod Lengths
+pub mod Lines
 pub mod Plain
 pub mod Tokens
 pub mod Values

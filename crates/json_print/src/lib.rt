@@ -1,9 +1,11 @@
-//! JSON objects (RFC 8259) printed compactly, field after field, and read back.
+//! JSON objects (RFC 8259) printed compactly, field after field, and read back; texts cut into
+//! lines.
 #![tactic(auto)]
 
 mod field_lengths;
 mod fields;
 mod lengths;
+pub mod lines;
 mod text;
 
 pub use fields::{
@@ -14,5 +16,7 @@ pub use fields::{
 pub use lengths::Length;
 pub use text::{begin_object, end_object, new_writer, printed};
 
+#[cfg(test)]
+mod line_tests;
 #[cfg(test)]
 mod tests;

@@ -1,10 +1,8 @@
 pub mod NameLemmas
 pub mod Segments
-pub mod Cutting
 pub mod Distinct
 pub mod CommitRules
 pub mod Reading
 pub mod Known
 pub mod Whole
-pub mod LineFeeds
 pub mod PrintedBack

@@ -1,7 +1,7 @@
 -- The printed text of a commit is read as the commit.
-use Rattle.std.proofs.Common.{◌≡◌, ℕ, ◌+◌, ◌-◌, ◌<◌, ◌≤◌, ◌==◌, List, [], ◌∷◌, ◌++◌, length, take, get_or, min, arith, length-append, Option, Some, Result, Ok, refl, sym, ap, ◌∙◌, subst, Bool, true, false, cond, append_assoc}
+use Rattle.std.proofs.Common.{◌≡◌, ℕ, ◌+◌, ◌-◌, ◌<◌, ◌≤◌, List, [], ◌∷◌, ◌++◌, length, take, get_or, min, arith, length-append, Option, Some, Result, Ok, refl, sym, ap, ◌∙◌, subst, true, false, append_assoc}
 use Rattle.std.specs.Prelude.{◌^◌}
-use Rattle.std.specs.List.{list_all, list_any, onto_first}
+use Rattle.std.specs.List.{list_all, list_any}
 use Rattle.std.proofs.lemmas.List.{append-nil, take_all, take_more}
 use Rattle.std.proofs.lemmas.Bool.{or_parts}
 use Rattle.log_actions.specs.Commits.{IsCommit}
@@ -10,21 +10,13 @@ use Rattle.log_actions.specs.Printing.{action_data, has_vector, line_text}
 use Rattle.log_actions.specs.declared.actions.Action.{Action}
 use Rattle.log_actions.specs.declared.line_fault.LineFault.{LineFault}
 use Rattle.json_print.specs.Lengths.{capped}
-use Rattle.log_commit.specs.Lines.{actions_of, given, is_read, lines}
+use Rattle.json_print.specs.Lines.{lines}
+use Rattle.log_commit.specs.Lines.{actions_of, given, is_read}
 use Rattle.log_commit.specs.Texts.{commit_in, commit_text}
 use Rattle.log_commit.specs.Seen.{ReadsBack}
-use Rattle.log_commit.proofs.LineFeeds.{IsFree, text_free}
+use Rattle.json_print.proofs.Cutting.{first_line}
+use Rattle.json_print.proofs.LineFeeds.{text_free}
 use Rattle.log_commit.proofs.Whole.{text_gives}
-
--- what stands before a line feed is the first line
-first_case : (x : ℕ) (b : Bool) (s : List ℕ) (whole rest : List (List ℕ)) → b ≡ false → whole ≡ s ∷ rest → cond b ([] ∷ whole) (onto_first x whole) ≡ (x ∷ s) ∷ rest
-first_case x b s whole rest free e = rw (free, e) refl
-
-first_line : (s rest : List ℕ) → IsFree s → lines (s ++ 10 ∷ rest) ≡ s ∷ lines rest
-first_line [] rest free = refl
-first_line (x ∷ s) rest free =
-    let parts = or_parts (x == 10) (list_any (λ b. b == 10) s) free in
-    first_case x (x == 10) s (lines (s ++ 10 ∷ rest)) (lines rest) parts.0 (first_line s rest parts.1)
 
 -- each action is read back from its line
 abbrev pub AreReadBack : List Action → Type 0

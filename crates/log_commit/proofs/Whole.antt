@@ -8,7 +8,8 @@ use Rattle.std.proofs.lemmas.List.Elements.{filter_map-append}
 use Rattle.log_actions.specs.Commits.{IsCommit}
 use Rattle.log_actions.specs.declared.actions.Action.{Action}
 use Rattle.log_actions.specs.declared.line_fault.LineFault.{LineFault}
-use Rattle.log_commit.specs.Lines.{actions_of, action_or_none, given, is_read, line_action, lines}
+use Rattle.json_print.specs.Lines.{lines}
+use Rattle.log_commit.specs.Lines.{actions_of, action_or_none, given, is_read, line_action}
 use Rattle.log_commit.specs.Texts.{Answers, Fails, IsCommitText, broken_rule, commit_in, fault_at, fault_given, faults, places, unless_faulty}
 use Rattle.log_commit.specs.Passes.{action_first, fault_first, first_broken, line_fault, number_first, or_else, read_actions, read_numbers}
 use Rattle.log_commit.specs.Seen.{AreRead}

@@ -1,13 +1,9 @@
--- The lines of a commit's text and what each gives (Delta Lake PROTOCOL.md, "Delta Log Entries": JSON values that line feeds part).
+-- What each line of a commit's text gives (Delta Lake PROTOCOL.md, "Delta Log Entries": JSON values that line feeds part).
 use Rattle.std.specs.Prelude.{◌==◌, ℕ, List, [], ◌∷◌, Bool, Option, None, Result, Ok, Err, filter_map, is_ok, if◌then◌else◌}
-use Rattle.std.specs.List.{list_all, list_any, slice_split}
+use Rattle.std.specs.List.{list_all, list_any}
 use Rattle.log_actions.specs.Lines.{action_at}
 use Rattle.log_actions.specs.declared.actions.Action.{Action}
 use Rattle.log_actions.specs.declared.line_fault.LineFault.{LineFault}
-
--- the pieces between line feeds
-abbrev pub lines : List ℕ → List (List ℕ)
-lines text = slice_split (λ b. b == 10) text
 
 -- spaces, tabs and carriage returns alone
 abbrev pub is_blank : List ℕ → Bool

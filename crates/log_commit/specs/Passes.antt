@@ -1,5 +1,5 @@
 -- Words for the two passes of the reading: lines up to the first that isn't read, and the rules over their actions.
-use Rattle.std.specs.Prelude.{◌≡◌, ℕ, ◌+◌, ◌&&◌, not, List, [], ◌∷◌, ◌++◌, Bool, Option, Some, None, Result, Ok, Err, is_some, if◌then◌else◌}
+use Rattle.std.specs.Prelude.{ℕ, ◌+◌, ◌&&◌, not, List, [], ◌∷◌, ◌++◌, Bool, Option, Some, None, Result, Ok, Err, is_some, if◌then◌else◌}
 use Rattle.std.specs.Borrow.{Bor}
 use Rattle.std.specs.BTreeMap.{BTreeMap, get_by}
 use Rattle.std.specs.Ordering.{nat_cmp}
@@ -8,19 +8,10 @@ use Rattle.std.specs.List.{cons_option}
 use Rattle.log_actions.specs.Commits.{has_good_path, is_meta_data, is_protocol}
 use Rattle.log_actions.specs.declared.actions.Action.{Action}
 use Rattle.log_actions.specs.declared.line_fault.LineFault.{LineFault}
-use Rattle.log_commit.specs.Lines.{given, lines}
+use Rattle.log_commit.specs.Lines.{given}
 use Rattle.log_commit.specs.Texts.{broken_rule}
 use Rattle.log_commit.specs.declared.faults.CommitFault.{CommitFault}
 use Rattle.log_commit.specs.declared.faults.CommitFault.TheVariants as fault
-
--- the lines of what is left
-abbrev pub lines_left : Option (List ℕ) → List (List ℕ)
-lines_left None = []
-lines_left (Some text) = lines text
-
--- the first line, and what follows its line feed
-abbrev pub IsCut : List ℕ → List ℕ → Option (List ℕ) → Type 0
-IsCut text line rest = lines text ≡ line ∷ lines_left rest
 
 -- what a line adds in front of what the lines after it give
 abbrev pub action_first : Result (Option Action) LineFault → List Action → List Action

@@ -6,7 +6,8 @@ use Rattle.log_actions.specs.Commits.{IsCommit, counted_path, has_good_path, is_
 use Rattle.log_actions.specs.Printing.{line_text}
 use Rattle.log_actions.specs.declared.actions.Action.{Action}
 use Rattle.log_actions.specs.declared.line_fault.LineFault.{LineFault}
-use Rattle.log_commit.specs.Lines.{actions_of, given, is_read, lines}
+use Rattle.json_print.specs.Lines.{lines}
+use Rattle.log_commit.specs.Lines.{actions_of, given, is_read}
 use Rattle.log_commit.specs.declared.faults.CommitFault.{CommitFault}
 use Rattle.log_commit.specs.declared.faults.CommitFault.TheVariants as fault
 

@@ -1,12 +1,14 @@
 // The lines of a commit's text, and what they give.
-ghost use Rattle.std.specs.Prelude.{◌≡◌, ◌<◌, ◌++◌, [], Ok, IfOk, OnOk, IfSome, length, option_copied};
+ghost use Rattle.std.specs.Prelude.{◌≡◌, ◌++◌, [], Ok, IfOk, OnOk};
 ghost use Rattle.std.specs.List.{cons_option};
+ghost use Rattle.json_print.specs.Lines.{lines};
 ghost use Rattle.log_actions.specs.Faults.{Gives};
-ghost use Rattle.log_commit.specs.Lines.{given, is_blank as is_blank_line, lines};
-ghost use Rattle.log_commit.specs.Passes.{IsCut, number_first};
+ghost use Rattle.log_commit.specs.Lines.{given, is_blank as is_blank_line};
+ghost use Rattle.log_commit.specs.Passes.{number_first};
 ghost use Rattle.log_commit.specs.Seen.{AreRead, TakesLine};
 
 use crate::CommitFault;
+use json_print::lines::cut;
 use log_actions::{Action, LineFault, action_of_line};
 use std::alloc::{AllocError, Global};
 
@@ -21,17 +23,6 @@ fn is_blank(line: &[u8]) -> bool
     ensures { result ≡ is_blank_line line.now }
 {
     line.iter().all(|b| b" \t\r".contains(b))
-}
-
-// The first line, and what follows its line feed.
-fn cut(text: &[u8]) -> (&[u8], Option<&[u8]>)
-    ensures lines { IsCut text.now result.0.now (option_copied result.1) }
-    ensures less { IfSome result.1 (λ rest. length rest.now < length text.now) }
-{
-    match text.iter().position(|b| *b == b'\n') {
-        Some(at) => (&text[..at], Some(&text[at + 1..])),
-        None => (text, None),
-    }
 }
 
 fn read_line(alloc: Global, line: &[u8]) -> Result<Option<Action>, LineFault>

@@ -4,8 +4,10 @@ use Rattle.std.specs.Prelude.{◌&&◌, ◌||◌, filter_map, is_some, nat_lt}
 use Rattle.std.specs.List.{cons_option, list_any, onto_first}
 use Rattle.std.proofs.lemmas.Bool.{or_parts}
 use Rattle.std.proofs.lemmas.List.{append-nil, take_all, take_more}
-use Rattle.log_commit.proofs.LineFeeds.{IsFree, text_free}
-use Rattle.share_lines.specs.Bodies.{is_bad, line_at, lines_in, lines_of_pieces, pieces}
+use Rattle.json_print.specs.Lines.{lines as pieces}
+use Rattle.json_print.proofs.Cutting.{first_line}
+use Rattle.json_print.proofs.LineFeeds.{text_free}
+use Rattle.share_lines.specs.Bodies.{is_bad, line_at, lines_in, lines_of_pieces}
 use Rattle.share_lines.specs.Printing.{body_text, line_data, line_text}
 use Rattle.share_lines.proofs.Pieces.{empty_line}
 use Rattle.share_lines.specs.declared.kinds.Line.{Line}
@@ -18,16 +20,6 @@ AreReadBack (l ∷ ls) = (line_at (line_text l) ≡ Some l) × AreReadBack ls
 read_back_push : (ls : List Line) (l : Line) → AreReadBack ls → line_at (line_text l) ≡ Some l → AreReadBack (ls ++ l ∷ [])
 read_back_push [] l all back = (back, tt)
 read_back_push (x ∷ ls) l all back = (all.0, read_back_push ls l all.1 back)
-
--- what stands before a line feed is the first piece
-first_case : (x : ℕ) (b : Bool) (s : List ℕ) (whole rest : List (List ℕ)) → b ≡ false → whole ≡ s ∷ rest → cond b ([] ∷ whole) (onto_first x whole) ≡ (x ∷ s) ∷ rest
-first_case x b s whole rest free e = rw (free, e) refl
-
-first_piece : (s rest : List ℕ) → IsFree s → pieces (s ++ 10 ∷ rest) ≡ s ∷ pieces rest
-first_piece [] rest free = refl
-first_piece (x ∷ s) rest free =
-    let parts = or_parts (x == 10) (list_any (λ b. b == 10) s) free in
-    first_case x (x == 10) s (pieces (s ++ 10 ∷ rest)) (pieces rest) parts.0 (first_piece s rest parts.1)
 
 -- pieces that stand for lines
 record Stand (ls : List Line) (ps : List (List ℕ)) : Type 0 where
@@ -52,7 +44,7 @@ one_more l ls ps back rest = record {
 body_stands : (ls : List Line) → AreReadBack ls → Stand ls (pieces (body_text ls))
 body_stands [] all = record { good = refl; gives = ap (λ o. cons_option o []) empty_line }
 body_stands (l ∷ ls) all =
-    subst (Stand (l ∷ ls)) (sym (ap pieces (append_assoc (line_text l) (10 ∷ []) (body_text ls)) ∙ first_piece (line_text l) (body_text ls) (text_free (line_data l))))
+    subst (Stand (l ∷ ls)) (sym (ap pieces (append_assoc (line_text l) (10 ∷ []) (body_text ls)) ∙ first_line (line_text l) (body_text ls) (text_free (line_data l))))
     (one_more l ls (pieces (body_text ls)) all.0 (body_stands ls all.1))
 
 stand_for : (ls : List Line) (ps : List (List ℕ)) → Stand ls ps → lines_of_pieces ps ≡ Ok ls

@@ -8,7 +8,8 @@ use Rattle.std.specs.Option.{option_map_or}
 use Rattle.std.specs.Str.{is_utf8, chars}
 use Rattle.json.specs.Json.{value}
 use Rattle.json.specs.Lex.{punctuate, lex}
-use Rattle.share_lines.specs.Bodies.{TakesPiece, is_bad, line_at, lines_in, pieces, start_of}
+use Rattle.json_print.specs.Lines.{lines as pieces}
+use Rattle.share_lines.specs.Bodies.{TakesPiece, is_bad, line_at, lines_in, start_of}
 use Rattle.share_lines.specs.declared.faults.LinesFault.{LinesFault}
 use Rattle.share_lines.specs.declared.faults.LinesFault.TheVariants as fault
 use Rattle.share_lines.specs.declared.kinds.Line.{Line}

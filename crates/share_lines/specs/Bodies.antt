@@ -1,9 +1,10 @@
 -- The lines of a body (Delta Sharing PROTOCOL.md, "API Response Format in Parquet": newline-delimited JSON).
 use Rattle.std.specs.Prelude.{◌≡◌, ◌==◌, ℕ, List, [], ◌∷◌, ◌++◌, Bool, true, Option, Some, None, Result, Ok, Err, ⊤, ◌&&◌, not, is_some, filter_map, flat_map, length, take, nat_lt, option_to_list, if◌then◌else◌}
-use Rattle.std.specs.List.{list_any, position_or_len, slice_split}
+use Rattle.std.specs.List.{list_any, position_or_len}
 use Rattle.serde_json.specs.Data.{Data}
 use Rattle.json_tree.specs.Tree.{tree_in}
 use Rattle.json_tree.specs.declared.tree.TreeFault.{TreeFault}
+use Rattle.json_print.specs.Lines.{lines as pieces}
 use Rattle.share_lines.specs.Reading.{line_in}
 use Rattle.share_lines.specs.declared.faults.LinesFault.{LinesFault}
 use Rattle.share_lines.specs.declared.faults.LinesFault.TheVariants as fault
@@ -16,10 +17,6 @@ of_tree (Err e) = None
 -- the line that a text stands for
 abbrev pub line_at : List ℕ → Option Line
 line_at text = of_tree (tree_in text)
-
--- the pieces between line feeds
-abbrev pub pieces : List ℕ → List (List ℕ)
-pieces bytes = slice_split (λ b. b == 10) bytes
 
 -- outside the grammar: neither empty nor a line
 abbrev pub is_bad : List ℕ → Bool
@@ -52,11 +49,3 @@ Answers (Err e) what = Fails e what
 pub record TakesPiece (piece : List ℕ) (old new : List Line) (taken : Bool) : Type 0 where
   pub good : taken ≡ not (is_bad piece)
   pub lines : taken ≡ true → new ≡ old ++ option_to_list (line_at piece)
-
--- the first piece, and what follows its line feed
-abbrev pub pieces_left : Option (List ℕ) → List (List ℕ)
-pieces_left None = []
-pieces_left (Some text) = pieces text
-
-abbrev pub IsCut : List ℕ → List ℕ → Option (List ℕ) → Type 0
-IsCut text piece rest = pieces text ≡ piece ∷ pieces_left rest

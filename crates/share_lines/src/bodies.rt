@@ -1,6 +1,6 @@
 // The lines of a body.
-ghost use Rattle.std.specs.Prelude.{◌≡◌, ◌+◌, ◌≤◌, All, IfOk, IfSome, IsTrue, Ok, is_some, length, option_copied};
-ghost use Rattle.share_lines.specs.Bodies.{Answers, IsCut, TakesPiece, line_at as line_in_text, lines_in};
+ghost use Rattle.std.specs.Prelude.{◌≡◌, All, IfOk, IsTrue, Ok, is_some};
+ghost use Rattle.share_lines.specs.Bodies.{Answers, TakesPiece, line_at as line_in_text, lines_in};
 ghost use Rattle.share_lines.specs.Printing.{body_text, is_printable};
 ghost use Rattle.share_lines.specs.Reading.{Gives};
 
@@ -8,6 +8,7 @@ use crate::faults::LineFault;
 use crate::printing::line_onto;
 use crate::reading::line_of;
 use crate::{Line, Lines, LinesFault};
+use json_print::lines::cut;
 use json_tree::{Text, TreeFault, tree_of};
 use std::alloc::{AllocError, Global};
 
@@ -20,18 +21,6 @@ fn line_at(alloc: Global, text: &[u8]) -> Result<Line, LineFault>
         Err(TreeFault::NotUtf8) => Err(LineFault::Bad),
         Err(TreeFault::NotJson) => Err(LineFault::Bad),
         Err(TreeFault::NoMemory) => Err(LineFault::NoMemory),
-    }
-}
-
-// The first piece, and what follows its line feed.
-fn cut(bytes: &[u8]) -> (&[u8], Option<&[u8]>)
-    ensures pieces { IsCut bytes.now result.0.now (option_copied result.1) }
-    ensures whole { IfSome result.1 (λ rest. length result.0.now + 1 + length rest.now ≡ length bytes.now) }
-    ensures short { length result.0.now ≤ length bytes.now }
-{
-    match bytes.iter().position(|byte| *byte == b'\n') {
-        Some(at) => (&bytes[..at], Some(&bytes[at + 1..])),
-        None => (bytes, None),
     }
 }
 

@@ -1,7 +1,7 @@
 use Rattle.std.proofs.Common.{◌≡◌, ◌+◌, ◌++◌, ◌≤◌, length, option_copied}
 use Rattle.std.specs.Option.{option_map_or}
-use Rattle.log_commit.specs.Lines.{lines}
-use Rattle.log_commit.specs.Passes.{line_fault, lines_left, read_actions, read_numbers}
+use Rattle.json_print.specs.Lines.{lines, lines_left}
+use Rattle.log_commit.specs.Passes.{line_fault, read_actions, read_numbers}
 use Rattle.log_commit.proofs.lines.read_lines.Given as goal
 
 -- what was found, and what the lines left give, are what all give

@@ -1,6 +1,6 @@
 use Rattle.std.proofs.Common.{◌≡◌, ◌∙◌, ◌≤◌, ◌+◌, length, option_copied, true, sym, ap, subst, tests, rules}
 use Rattle.std.specs.Option.{option_map_or}
-use Rattle.share_lines.specs.Bodies.{pieces, pieces_left}
+use Rattle.json_print.specs.Lines.{lines as pieces, lines_left as pieces_left}
 use Rattle.share_lines.proofs.Pieces.{few_more, piece_more, read_from}
 use Rattle.share_lines.proofs.bodies.lines_of.Goals as goal
 
@@ -10,7 +10,7 @@ loop-rest-preserved c =
     let taken : c.in_ok-take_piece.field-0 ≡ true = search (tests, rules) in
     let left : at + (length c.in-Some.left.now + 1) ≤ length c.args.bytes.now + 1 = subst (λ o. at + option_map_or (λ t. length t.now + 1) o 0 ≤ length c.args.bytes.now + 1) c.in-Some.is c.loop-rest.invariant.few in
     record {
-      read = sym (piece_more at c.loop-rest.lines.items c.take_piece.new.lines.items c.cut.result.0.now (pieces c.in-Some.left.now) (pieces_left (option_copied c.cut.result.1)) c.in_ok-take_piece.field-0 c.cut.ensures.pieces c.in_ok-take_piece.ensures taken)
+      read = sym (piece_more at c.loop-rest.lines.items c.take_piece.new.lines.items c.cut.result.0.now (pieces c.in-Some.left.now) (pieces_left (option_copied c.cut.result.1)) c.in_ok-take_piece.field-0 c.cut.ensures.lines c.in_ok-take_piece.ensures taken)
           ∙ ap (λ o. read_from at c.loop-rest.lines.items (pieces_left (option_copied o))) (sym c.in-Some.is) ∙ c.loop-rest.invariant.read;
       few = few_more c.cut.result.1 c.cut.result.0.now c.in-Some.left.now at (length c.args.bytes.now + 1) c.cut.ensures.whole c.cut.ensures.short left;
     }

@@ -1,6 +1,7 @@
 use Rattle.std.proofs.Common.{◌≡◌, ◌+◌, ◌≤◌, length, option_copied}
 use Rattle.std.specs.Option.{option_map_or}
-use Rattle.share_lines.specs.Bodies.{lines_in, pieces_left}
+use Rattle.json_print.specs.Lines.{lines_left as pieces_left}
+use Rattle.share_lines.specs.Bodies.{lines_in}
 use Rattle.share_lines.proofs.Pieces.{read_from}
 use Rattle.share_lines.proofs.bodies.lines_of.Given as goal
 
