@@ -1,5 +1,5 @@
 -- The lines of a body (Delta Sharing PROTOCOL.md, "API Response Format in Parquet": newline-delimited JSON).
-use Rattle.std.specs.Prelude.{◌≡◌, ◌==◌, ℕ, List, [], ◌∷◌, ◌++◌, Bool, true, Option, Some, None, Result, Ok, Err, ⊤, ◌&&◌, not, is_some, filter_map, flat_map, length, take, nat_lt, option_to_list, if◌then◌else◌}
+use Rattle.std.specs.Prelude.{◌≡◌, ℕ, List, [], ◌∷◌, ◌++◌, Bool, true, Option, None, Result, Ok, Err, ⊤, ◌&&◌, not, is_some, filter_map, flat_map, length, take, nat_lt, option_to_list, if◌then◌else◌}
 use Rattle.std.specs.List.{list_any, position_or_len}
 use Rattle.serde_json.specs.Data.{Data}
 use Rattle.json_tree.specs.Tree.{tree_in}
