@@ -19,6 +19,14 @@ struct Seen<'a> {
     paths: BTreeMap<&'a str, ()>,
 }
 
+// What stood before an action: a protocol, a metaData, and the path that it counts for.
+#[derive(Clone, Copy, Drop)]
+struct Before {
+    protocol: bool,
+    meta_data: bool,
+    path: bool,
+}
+
 fn is_protocol(action: &Action) -> bool
     ensures { result ≡ rule.is_protocol action.now }
 {
@@ -55,61 +63,78 @@ fn counted_path(action: &Action) -> Option<&str>
     }
 }
 
-fn has_path_again(paths: &BTreeMap<&str, ()>, action: &Action) -> bool
-    ensures { result ≡ option_map_or (holds paths.now) (rule.counted_path action.now) false }
-{
-    match counted_path(action) {
-        Some(path) => paths.contains_key(path),
-        None => false,
-    }
-}
-
 fn is_second(seen: bool, this: bool) -> bool
     ensures { result ≡ (this && seen) }
 {
     this && seen
 }
 
-// The first rule that the action of line n breaks after those seen.
+// The first rule that the action of line n breaks after those before it.
 fn broken_rule(
     alloc: Global,
-    seen: &Seen,
+    before: Before,
     n: u64,
     action: &Action,
 ) -> Result<Option<CommitFault>, AllocError>
-    ensures { IfOk result (λ fault. fault ≡ broken n seen.now.protocol seen.now.meta_data (option_map_or (holds seen.now.paths) (rule.counted_path action.now) false) action.now) }
+    ensures { IfOk result (λ fault. fault ≡ broken n before.protocol before.meta_data before.path action.now) }
 {
-    if is_second(seen.protocol, is_protocol(action)) {
+    if is_second(before.protocol, is_protocol(action)) {
         return Ok(Some(CommitFault::TwoProtocols { n }));
     }
-    if is_second(seen.meta_data, is_meta_data(action)) {
+    if is_second(before.meta_data, is_meta_data(action)) {
         return Ok(Some(CommitFault::TwoMetaData { n }));
     }
     if !has_good_path(alloc, action)? {
         return Ok(Some(CommitFault::BadPath { n }));
     }
-    if has_path_again(&seen.paths, action) {
+    if before.path {
         return Ok(Some(CommitFault::PathTwice { n }));
     }
     Ok(None)
 }
 
-// Puts the path in that the action counts for.
-fn put_path<'a>(paths: &mut BTreeMap<&'a str, ()>, action: &'a Action) -> Result<(), AllocError>
-    ensures { OnOk result ((q : List ℕ) → holds paths.new q ≡ (option_map_or (λ path. bytes_eq path q) (rule.counted_path action.now) false || holds paths.old q)) }
+// Puts the path in that the action counts for, and answers whether it was there.
+fn put_path<'a>(paths: &mut BTreeMap<&'a str, ()>, action: &'a Action) -> Result<bool, AllocError>
+    ensures put { OnOk result ((q : List ℕ) → holds paths.new q ≡ (option_map_or (λ path. bytes_eq path q) (rule.counted_path action.now) false || holds paths.old q)) }
+    ensures was { IfOk result (λ was. was ≡ option_map_or (holds paths.old) (rule.counted_path action.now) false) }
 {
-    if let Some(path) = counted_path(action) {
-        paths.insert(path, ())?;
+    match counted_path(action) {
+        Some(path) => Ok(paths.insert(path, ())?.is_some()),
+        None => Ok(false),
     }
-    Ok(())
 }
 
-fn record_action<'a>(seen: &mut Seen<'a>, action: &'a Action) -> Result<(), AllocError>
-    ensures { OnOk result (Records seen.old seen.new action.now) }
+// Adds an action to those seen, and answers what stood before it.
+fn record_action<'a>(seen: &mut Seen<'a>, action: &'a Action) -> Result<Before, AllocError>
+    ensures records { OnOk result (Records seen.old seen.new action.now) }
+    ensures protocol { IfOk result (λ before. before.protocol ≡ seen.old.protocol) }
+    ensures meta_data { IfOk result (λ before. before.meta_data ≡ seen.old.meta_data) }
+    ensures path { IfOk result (λ before. before.path ≡ option_map_or (holds seen.old.paths) (rule.counted_path action.now) false) }
 {
-    seen.protocol = seen.protocol || is_protocol(action);
-    seen.meta_data = seen.meta_data || is_meta_data(action);
-    put_path(&mut seen.paths, action)
+    let protocol = seen.protocol;
+    let meta_data = seen.meta_data;
+    let path = put_path(&mut seen.paths, action)?;
+    seen.protocol = protocol || is_protocol(action);
+    seen.meta_data = meta_data || is_meta_data(action);
+    Ok(Before {
+        protocol,
+        meta_data,
+        path,
+    })
+}
+
+// Adds the action of line n to those seen, and answers the first rule that it breaks after them.
+fn take_action<'a>(
+    alloc: Global,
+    seen: &mut Seen<'a>,
+    n: u64,
+    action: &'a Action,
+) -> Result<Option<CommitFault>, AllocError>
+    ensures fault { IfOk result (λ fault. fault ≡ broken n seen.old.protocol seen.old.meta_data (option_map_or (holds seen.old.paths) (rule.counted_path action.now) false) action.now) }
+    ensures records { OnOk result (Records seen.old seen.new action.now) }
+{
+    let before = record_action(seen, action)?;
+    broken_rule(alloc, before, n, action)
 }
 
 // The first rule that an action breaks, with the number of its line.
@@ -127,11 +152,10 @@ pub(crate) fn first_broken(
         paths: BTreeMap::new(alloc),
     };
     for i in 0..actions.len() {
-        let fault = broken_rule(alloc, &seen, numbers[i], &actions[i])?;
+        let fault = take_action(alloc, &mut seen, numbers[i], &actions[i])?;
         if fault.is_some() {
             return Ok(fault);
         }
-        record_action(&mut seen, &actions[i])?;
     }
     Ok(None)
 }
