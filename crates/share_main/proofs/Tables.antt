@@ -1,5 +1,5 @@
 -- The lines of a version under a predicate.
-use Rattle.std.proofs.Common.{◌≡◌, ℕ, ◌<◌, ◌+◌, List, [], ◌∷◌, ◌++◌, length, map, take, Option, Some, None, Result, Ok, Err, String, Global, Bool, true, false, refl, sym, ap, ◌∙◌, subst, string_bytes, flat_map}
+use Rattle.std.proofs.Common.{◌≡◌, ℕ, ◌<◌, ◌+◌, List, [], ◌∷◌, ◌++◌, length, map, take, Option, Some, None, Result, Ok, Err, Vec, Global, Bool, true, false, refl, sym, ap, ◌∙◌, subst, string_bytes, flat_map}
 use Rattle.std.specs.Prelude.{IfOk, filter}
 use Rattle.std.specs.Arc.{arc_value}
 use Rattle.std.specs.declared.sync.Arc.{Arc}
@@ -40,18 +40,18 @@ listed_by (Some t) columns None files is = absurd is
 listed_by (Some t) columns (Some pred) files is = sym (filter_same (λ file. is_listed (Some t) columns file.values) (passes pred) files (λ file. ap is_not_false (sym (is file.values))))
 
 -- a text by another name
-text_is : (text : List ℕ) (wanted : List ℕ) (result : Result (String Global) (AllocError)) → text ≡ wanted → IfOk result (λ t. string_bytes t ≡ text) → IfOk result (λ t. string_bytes t ≡ wanted)
+text_is : (text : List ℕ) (wanted : List ℕ) (result : Result (Vec ℕ Global) (AllocError)) → text ≡ wanted → IfOk result (λ t. t.items ≡ text) → IfOk result (λ t. t.items ≡ wanted)
 text_is text wanted (Ok t) same is = is ∙ same
 text_is text wanted (Err e) same is = tt
 
 -- the lines of a state under a predicate whose columns were found
-pub state_lines_by : (hint : Option (List ℕ)) (state : State) (bound : Option BoundPred) (result : Result (String Global) AllocError) → IsBound (pred_by hint) (columns_in state.meta.schema state.meta.columns) bound
-    → IfOk result (λ t. string_bytes t ≡ protocol_line ++ meta_line state.meta ++ flat_map file_line (files_under bound state.files)) → IfOk result (λ t. string_bytes t ≡ state_lines hint state)
+pub state_lines_by : (hint : Option (List ℕ)) (state : State) (bound : Option BoundPred) (result : Result (Vec ℕ Global) AllocError) → IsBound (pred_by hint) (columns_in state.meta.schema state.meta.columns) bound
+    → IfOk result (λ t. t.items ≡ protocol_line ++ meta_line state.meta ++ flat_map file_line (files_under bound state.files)) → IfOk result (λ t. t.items ≡ state_lines hint state)
 state_lines_by hint state bound result is lines =
     text_is _ (state_lines hint state) result (ap (λ files. protocol_line ++ meta_line state.meta ++ flat_map file_line files) (listed_by (pred_by hint) (columns_in state.meta.schema state.meta.columns) bound state.files is)) lines
 
 -- the lines at the version that is meant
-pub at_version : (hint : Option (List ℕ)) (commits front : List (Arc (List Action) Global)) (meant : Result ℕ Unresolved) (version : ℕ) (result : Result (String Global) LinesFault) → meant ≡ Ok version → front ≡ take (version + 1) commits
+pub at_version : (hint : Option (List ℕ)) (commits front : List (Arc (List Action) Global)) (meant : Result ℕ Unresolved) (version : ℕ) (result : Result (Vec ℕ Global) LinesFault) → meant ≡ Ok version → front ≡ take (version + 1) commits
     → IsLog (lines_of_state hint (state_of (map arc_value front))) result → IsLog (lines_at hint (map arc_value commits) meant) result
 at_version hint commits front meant version result is part lines =
     let same : lines_of_state hint (state_of (map arc_value front)) ≡ lines_at hint (map arc_value commits) meant =
@@ -59,7 +59,7 @@ at_version hint commits front meant version result is part lines =
     subst (λ said. IsLog said result) same lines
 
 -- the lines of the log that was loaded are those of the objects at that moment
-pub of_loaded : (old new : Option Objects) (location : List ℕ) (query : QueryBody) (log : Loaded) (result : Result (String Global) LinesFault) → Between old new (λ os. log ≡ log_in location os) → IsLog (lines_of_log query log) result
+pub of_loaded : (old new : Option Objects) (location : List ℕ) (query : QueryBody) (log : Loaded) (result : Result (Vec ℕ Global) LinesFault) → Between old new (λ os. log ≡ log_in location os) → IsLog (lines_of_log query log) result
     → Between old new (λ os. IsLog (lines_in location query os) result)
 of_loaded old new location query log result (None, begun, ended, is) lines = (None, begun, ended, tt)
 of_loaded old new location query log result (Some os, begun, ended, is) lines = (Some os, begun, ended, subst (λ l. IsLog (lines_of_log query l) result) is lines)

@@ -1,5 +1,5 @@
 -- What the steps of a run do, one after another.
-use Rattle.std.specs.Prelude.{◌≡◌, ℕ, ◌≤◌, List, Bool, true, false, take, Option, Some, Result, Ok, Err, String, string_bytes}
+use Rattle.std.specs.Prelude.{◌≡◌, ℕ, ◌≤◌, List, Bool, true, false, take, Option, Some, Result, Ok, Err, Vec}
 use Rattle.std.specs.Bool.{OnTrue}
 use Rattle.std.specs.Io.KnownBytes.{append_known}
 use Rattle.std.specs.declared.alloc.Global.{Global}
@@ -45,8 +45,8 @@ pub record Found (location : List ℕ) (old new : Outside) (text : List ℕ) : T
   pub notes : new.noted ≡ old.noted
   pub note_faults : new.note_faults ≡ old.note_faults
 
-abbrev pub Finds : List ℕ → Outside → Outside → Result (String Global) End → Type 0
-Finds location old new (Ok text) = Found location old new (string_bytes text)
+abbrev pub Finds : List ℕ → Outside → Outside → Result (Vec ℕ Global) End → Type 0
+Finds location old new (Ok text) = Found location old new text.items
 Finds location old new (Err end) = Runs (Some (command.Query location)) old new end
 
 -- the text was written to the notes, and nothing else changed

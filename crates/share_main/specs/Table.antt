@@ -1,5 +1,5 @@
 -- The lines of a query's answer, as a function of the store's objects.
-use Rattle.std.specs.Prelude.{◌≡◌, ℕ, ◌+◌, List, [], ◌∷◌, ◌++◌, filter, flat_map, take, Option, Some, None, Result, Ok, Err, String, string_bytes, Bool, true, false, ⊤}
+use Rattle.std.specs.Prelude.{◌≡◌, ℕ, ◌+◌, List, [], ◌∷◌, ◌++◌, filter, flat_map, take, Option, Some, None, Result, Ok, Err, Vec, Bool, true, false, ⊤}
 use Rattle.std.specs.declared.alloc.Global.{Global}
 use Rattle.edge_core.specs.Objects.{Objects}
 use Rattle.log_actions.specs.declared.actions.Action.{Action}
@@ -94,8 +94,8 @@ abbrev pub lines_in : List ℕ → QueryBody → Objects → Result (List ℕ) T
 lines_in location query objects = lines_of_log query (log_in location objects)
 
 -- The text is these lines, or there is none. Want of memory says nothing.
-abbrev pub IsLog : Result (List ℕ) TableRefusal → Result (String Global) LinesFault → Type 0
-IsLog said (Ok text) = said ≡ Ok (string_bytes text)
+abbrev pub IsLog : Result (List ℕ) TableRefusal → Result (Vec ℕ Global) LinesFault → Type 0
+IsLog said (Ok text) = said ≡ Ok text.items
 IsLog said (Err (fault.Refused why)) = said ≡ Err why
 IsLog said (Err fault.StoreFault) = ⊤
 IsLog said (Err fault.NoMemory) = ⊤
@@ -111,7 +111,7 @@ replay_fault (replay.Unsupported version cause) = fault.Refused (table.Unsupport
 replay_fault replay.NoMemory = fault.NoMemory
 
 -- whether a call of the store failed
-abbrev pub failed_lines : Result (String Global) LinesFault → Bool
+abbrev pub failed_lines : Result (Vec ℕ Global) LinesFault → Bool
 failed_lines (Ok text) = false
 failed_lines (Err (fault.Refused why)) = false
 failed_lines (Err fault.StoreFault) = true

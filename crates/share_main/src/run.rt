@@ -104,14 +104,14 @@ fn write_note<K: Sink>(sink: &mut K, note: &Note) -> bool
     }
 }
 
-// Writes a text to the output.
+// Writes bytes to the output.
 fn print<S: Source, K: Sink, M: Sink, W: Store, L>(
     edge: &mut Edge<S, K, M, W, L>,
-    text: &str,
+    text: &[u8],
 ) -> End
     ensures prints { Prints text.now edge.old edge.new result }
 {
-    if write_all(&mut edge.output, text.as_bytes()) {
+    if write_all(&mut edge.output, text) {
         End::Done
     } else {
         End::WriteFault
@@ -123,7 +123,7 @@ fn find_lines<S: Source, K: Sink, M: Sink, W: Store, L>(
     alloc: Global,
     location: &Name,
     edge: &mut Edge<S, K, M, W, L>,
-) -> Result<String, End>
+) -> Result<Vec<u8>, End>
     requires { length location.now ≤ 256 }
     ensures { Finds location.now edge.old edge.new result }
 {
@@ -146,7 +146,7 @@ fn query<S: Source, K: Sink, M: Sink, W: Store, L>(
     ensures { Runs (Some (Query location.now)) edge.old edge.new result }
 {
     match find_lines(alloc, location, edge) {
-        Ok(lines) => print(edge, lines.as_str()),
+        Ok(lines) => print(edge, &lines),
         Err(end) => end,
     }
 }
@@ -161,8 +161,8 @@ fn answer<S: Source, K: Sink, M: Sink, W: Store, L>(
     ensures { Runs command edge.old edge.new result }
 {
     match command {
-        Some(Command::Help) => print(edge, HELP),
-        Some(Command::Version) => print(edge, VERSION),
+        Some(Command::Help) => print(edge, HELP.as_bytes()),
+        Some(Command::Version) => print(edge, VERSION.as_bytes()),
         Some(Command::Query(location)) => query(alloc, &location, edge),
         None => End::Words,
     }

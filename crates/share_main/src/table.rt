@@ -1,5 +1,5 @@
 // The lines of a table.
-ghost use Rattle.std.specs.Prelude.{◌≡◌, ◌++◌, ◌∷◌, [], ◌<◌, false, ◌≤◌, IfOk, OnOk, filter, flat_map, length, map, string_bytes};
+ghost use Rattle.std.specs.Prelude.{◌≡◌, ◌++◌, ◌∷◌, [], ◌<◌, false, ◌≤◌, IfOk, filter, flat_map, length, map};
 ghost use Rattle.edge_core.specs.Faults.{Cause};
 ghost use Rattle.edge_core.specs.Objects.{Between};
 ghost use Rattle.log_store.specs.Reading.{Looked};
@@ -20,51 +20,46 @@ use log_replay::{Bound, ReplayRefusal, SnapshotRef, Unresolved, marks_of, replay
 use log_store::{Block, BlockCause, LoadRefusal, Loaded, load};
 use part_values::columns_of;
 use pred_tree::{BoundPred, Truth, bind, pred_of};
-use share_lines::{push_file, push_meta, push_protocol};
+use share_lines::{file_onto, meta_onto, protocol_onto};
 use share_request::QueryBody;
 use std::alloc::{AllocError, Global};
 use std::sync::Arc;
 use step_count::Steps;
 
-fn push_files(alloc: Global, out: &mut String, snapshot: &SnapshotRef) -> Result<(), AllocError>
-    ensures { OnOk result (string_bytes out.new
-        ≡ string_bytes out.old ++ flat_map file_line snapshot.now.files) }
+fn files_onto(buffer: Vec<u8>, snapshot: &SnapshotRef) -> Result<Vec<u8>, AllocError>
+    ensures { IfOk result (λ v. v.items ≡ buffer.items ++ flat_map file_line snapshot.now.files) }
 {
+    let mut out = buffer;
     for place in 0..snapshot.len() {
-        push_file(alloc, out, snapshot.file(place))?;
+        out = file_onto(out, snapshot.file(place))?;
     }
-    Ok(())
+    Ok(out)
 }
 
-// Pushes the line of a file that the predicate doesn't make False.
-fn push_if_listed(
-    alloc: Global,
-    out: &mut String,
-    file: &AddFile,
-    pred: &BoundPred,
-) -> Result<(), AllocError>
-    ensures { OnOk result (string_bytes out.new
-        ≡ string_bytes out.old ++ flat_map file_line (filter (passes pred.now) (file.now ∷ []))) }
+// Appends the line of a file that the predicate doesn't make False.
+fn if_listed_onto(buffer: Vec<u8>, file: &AddFile, pred: &BoundPred) -> Result<Vec<u8>, AllocError>
+    ensures { IfOk result (λ v. v.items
+        ≡ buffer.items ++ flat_map file_line (filter (passes pred.now) (file.now ∷ []))) }
 {
     match pred.eval(file) {
-        Truth::False => Ok(()),
-        Truth::True | Truth::Unknown => push_file(alloc, out, file),
+        Truth::False => Ok(buffer),
+        Truth::True | Truth::Unknown => file_onto(buffer, file),
     }
 }
 
-fn push_listed(
-    alloc: Global,
-    out: &mut String,
+fn listed_onto(
+    buffer: Vec<u8>,
     snapshot: &SnapshotRef,
     pred: &BoundPred,
-) -> Result<(), AllocError>
-    ensures { OnOk result (string_bytes out.new
-        ≡ string_bytes out.old ++ flat_map file_line (filter (passes pred.now) snapshot.now.files)) }
+) -> Result<Vec<u8>, AllocError>
+    ensures { IfOk result (λ v. v.items
+        ≡ buffer.items ++ flat_map file_line (filter (passes pred.now) snapshot.now.files)) }
 {
+    let mut out = buffer;
     for place in 0..snapshot.len() {
-        push_if_listed(alloc, out, snapshot.file(place), pred)?;
+        out = if_listed_onto(out, snapshot.file(place), pred)?;
     }
-    Ok(())
+    Ok(out)
 }
 
 // The predicate of a hint over the columns of a table, none where the hint is none or no predicate.
@@ -87,34 +82,49 @@ fn bound_pred(
     }
 }
 
-fn push_under(
-    alloc: Global,
-    out: &mut String,
+fn under_onto(
+    buffer: Vec<u8>,
     snapshot: &SnapshotRef,
     pred: &Option<BoundPred>,
-) -> Result<(), AllocError>
-    ensures { OnOk result (string_bytes out.new
-        ≡ string_bytes out.old ++ flat_map file_line (files_under pred.now snapshot.now.files)) }
+) -> Result<Vec<u8>, AllocError>
+    ensures { IfOk result (λ v. v.items
+        ≡ buffer.items ++ flat_map file_line (files_under pred.now snapshot.now.files)) }
 {
     match pred {
-        Some(pred) => push_listed(alloc, out, snapshot, pred),
-        None => push_files(alloc, out, snapshot),
+        Some(pred) => listed_onto(buffer, snapshot, pred),
+        None => files_onto(buffer, snapshot),
     }
+}
+
+// Room for the lines of all files, as a rule: the path stands twice, and quotes in statistics take two bytes.
+fn room_for(snapshot: &SnapshotRef) -> usize {
+    let mut room = 4096usize;
+    for place in 0..snapshot.len() {
+        let file = snapshot.file(place);
+        let stats = match &file.stats {
+            Some(stats) => stats.as_str().len(),
+            None => 0,
+        };
+        room = room
+            .saturating_add(file.path.as_str().len() * 2)
+            .saturating_add(stats + stats / 4)
+            .saturating_add(160);
+    }
+    room
 }
 
 fn lines_under(
     alloc: Global,
     pred: &Option<BoundPred>,
     snapshot: &SnapshotRef,
-) -> Result<String, AllocError>
-    ensures { IfOk result (λ text. string_bytes text
+) -> Result<Vec<u8>, AllocError>
+    ensures { IfOk result (λ v. v.items
         ≡ protocol_line ++ meta_line snapshot.now.meta ++ flat_map file_line (files_under pred.now snapshot.now.files)) }
 {
-    let mut out = String::new(alloc);
-    push_protocol(&mut out)?;
-    push_meta(alloc, &mut out, snapshot.meta())?;
-    push_under(alloc, &mut out, snapshot, pred)?;
-    Ok(out)
+    let out = Vec::with_capacity(alloc, room_for(snapshot))?;
+    let out = protocol_onto(out)?;
+    let out = meta_onto(out, snapshot.meta())?;
+    under_onto(out, snapshot, pred)
 }
 
 // The lines of a state.
@@ -122,8 +132,8 @@ fn snapshot_lines(
     alloc: Global,
     hint: &Option<Text>,
     snapshot: &SnapshotRef,
-) -> Result<String, AllocError>
-    ensures { IfOk result (λ text. string_bytes text ≡ state_lines hint.now snapshot.now) }
+) -> Result<Vec<u8>, AllocError>
+    ensures { IfOk result (λ v. v.items ≡ state_lines hint.now snapshot.now) }
 {
     let pred = bound_pred(alloc, hint, snapshot.meta())?;
     lines_under(alloc, &pred, snapshot)
@@ -217,7 +227,7 @@ fn replayed_lines<L>(
     hint: &Option<Text>,
     commits: &[Arc<Commit>],
     steps: &mut Steps<L>,
-) -> Result<String, LinesFault>
+) -> Result<Vec<u8>, LinesFault>
     requires { 0 < length commits.now }
     ensures lines { IsLog (lines_of_state hint.now (state_of (map arc_value commits.now))) result }
     ensures inside { failed_lines result ≡ false }
@@ -241,7 +251,7 @@ fn commit_lines<L>(
     query: &QueryBody,
     commits: &[Arc<Commit>],
     steps: &mut Steps<L>,
-) -> Result<String, LinesFault>
+) -> Result<Vec<u8>, LinesFault>
     ensures lines { IsLog (lines_of_commits query.now (map arc_value commits.now)) result }
     ensures inside { failed_lines result ≡ false }
 {
@@ -254,7 +264,7 @@ fn log_lines<L>(
     query: &QueryBody,
     log: &Loaded,
     steps: &mut Steps<L>,
-) -> Result<String, LinesFault>
+) -> Result<Vec<u8>, LinesFault>
     ensures lines { IsLog (lines_of_log query.now log.now) result }
     ensures inside { failed_lines result ≡ false }
 {
@@ -275,7 +285,7 @@ pub fn table_lines<W: Store, L>(
     location: &Name,
     query: &QueryBody,
     steps: &mut Steps<L>,
-) -> Result<String, LinesFault>
+) -> Result<Vec<u8>, LinesFault>
     requires { length location.now ≤ 256 }
     ensures table { Between (W.objects store.old) (W.objects store.new)
         (λ objects. IsLog (lines_in location.now query.now objects) result) }
