@@ -6,6 +6,7 @@ ghost use Rattle.log_actions.specs.Paths as spec;
 
 use edge_core::{Name, is_name_text};
 use json_tree::Text;
+use memchr::memchr;
 use percent_encoding::{DecodeError, percent_decode};
 use std::alloc::{AllocError, Global};
 use std::borrow::CowStr;
@@ -34,7 +35,7 @@ fn is_scheme(bytes: &[u8]) -> bool
 fn has_scheme(bytes: &[u8]) -> bool
     ensures { result ≡ spec.has_scheme bytes.now }
 {
-    match bytes.iter().position(|b| *b == b':') {
+    match memchr(b':', bytes) {
         Some(at) => is_scheme(&bytes[..at]),
         None => false,
     }
@@ -55,14 +56,23 @@ fn is_relative(path: &[u8]) -> bool
     !path.is_empty() && !begins_with_slash(path) && !has_scheme(path)
 }
 
-// The path's bytes without escapes, none where they aren't UTF-8.
-fn decode(alloc: Global, path: &str) -> Result<Option<CowStr<'_>>, AllocError>
+fn decode_escapes(alloc: Global, path: &str) -> Result<Option<CowStr<'_>>, AllocError>
     ensures { IfOk result (λ o. option_map (λ s. cow_str_bytes s) o ≡ spec.decoded path.now) }
 {
     match percent_decode(path.as_bytes()).decode_utf8(alloc) {
         Ok(text) => Ok(Some(text)),
         Err(DecodeError::OutOfMemory) => Err(AllocError),
         Err(DecodeError::Utf8(_)) => Ok(None),
+    }
+}
+
+// The path's bytes without escapes, none where they aren't UTF-8. Most paths have no escape.
+fn decode(alloc: Global, path: &str) -> Result<Option<CowStr<'_>>, AllocError>
+    ensures { IfOk result (λ o. option_map (λ s. cow_str_bytes s) o ≡ spec.decoded path.now) }
+{
+    match memchr(b'%', path.as_bytes()) {
+        Some(_) => decode_escapes(alloc, path),
+        None => Ok(Some(CowStr::Borrowed(path))),
     }
 }
 
