@@ -1,0 +1,67 @@
+-- The text of a response up to its body (RFC 9112, sections 2.1, 4 and 5).
+use Rattle.std.specs.Prelude.{ℕ, Bool, ◌==◌, List, [], ◌∷◌, ◌++◌, Option, Some, None, codes, if◌then◌else◌}
+use Rattle.std.specs.List.{flat_map}
+use Rattle.std.specs.Fmt.{decimal}
+use Rattle.response_text.specs.Contents.{content_type_name}
+use Rattle.response_text.specs.Dates.{date_at}
+use Rattle.response_text.specs.Statuses.{code, reason, method_name}
+use Rattle.response_text.specs.declared.head.ContentType.{ContentType}
+use Rattle.response_text.specs.declared.head.ResponseHead.{ResponseHead}
+use Rattle.response_text.specs.declared.status.Status.{Status}
+use Rattle.response_text.specs.declared.status.Status.TheVariants as status
+
+-- a field is a name and a value
+abbrev pub Fields : Type 0
+Fields = List (List ℕ × List ℕ)
+
+abbrev pub crlf : List ℕ
+crlf = codes "\r\n"
+
+abbrev pub status_line : Status → List ℕ
+status_line s = codes "HTTP/1.1 " ++ (decimal (code s) ++ (codes " " ++ (reason s ++ crlf)))
+
+abbrev pub field_line : List ℕ × List ℕ → List ℕ
+field_line field = field.0 ++ (codes ": " ++ (field.1 ++ crlf))
+
+abbrev pub fields_text : Fields → List ℕ
+fields_text fields = flat_map field_line fields
+
+abbrev pub version_fields : Option ℕ → Fields
+version_fields None = []
+version_fields (Some version) = (codes "Delta-Table-Version", decimal version) ∷ []
+
+-- what the status calls for: the table's version, a challenge (RFC 9110, section 11.6.1), the allowed method (section 10.2.1)
+abbrev pub status_fields : Status → Fields
+status_fields (status.Ok version) = version_fields version
+status_fields status.BadRequest = []
+status_fields status.Unauthorized = (codes "WWW-Authenticate", codes "Bearer") ∷ []
+status_fields status.Forbidden = []
+status_fields status.NotFound = []
+status_fields (status.MethodNotAllowed method) = (codes "Allow", method_name method) ∷ []
+status_fields status.Conflict = []
+status_fields status.ContentTooLarge = []
+status_fields status.RequestHeaderFieldsTooLarge = []
+status_fields status.InternalServerError = []
+status_fields status.NotImplemented = []
+status_fields status.ServiceUnavailable = []
+
+-- an empty body has no type (RFC 9110, section 8.3)
+abbrev pub type_fields : ContentType → ℕ → Fields
+type_fields form length =
+    if length == 0 then [] else (codes "Content-Type", content_type_name form) ∷ []
+
+-- RFC 9112, section 9.6
+abbrev pub close_fields : Bool → Fields
+close_fields closes = if closes then (codes "Connection", codes "close") ∷ [] else []
+
+-- all fields, in order; Content-Length is that of RFC 9110, section 8.6
+abbrev pub fields : ResponseHead → Fields
+fields head =
+    (codes "Date", date_at head.moment)
+    ∷ (status_fields head.status
+    ++ (type_fields head.content_type head.length
+    ++ ((codes "Content-Length", decimal head.length) ∷ close_fields head.closes)))
+
+-- the status line, a line for each field, and the empty line
+abbrev pub head_text : ResponseHead → List ℕ
+head_text head = status_line head.status ++ (fields_text (fields head) ++ crlf)

@@ -1,0 +1,36 @@
+// Lines of a head, written at the end of a buffer.
+ghost use Rattle.std.specs.Prelude.{◌≡◌, [], ◌∷◌, ◌++◌, OnOk};
+ghost use Rattle.std.specs.Fmt.{decimal};
+ghost use Rattle.response_text.specs.Heads.{fields_text, status_line};
+
+use crate::status::Status;
+use itoa::Buffer;
+use std::alloc::AllocError;
+
+/// The status line.
+pub(crate) fn push_status(text: &mut Vec<u8>, status: Status) -> Result<(), AllocError>
+    ensures { OnOk result (text.new.items ≡ text.old.items ++ status_line status) }
+{
+    text.extend_from_slice(b"HTTP/1.1 ")?;
+    text.extend_from_slice(Buffer::new().format(status.code()).as_bytes())?;
+    text.extend_from_slice(b" ")?;
+    text.extend_from_slice(status.reason().as_bytes())?;
+    text.extend_from_slice(b"\r\n")
+}
+
+/// A field.
+pub(crate) fn push_field(text: &mut Vec<u8>, name: &str, value: &[u8]) -> Result<(), AllocError>
+    ensures { OnOk result (text.new.items ≡ text.old.items ++ fields_text ((name.now, value.now) ∷ [])) }
+{
+    text.extend_from_slice(name.as_bytes())?;
+    text.extend_from_slice(b": ")?;
+    text.extend_from_slice(value)?;
+    text.extend_from_slice(b"\r\n")
+}
+
+/// A field whose value is a number.
+pub(crate) fn push_number(text: &mut Vec<u8>, name: &str, value: u64) -> Result<(), AllocError>
+    ensures { OnOk result (text.new.items ≡ text.old.items ++ fields_text ((name.now, decimal value) ∷ [])) }
+{
+    push_field(text, name, Buffer::new().format(value).as_bytes())
+}
