@@ -1,6 +1,6 @@
 -- The text of a response up to its body (RFC 9112, sections 2.1, 4 and 5).
-use Rattle.std.specs.Prelude.{ℕ, Bool, ◌==◌, List, [], ◌∷◌, ◌++◌, Option, Some, None, codes, if◌then◌else◌}
-use Rattle.std.specs.List.{flat_map}
+use Rattle.std.specs.Prelude.{ℕ, nat_le, IsTrue, Bool, ◌==◌, List, [], ◌∷◌, ◌++◌, Option, Some, None, codes, if◌then◌else◌}
+use Rattle.std.specs.List.{flat_map, list_all}
 use Rattle.std.specs.Fmt.{decimal}
 use Rattle.response_text.specs.Contents.{content_type_name}
 use Rattle.response_text.specs.Dates.{date_at}
@@ -17,14 +17,17 @@ Fields = List (List ℕ × List ℕ)
 abbrev pub crlf : List ℕ
 crlf = codes "\r\n"
 
+abbrev pub line : List ℕ → List ℕ
+line text = text ++ crlf
+
 abbrev pub status_line : Status → List ℕ
-status_line s = codes "HTTP/1.1 " ++ (decimal (code s) ++ (codes " " ++ (reason s ++ crlf)))
+status_line s = codes "HTTP/1.1 " ++ (decimal (code s) ++ (codes " " ++ reason s))
 
 abbrev pub field_line : List ℕ × List ℕ → List ℕ
-field_line field = field.0 ++ (codes ": " ++ (field.1 ++ crlf))
+field_line field = field.0 ++ (codes ": " ++ field.1)
 
 abbrev pub fields_text : Fields → List ℕ
-fields_text fields = flat_map field_line fields
+fields_text fields = flat_map (λ field. line (field_line field)) fields
 
 abbrev pub version_fields : Option ℕ → Fields
 version_fields None = []
@@ -64,4 +67,16 @@ fields head =
 
 -- the status line, a line for each field, and the empty line
 abbrev pub head_text : ResponseHead → List ℕ
-head_text head = status_line head.status ++ (fields_text (fields head) ++ crlf)
+head_text head = line (status_line head.status) ++ (fields_text (fields head) ++ line [])
+
+-- ---- a law
+
+-- no control character, so no end of a line
+abbrev pub is_one_line : List ℕ → Bool
+is_one_line text = list_all (λ b. nat_le 32 b) text
+
+-- the lines have no other ends than those behind them
+abbrev pub LinesEndOnce : ResponseHead → Type 0
+LinesEndOnce head =
+    IsTrue (is_one_line (status_line head.status))
+    × IsTrue (list_all (λ field. is_one_line (field_line field)) (fields head))

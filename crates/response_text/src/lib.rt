@@ -3,6 +3,7 @@
 
 mod date;
 pub mod head;
+pub mod law;
 mod line;
 pub mod status;
 #[cfg(test)]

@@ -1,7 +1,7 @@
 // Lines of a head, written at the end of a buffer.
 ghost use Rattle.std.specs.Prelude.{◌≡◌, [], ◌∷◌, ◌++◌, OnOk};
 ghost use Rattle.std.specs.Fmt.{decimal};
-ghost use Rattle.response_text.specs.Heads.{fields_text, status_line};
+ghost use Rattle.response_text.specs.Heads.{fields_text, line, status_line};
 
 use crate::status::Status;
 use itoa::Buffer;
@@ -9,7 +9,7 @@ use std::alloc::AllocError;
 
 /// The status line.
 pub(crate) fn push_status(text: &mut Vec<u8>, status: Status) -> Result<(), AllocError>
-    ensures { OnOk result (text.new.items ≡ text.old.items ++ status_line status) }
+    ensures { OnOk result (text.new.items ≡ text.old.items ++ line (status_line status)) }
 {
     text.extend_from_slice(b"HTTP/1.1 ")?;
     text.extend_from_slice(Buffer::new().format(status.code()).as_bytes())?;
