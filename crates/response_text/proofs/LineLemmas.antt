@@ -1,12 +1,12 @@
 -- Each part of a head has no control character.
-use Rattle.std.proofs.Common.{◌≡◌, ℕ, zero, suc, ◌+◌, ◌-◌, ◌≤◌, ◌==◌, ◌&&◌, ◌/◌, ◌%◌, List, [], ◌∷◌, ◌++◌, refl, ◌∙◌, Bool, true, false, cond, arith, nat_le, nat_lt, decimal, Option, Some, None, codes}
+use Rattle.std.proofs.Common.{◌≡◌, ℕ, zero, suc, ◌+◌, ◌-◌, ◌≤◌, ◌==◌, ◌&&◌, ◌/◌, ◌%◌, List, [], ◌∷◌, ◌++◌, refl, ◌∙◌, Bool, true, false, cond, arith, nat_le, nat_lt, decimal, Some, None, codes}
 use Rattle.std.specs.List.{list_all}
 use Rattle.std.specs.Prelude.{slice_index_or}
 use Rattle.std.specs.Fmt.{digits, digits_onto, digit_glyph}
 use Rattle.std.proofs.lemmas.Bool.Decides.{nat_tests}
 use Rattle.std.proofs.lemmas.List.Folds.{list_all-append}
 use Rattle.response_text.specs.Contents.{content_type_name}
-use Rattle.response_text.specs.Dates.{date_at, date_text, day_at, weekday_name, month_name, two_digits, four_digits, time_text}
+use Rattle.response_text.specs.Dates.{date_at, day_at, weekday_name, month_name, two_digits, four_digits, time_text}
 use Rattle.response_text.specs.Heads.{Fields, field_line, fields, is_one_line, status_line, status_fields, type_fields, close_fields}
 use Rattle.response_text.specs.Statuses.{code, reason, method_name}
 use Rattle.response_text.specs.declared.head.ContentType.{ContentType}

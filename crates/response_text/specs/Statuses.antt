@@ -1,5 +1,5 @@
 -- The statuses that are answered (RFC 9110, section 15; RFC 6585, section 5).
-use Rattle.std.specs.Prelude.{◌≡◌, ◌≢◌, ℕ, List, Option, Some, None, ⊤, codes}
+use Rattle.std.specs.Prelude.{◌≡◌, ◌≢◌, ℕ, List, None, ⊤, codes}
 use Rattle.response_text.specs.declared.status.Method.{Method}
 use Rattle.response_text.specs.declared.status.Method.TheVariants as method
 use Rattle.response_text.specs.declared.status.Status.{Status}

@@ -1,11 +1,18 @@
 // Lines of a head, written at the end of a buffer.
 ghost use Rattle.std.specs.Prelude.{◌≡◌, [], ◌∷◌, ◌++◌, OnOk};
 ghost use Rattle.std.specs.Fmt.{decimal};
-ghost use Rattle.response_text.specs.Heads.{fields_text, line, status_line};
+ghost use Rattle.response_text.specs.Heads.{crlf, fields_text, line, status_line};
 
 use crate::status::Status;
 use itoa::Buffer;
 use std::alloc::AllocError;
+
+/// What ends a line, the empty line too.
+pub(crate) fn push_end(text: &mut Vec<u8>) -> Result<(), AllocError>
+    ensures { OnOk result (text.new.items ≡ text.old.items ++ crlf) }
+{
+    text.extend_from_slice(b"\r\n")
+}
 
 /// The status line.
 pub(crate) fn push_status(text: &mut Vec<u8>, status: Status) -> Result<(), AllocError>
@@ -15,7 +22,7 @@ pub(crate) fn push_status(text: &mut Vec<u8>, status: Status) -> Result<(), Allo
     text.extend_from_slice(Buffer::new().format(status.code()).as_bytes())?;
     text.extend_from_slice(b" ")?;
     text.extend_from_slice(status.reason().as_bytes())?;
-    text.extend_from_slice(b"\r\n")
+    push_end(text)
 }
 
 /// A field.
@@ -25,7 +32,7 @@ pub(crate) fn push_field(text: &mut Vec<u8>, name: &str, value: &[u8]) -> Result
     text.extend_from_slice(name.as_bytes())?;
     text.extend_from_slice(b": ")?;
     text.extend_from_slice(value)?;
-    text.extend_from_slice(b"\r\n")
+    push_end(text)
 }
 
 /// A field whose value is a number.

@@ -4,7 +4,7 @@ ghost use Rattle.response_text.specs.Heads.{head_text, fields, fields_text, vers
 
 use crate::date::date_at;
 use crate::head::{ContentType, ResponseHead};
-use crate::line::{push_field, push_number, push_status};
+use crate::line::{push_end, push_field, push_number, push_status};
 use crate::status::Status;
 use std::alloc::{AllocError, Global};
 
@@ -73,6 +73,6 @@ pub fn head_text(alloc: Global, head: &ResponseHead) -> Result<Vec<u8>, AllocErr
     let mut text = Vec::with_capacity(alloc, ROOM)?;
     push_status(&mut text, head.status)?;
     push_fields(&mut text, head)?;
-    text.extend_from_slice(b"\r\n")?;
+    push_end(&mut text)?;
     Ok(text)
 }

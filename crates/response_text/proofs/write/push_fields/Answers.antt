@@ -1,4 +1,4 @@
-use Rattle.std.proofs.Common.{◌≡◌, [], ◌∷◌, ◌++◌, codes, decimal}
+use Rattle.std.proofs.Common.{◌≡◌, ◌++◌, codes, decimal}
 use Rattle.response_text.specs.Dates.{date_at}
 use Rattle.response_text.specs.Heads.{fields, fields_text, status_fields, type_fields, close_fields}
 use Rattle.response_text.proofs.HeadLemmas.{fields_text-in_order}
