@@ -1,5 +1,5 @@
 // What a head says.
-ghost use Rattle.std.specs.Prelude.{◌≡◌, ◌≤◌};
+ghost use Rattle.std.specs.Prelude.{◌≡◌, ◌≤◌, length};
 ghost use Rattle.response_text.specs.Contents.{content_type_name};
 
 use crate::status::Status;
@@ -18,7 +18,8 @@ pub enum ContentType {
 impl ContentType {
     /// The text of the field Content-Type.
     pub fn name(self) -> &'static str
-        ensures { result.now ≡ content_type_name self }
+        ensures name { result.now ≡ content_type_name self }
+        ensures short { length result.now ≤ 35 }
     {
         match self {
             ContentType::Json => "application/json; charset=utf-8",

@@ -1,5 +1,5 @@
 // Lines of a head, written at the end of a buffer.
-ghost use Rattle.std.specs.Prelude.{◌≡◌, [], ◌∷◌, ◌++◌, OnOk};
+ghost use Rattle.std.specs.Prelude.{◌≡◌, ◌≤◌, ◌+◌, [], ◌∷◌, ◌++◌, length, vec_len, OnOk};
 ghost use Rattle.std.specs.Fmt.{decimal};
 ghost use Rattle.response_text.specs.Heads.{crlf, fields_text, line, status_line};
 
@@ -9,14 +9,16 @@ use std::alloc::AllocError;
 
 /// What ends a line, the empty line too.
 pub(crate) fn push_end(text: &mut Vec<u8>) -> Result<(), AllocError>
-    ensures { OnOk result (text.new.items ≡ text.old.items ++ crlf) }
+    ensures text { OnOk result (text.new.items ≡ text.old.items ++ crlf) }
+    ensures size { OnOk result (vec_len text.new ≡ vec_len text.old + 2) }
 {
     text.extend_from_slice(b"\r\n")
 }
 
 /// The status line.
 pub(crate) fn push_status(text: &mut Vec<u8>, status: Status) -> Result<(), AllocError>
-    ensures { OnOk result (text.new.items ≡ text.old.items ++ line (status_line status)) }
+    ensures text { OnOk result (text.new.items ≡ text.old.items ++ line (status_line status)) }
+    ensures size { OnOk result (vec_len text.new ≤ vec_len text.old + 48) }
 {
     text.extend_from_slice(b"HTTP/1.1 ")?;
     text.extend_from_slice(Buffer::new().format(status.code()).as_bytes())?;
@@ -27,7 +29,8 @@ pub(crate) fn push_status(text: &mut Vec<u8>, status: Status) -> Result<(), Allo
 
 /// A field.
 pub(crate) fn push_field(text: &mut Vec<u8>, name: &str, value: &[u8]) -> Result<(), AllocError>
-    ensures { OnOk result (text.new.items ≡ text.old.items ++ fields_text ((name.now, value.now) ∷ [])) }
+    ensures text { OnOk result (text.new.items ≡ text.old.items ++ fields_text ((name.now, value.now) ∷ [])) }
+    ensures size { OnOk result (vec_len text.new ≡ vec_len text.old + length name.now + length value.now + 4) }
 {
     text.extend_from_slice(name.as_bytes())?;
     text.extend_from_slice(b": ")?;
@@ -37,7 +40,8 @@ pub(crate) fn push_field(text: &mut Vec<u8>, name: &str, value: &[u8]) -> Result
 
 /// A field whose value is a number.
 pub(crate) fn push_number(text: &mut Vec<u8>, name: &str, value: u64) -> Result<(), AllocError>
-    ensures { OnOk result (text.new.items ≡ text.old.items ++ fields_text ((name.now, decimal value) ∷ [])) }
+    ensures text { OnOk result (text.new.items ≡ text.old.items ++ fields_text ((name.now, decimal value) ∷ [])) }
+    ensures size { OnOk result (vec_len text.new ≤ vec_len text.old + length name.now + 24) }
 {
     push_field(text, name, Buffer::new().format(value).as_bytes())
 }

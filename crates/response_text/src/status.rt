@@ -1,5 +1,5 @@
 // The statuses that are answered.
-ghost use Rattle.std.specs.Prelude.{◌≡◌, MatchOption};
+ghost use Rattle.std.specs.Prelude.{◌≡◌, ◌≤◌, length, MatchOption};
 ghost use Rattle.response_text.specs.Statuses.{code, reason, method_name, HasCode, IsNoCode};
 
 /// A method that a target may have (RFC 9110, section 9.3).
@@ -14,7 +14,8 @@ pub enum Method {
 impl Method {
     /// Its name (RFC 9110, section 9.1).
     pub fn name(self) -> &'static str
-        ensures { result.now ≡ method_name self }
+        ensures name { result.now ≡ method_name self }
+        ensures short { length result.now ≤ 4 }
     {
         match self {
             Method::Get => "GET",
@@ -97,7 +98,8 @@ impl Status {
 
     /// Its reason phrase (RFC 9110, section 15; RFC 6585, section 5).
     pub fn reason(self) -> &'static str
-        ensures { result.now ≡ reason self }
+        ensures text { result.now ≡ reason self }
+        ensures short { length result.now ≤ 31 }
     {
         match self {
             Status::Ok(_) => "OK",

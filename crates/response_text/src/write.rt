@@ -1,5 +1,5 @@
 // A head, written.
-ghost use Rattle.std.specs.Prelude.{◌≡◌, ◌++◌, IfOk, OnOk};
+ghost use Rattle.std.specs.Prelude.{◌≡◌, ◌≤◌, ◌+◌, ◌++◌, vec_len, IfOk, OnOk};
 ghost use Rattle.response_text.specs.Heads.{head_text, fields, fields_text, version_fields, status_fields, type_fields, close_fields};
 
 use crate::date::date_at;
@@ -8,11 +8,12 @@ use crate::line::{push_end, push_field, push_number, push_status};
 use crate::status::Status;
 use std::alloc::{AllocError, Global};
 
-// More bytes than any head has.
-const ROOM: usize = 320;
+// The most bytes that a head has.
+const ROOM: usize = 256;
 
 fn push_version(text: &mut Vec<u8>, version: Option<u64>) -> Result<(), AllocError>
-    ensures { OnOk result (text.new.items ≡ text.old.items ++ fields_text (version_fields version)) }
+    ensures text { OnOk result (text.new.items ≡ text.old.items ++ fields_text (version_fields version)) }
+    ensures size { OnOk result (vec_len text.new ≤ vec_len text.old + 43) }
 {
     match version {
         Some(version) => push_number(text, "Delta-Table-Version", version),
@@ -22,7 +23,8 @@ fn push_version(text: &mut Vec<u8>, version: Option<u64>) -> Result<(), AllocErr
 
 // The field that goes with the status.
 fn push_status_field(text: &mut Vec<u8>, status: Status) -> Result<(), AllocError>
-    ensures { OnOk result (text.new.items ≡ text.old.items ++ fields_text (status_fields status)) }
+    ensures text { OnOk result (text.new.items ≡ text.old.items ++ fields_text (status_fields status)) }
+    ensures size { OnOk result (vec_len text.new ≤ vec_len text.old + 43) }
 {
     match status {
         Status::Ok(version) => push_version(text, version),
@@ -33,7 +35,8 @@ fn push_status_field(text: &mut Vec<u8>, status: Status) -> Result<(), AllocErro
 }
 
 fn push_type(text: &mut Vec<u8>, form: ContentType, length: u64) -> Result<(), AllocError>
-    ensures { OnOk result (text.new.items ≡ text.old.items ++ fields_text (type_fields form length)) }
+    ensures text { OnOk result (text.new.items ≡ text.old.items ++ fields_text (type_fields form length)) }
+    ensures size { OnOk result (vec_len text.new ≤ vec_len text.old + 51) }
 {
     if length == 0 {
         return Ok(());
@@ -42,7 +45,8 @@ fn push_type(text: &mut Vec<u8>, form: ContentType, length: u64) -> Result<(), A
 }
 
 fn push_close(text: &mut Vec<u8>, closes: bool) -> Result<(), AllocError>
-    ensures { OnOk result (text.new.items ≡ text.old.items ++ fields_text (close_fields closes)) }
+    ensures text { OnOk result (text.new.items ≡ text.old.items ++ fields_text (close_fields closes)) }
+    ensures size { OnOk result (vec_len text.new ≤ vec_len text.old + 19) }
 {
     if closes {
         return push_field(text, "Connection", b"close");
@@ -52,7 +56,8 @@ fn push_close(text: &mut Vec<u8>, closes: bool) -> Result<(), AllocError>
 
 // All fields.
 fn push_fields(text: &mut Vec<u8>, head: &ResponseHead) -> Result<(), AllocError>
-    ensures { OnOk result (text.new.items ≡ text.old.items ++ fields_text (fields head.now)) }
+    ensures text { OnOk result (text.new.items ≡ text.old.items ++ fields_text (fields head.now)) }
+    ensures size { OnOk result (vec_len text.new ≤ vec_len text.old + 188) }
 {
     push_field(text, "Date", &date_at(head.moment))?;
     push_status_field(text, head.status)?;
@@ -66,9 +71,10 @@ fn push_fields(text: &mut Vec<u8>, head: &ResponseHead) -> Result<(), AllocError
 ///
 /// The fields are, in this order: Date; Delta-Table-Version where the status has a version; WWW-Authenticate with 401;
 /// Allow with 405; Content-Type where the body isn't empty; Content-Length; `Connection: close` where the connection is
-/// closed. The error is want of memory, which is taken once, for the whole text.
+/// closed. The text has at most 256 bytes, and room for as many is made at once. The error is want of memory.
 pub fn head_text(alloc: Global, head: &ResponseHead) -> Result<Vec<u8>, AllocError>
-    ensures { IfOk result (λ text. text.items ≡ head_text head.now) }
+    ensures text { IfOk result (λ text. text.items ≡ head_text head.now) }
+    ensures size { IfOk result (λ text. vec_len text ≤ 256) }
 {
     let mut text = Vec::with_capacity(alloc, ROOM)?;
     push_status(&mut text, head.status)?;
