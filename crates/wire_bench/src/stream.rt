@@ -1,4 +1,7 @@
 // Streams to read.
+ghost use Rattle.std.specs.Prelude.{◌≡◌, IfOk, length};
+ghost use Rattle.edge_core.specs.Memory.{source_left};
+
 use edge_core::MemSource;
 use std::alloc::{AllocError, Global};
 
@@ -73,11 +76,9 @@ fn chunks(alloc: Global, number: usize) -> Result<Vec<u8>, AllocError> {
 }
 
 /// A source of a stream of that kind, and the stream's length.
-pub fn source_of(
-    alloc: Global,
-    kind: Kind,
-    number: usize,
-) -> Result<(MemSource, usize), AllocError> {
+pub fn source_of(alloc: Global, kind: Kind, number: usize) -> Result<(MemSource, usize), AllocError>
+    ensures { IfOk result (λ made. length (source_left made.0) ≡ made.1) }
+{
     let stream = match kind {
         Kind::Heads | Kind::Single => heads(alloc, number)?,
         Kind::Sized => sized(alloc, number)?,
