@@ -28,12 +28,13 @@ month_from (suc more) year month days =
     if nat_lt days (days_in_month year month) then (month, days)
     else month_from more year (suc month) (days - days_in_month year month)
 
+-- a day of the calendar; months and days count from 1
 pub record Day : Type 0 where
   pub year : ℕ
   pub month : ℕ
   pub day : ℕ
 
--- the day so many days after 1 January 1970, up to the end of 9999; months and days count from 1
+-- the day so many days after 1 January 1970, up to the end of 9999
 abbrev pub day_at : ℕ → Day
 day_at days =
     let in_year = year_from 8029 1970 days in

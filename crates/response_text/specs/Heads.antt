@@ -71,7 +71,7 @@ head_text head = line (status_line head.status) ++ (fields_text (fields head) ++
 
 -- ---- a law
 
--- no control character, so no end of a line
+-- no byte below 32, so neither CR nor LF
 abbrev pub is_one_line : List ℕ → Bool
 is_one_line text = list_all (λ b. nat_le 32 b) text
 

@@ -2,7 +2,7 @@
 ghost use Rattle.response_text.specs.Heads.{LinesEndOnce};
 ghost use Rattle.response_text.specs.declared.head.ResponseHead.{ResponseHead as Head};
 
-/// A law: no line of a head has a control character, so CR and LF stand only at its end, and no field can make another.
+/// A law: before its end no line of a head has a byte below 32, so CR and LF end lines alone, and no field can make another.
 pub fn lines_end_once()
     ensures { (head : Head) → LinesEndOnce head }
 {}

@@ -1,4 +1,6 @@
 // Heads as they go out, with texts made by hand.
+ghost use Rattle.std.specs.Prelude.{◌≤◌};
+
 use crate::head::{ContentType, ResponseHead};
 use crate::head_text;
 use crate::status::{Method, Status};
@@ -8,84 +10,63 @@ fn is_text(alloc: Global, head: ResponseHead, text: &[u8]) -> Result<bool, Alloc
     Ok(head_text(alloc, &head)?.as_slice() == text)
 }
 
-// The head of an answer of 25 bytes of JSON at that second.
-fn at_second(second: u64) -> Option<ResponseHead> {
-    if second > 253_402_300_799 {
-        return None;
+// A head of the first moment.
+fn at_zero(status: Status, content_type: ContentType, length: u64, closes: bool) -> ResponseHead {
+    ResponseHead {
+        status,
+        moment: 0,
+        content_type,
+        length,
+        closes,
     }
-    Some(ResponseHead {
+}
+
+// Whether the head of that millisecond has the date.
+fn has_date(alloc: Global, moment: u64, date: &str) -> Result<bool, AllocError>
+    requires { moment ≤ 253_402_300_799_999 }
+{
+    let head = ResponseHead {
         status: Status::Ok(None),
-        moment: second * 1000,
+        moment,
         content_type: ContentType::Json,
         length: 25,
         closes: false,
-    })
-}
-
-// Whether the head of that second has the date.
-fn has_date(alloc: Global, second: u64, date: &str) -> Result<bool, AllocError> {
+    };
     let text = format!(in alloc;
         "HTTP/1.1 200 OK\r\nDate: {date}\r\nContent-Type: application/json; charset=utf-8\r\nContent-Length: 25\r\n\r\n"
     )?;
-    match at_second(second) {
-        Some(head) => is_text(alloc, head, text.as_bytes()),
-        None => Ok(false),
-    }
+    is_text(alloc, head, text.as_bytes())
 }
 
 #[test]
 fn dates_of_the_calendar(rt: HostRuntime) -> Result<(), AllocError> {
     let a = rt.alloc();
     assert!(&rt; has_date(a, 0, "Thu, 01 Jan 1970 00:00:00 GMT")?);
-    assert!(&rt; has_date(a, 784_111_777, "Sun, 06 Nov 1994 08:49:37 GMT")?);
-    assert!(&rt; has_date(a, 951_782_400, "Tue, 29 Feb 2000 00:00:00 GMT")?);
-    assert!(&rt; has_date(a, 4_107_542_400, "Mon, 01 Mar 2100 00:00:00 GMT")?);
-    assert!(&rt; has_date(a, 253_402_300_799, "Fri, 31 Dec 9999 23:59:59 GMT")?);
+    assert!(&rt; has_date(a, 1_999, "Thu, 01 Jan 1970 00:00:01 GMT")?);
+    assert!(&rt; has_date(a, 784_111_777_000, "Sun, 06 Nov 1994 08:49:37 GMT")?);
+    assert!(&rt; has_date(a, 951_782_400_000, "Tue, 29 Feb 2000 00:00:00 GMT")?);
+    assert!(&rt; has_date(a, 4_107_542_400_000, "Mon, 01 Mar 2100 00:00:00 GMT")?);
+    assert!(&rt; has_date(a, 253_402_300_799_999, "Fri, 31 Dec 9999 23:59:59 GMT")?);
     Ok(())
 }
 
 #[test]
 fn fields_that_a_status_calls_for(rt: HostRuntime) -> Result<(), AllocError> {
     let a = rt.alloc();
-    let versioned = ResponseHead {
-        status: Status::Ok(Some(18_446_744_073_709_551_615)),
-        moment: 999,
-        content_type: ContentType::Json,
-        length: 0,
-        closes: false,
-    };
+    let head = at_zero(Status::Unauthorized, ContentType::Json, 60, false);
     assert!(&rt;
         is_text(
             a,
-            versioned,
-            b"HTTP/1.1 200 OK\r\nDate: Thu, 01 Jan 1970 00:00:00 GMT\r\nDelta-Table-Version: 18446744073709551615\r\nContent-Length: 0\r\n\r\n"
+            head,
+            b"HTTP/1.1 401 Unauthorized\r\nDate: Thu, 01 Jan 1970 00:00:00 GMT\r\nWWW-Authenticate: Bearer\r\nContent-Type: application/json; charset=utf-8\r\nContent-Length: 60\r\n\r\n"
         )?
     );
-    let unknown = ResponseHead {
-        status: Status::Unauthorized,
-        moment: 1000,
-        content_type: ContentType::Json,
-        length: 60,
-        closes: false,
-    };
+    let status = Status::MethodNotAllowed(Method::Post);
+    let head = at_zero(status, ContentType::Json, 64, true);
     assert!(&rt;
         is_text(
             a,
-            unknown,
-            b"HTTP/1.1 401 Unauthorized\r\nDate: Thu, 01 Jan 1970 00:00:01 GMT\r\nWWW-Authenticate: Bearer\r\nContent-Type: application/json; charset=utf-8\r\nContent-Length: 60\r\n\r\n"
-        )?
-    );
-    let other = ResponseHead {
-        status: Status::MethodNotAllowed(Method::Post),
-        moment: 0,
-        content_type: ContentType::Json,
-        length: 64,
-        closes: true,
-    };
-    assert!(&rt;
-        is_text(
-            a,
-            other,
+            head,
             b"HTTP/1.1 405 Method Not Allowed\r\nDate: Thu, 01 Jan 1970 00:00:00 GMT\r\nAllow: POST\r\nContent-Type: application/json; charset=utf-8\r\nContent-Length: 64\r\nConnection: close\r\n\r\n"
         )?
     );
@@ -93,33 +74,29 @@ fn fields_that_a_status_calls_for(rt: HostRuntime) -> Result<(), AllocError> {
 }
 
 #[test]
-fn forms_of_bodies(rt: HostRuntime) -> Result<(), AllocError> {
+fn bodies_of_each_form(rt: HostRuntime) -> Result<(), AllocError> {
     let a = rt.alloc();
-    let lines = ResponseHead {
-        status: Status::Ok(Some(4)),
-        moment: 0,
-        content_type: ContentType::JsonLines,
-        length: 1,
-        closes: true,
-    };
+    let head = at_zero(Status::Ok(Some(u64::MAX)), ContentType::Json, 0, false);
     assert!(&rt;
         is_text(
             a,
-            lines,
+            head,
+            b"HTTP/1.1 200 OK\r\nDate: Thu, 01 Jan 1970 00:00:00 GMT\r\nDelta-Table-Version: 18446744073709551615\r\nContent-Length: 0\r\n\r\n"
+        )?
+    );
+    let head = at_zero(Status::Ok(Some(4)), ContentType::JsonLines, 1, true);
+    assert!(&rt;
+        is_text(
+            a,
+            head,
             b"HTTP/1.1 200 OK\r\nDate: Thu, 01 Jan 1970 00:00:00 GMT\r\nDelta-Table-Version: 4\r\nContent-Type: application/x-ndjson; charset=utf-8\r\nContent-Length: 1\r\nConnection: close\r\n\r\n"
         )?
     );
-    let file = ResponseHead {
-        status: Status::Ok(None),
-        moment: 0,
-        content_type: ContentType::Bytes,
-        length: 18_446_744_073_709_551_615,
-        closes: false,
-    };
+    let head = at_zero(Status::Ok(None), ContentType::Bytes, u64::MAX, false);
     assert!(&rt;
         is_text(
             a,
-            file,
+            head,
             b"HTTP/1.1 200 OK\r\nDate: Thu, 01 Jan 1970 00:00:00 GMT\r\nContent-Type: application/octet-stream\r\nContent-Length: 18446744073709551615\r\n\r\n"
         )?
     );
