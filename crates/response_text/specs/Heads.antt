@@ -29,11 +29,13 @@ field_line field = field.0 ++ (codes ": " ++ field.1)
 abbrev pub fields_text : Fields → List ℕ
 fields_text fields = flat_map (λ field. line (field_line field)) fields
 
+-- Delta Sharing PROTOCOL.md, "Query Table Version"
 abbrev pub version_fields : Option ℕ → Fields
 version_fields None = []
 version_fields (Some version) = (codes "Delta-Table-Version", decimal version) ∷ []
 
--- what the status calls for: the table's version, a challenge (RFC 9110, section 11.6.1), the allowed method (section 10.2.1)
+-- what the status calls for: the table's version, a challenge (RFC 9110, section 11.6.1; RFC 6750, section 3), the allowed
+-- method (RFC 9110, section 10.2.1)
 abbrev pub status_fields : Status → Fields
 status_fields (status.Ok version) = version_fields version
 status_fields status.BadRequest = []
@@ -57,7 +59,7 @@ type_fields form length =
 abbrev pub close_fields : Bool → Fields
 close_fields closes = if closes then (codes "Connection", codes "close") ∷ [] else []
 
--- all fields, in order; Content-Length is that of RFC 9110, section 8.6
+-- all fields, in order; Date and Content-Length are those of RFC 9110, sections 6.6.1 and 8.6
 abbrev pub fields : ResponseHead → Fields
 fields head =
     (codes "Date", date_at head.moment)
