@@ -1,0 +1,84 @@
+-- The text of a response up to its body (RFC 9112, sections 2.1, 4 and 5).
+use Rattle.std.specs.Prelude.{ℕ, nat_le, IsTrue, Bool, ◌==◌, List, [], ◌∷◌, ◌++◌, Option, Some, None, codes, if◌then◌else◌}
+use Rattle.std.specs.List.{flat_map, list_all}
+use Rattle.std.specs.Fmt.{decimal}
+use Rattle.response_text.specs.Contents.{content_type_name}
+use Rattle.response_text.specs.Dates.{date_at}
+use Rattle.response_text.specs.Statuses.{code, reason, method_name}
+use Rattle.response_text.specs.declared.head.ContentType.{ContentType}
+use Rattle.response_text.specs.declared.head.ResponseHead.{ResponseHead}
+use Rattle.response_text.specs.declared.status.Status.{Status}
+use Rattle.response_text.specs.declared.status.Status.TheVariants as status
+
+-- a field is a name and a value
+abbrev pub Fields : Type 0
+Fields = List (List ℕ × List ℕ)
+
+abbrev pub crlf : List ℕ
+crlf = codes "\r\n"
+
+abbrev pub line : List ℕ → List ℕ
+line text = text ++ crlf
+
+abbrev pub status_line : Status → List ℕ
+status_line s = codes "HTTP/1.1 " ++ (decimal (code s) ++ (codes " " ++ reason s))
+
+abbrev pub field_line : List ℕ × List ℕ → List ℕ
+field_line field = field.0 ++ (codes ": " ++ field.1)
+
+abbrev pub fields_text : Fields → List ℕ
+fields_text fields = flat_map (λ field. line (field_line field)) fields
+
+-- Delta Sharing PROTOCOL.md, "Query Table Version"
+abbrev pub version_fields : Option ℕ → Fields
+version_fields None = []
+version_fields (Some version) = (codes "Delta-Table-Version", decimal version) ∷ []
+
+-- what the status calls for: the table's version, a challenge (RFC 9110, section 11.6.1; RFC 6750, section 3), the allowed
+-- method (RFC 9110, section 10.2.1)
+abbrev pub status_fields : Status → Fields
+status_fields (status.Ok version) = version_fields version
+status_fields status.BadRequest = []
+status_fields status.Unauthorized = (codes "WWW-Authenticate", codes "Bearer") ∷ []
+status_fields status.Forbidden = []
+status_fields status.NotFound = []
+status_fields (status.MethodNotAllowed method) = (codes "Allow", method_name method) ∷ []
+status_fields status.Conflict = []
+status_fields status.ContentTooLarge = []
+status_fields status.RequestHeaderFieldsTooLarge = []
+status_fields status.InternalServerError = []
+status_fields status.NotImplemented = []
+status_fields status.ServiceUnavailable = []
+
+-- an empty body has no type (RFC 9110, section 8.3)
+abbrev pub type_fields : ContentType → ℕ → Fields
+type_fields form length =
+    if length == 0 then [] else (codes "Content-Type", content_type_name form) ∷ []
+
+-- RFC 9112, section 9.6
+abbrev pub close_fields : Bool → Fields
+close_fields closes = if closes then (codes "Connection", codes "close") ∷ [] else []
+
+-- all fields, in order; Date and Content-Length are those of RFC 9110, sections 6.6.1 and 8.6
+abbrev pub fields : ResponseHead → Fields
+fields head =
+    (codes "Date", date_at head.moment)
+    ∷ (status_fields head.status
+    ++ (type_fields head.content_type head.length
+    ++ ((codes "Content-Length", decimal head.length) ∷ close_fields head.closes)))
+
+-- the status line, a line for each field, and the empty line
+abbrev pub head_text : ResponseHead → List ℕ
+head_text head = line (status_line head.status) ++ (fields_text (fields head) ++ line [])
+
+-- ---- a law
+
+-- no byte below 32, so neither CR nor LF
+abbrev pub is_one_line : List ℕ → Bool
+is_one_line text = list_all (λ b. nat_le 32 b) text
+
+-- the lines have no other ends than those behind them
+abbrev pub LinesEndOnce : ResponseHead → Type 0
+LinesEndOnce head =
+    IsTrue (is_one_line (status_line head.status))
+    × IsTrue (list_all (λ field. is_one_line (field_line field)) (fields head))

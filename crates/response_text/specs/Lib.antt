@@ -1,0 +1,4 @@
+pub mod Dates
+pub mod Statuses
+pub mod Contents
+pub mod Heads

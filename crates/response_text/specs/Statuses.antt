@@ -1,0 +1,60 @@
+-- The statuses that are answered (RFC 9110, section 15; RFC 6585, section 5).
+use Rattle.std.specs.Prelude.{◌≡◌, ◌≢◌, ℕ, List, None, ⊤, codes}
+use Rattle.response_text.specs.declared.status.Method.{Method}
+use Rattle.response_text.specs.declared.status.Method.TheVariants as method
+use Rattle.response_text.specs.declared.status.Status.{Status}
+use Rattle.response_text.specs.declared.status.Status.TheVariants as status
+
+abbrev pub method_name : Method → List ℕ
+method_name method.Get = codes "GET"
+method_name method.Post = codes "POST"
+
+abbrev pub code : Status → ℕ
+code (status.Ok version) = 200
+code status.BadRequest = 400
+code status.Unauthorized = 401
+code status.Forbidden = 403
+code status.NotFound = 404
+code (status.MethodNotAllowed allowed) = 405
+code status.Conflict = 409
+code status.ContentTooLarge = 413
+code status.RequestHeaderFieldsTooLarge = 431
+code status.InternalServerError = 500
+code status.NotImplemented = 501
+code status.ServiceUnavailable = 503
+
+abbrev pub reason : Status → List ℕ
+reason (status.Ok version) = codes "OK"
+reason status.BadRequest = codes "Bad Request"
+reason status.Unauthorized = codes "Unauthorized"
+reason status.Forbidden = codes "Forbidden"
+reason status.NotFound = codes "Not Found"
+reason (status.MethodNotAllowed allowed) = codes "Method Not Allowed"
+reason status.Conflict = codes "Conflict"
+reason status.ContentTooLarge = codes "Content Too Large"
+reason status.RequestHeaderFieldsTooLarge = codes "Request Header Fields Too Large"
+reason status.InternalServerError = codes "Internal Server Error"
+reason status.NotImplemented = codes "Not Implemented"
+reason status.ServiceUnavailable = codes "Service Unavailable"
+
+-- the status tells no version, and no method but that one
+abbrev pub IsBare : Method → Status → Type 0
+IsBare allowed (status.Ok version) = version ≡ None
+IsBare allowed (status.MethodNotAllowed method) = method ≡ allowed
+IsBare allowed status.BadRequest = ⊤
+IsBare allowed status.Unauthorized = ⊤
+IsBare allowed status.Forbidden = ⊤
+IsBare allowed status.NotFound = ⊤
+IsBare allowed status.Conflict = ⊤
+IsBare allowed status.ContentTooLarge = ⊤
+IsBare allowed status.RequestHeaderFieldsTooLarge = ⊤
+IsBare allowed status.InternalServerError = ⊤
+IsBare allowed status.NotImplemented = ⊤
+IsBare allowed status.ServiceUnavailable = ⊤
+
+abbrev pub HasCode : ℕ → Method → Status → Type 0
+HasCode number allowed s = (code s ≡ number) × IsBare allowed s
+
+-- no status has the code
+abbrev pub IsNoCode : ℕ → Type 0
+IsNoCode number = (s : Status) → code s ≢ number
