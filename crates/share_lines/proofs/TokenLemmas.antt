@@ -1,6 +1,6 @@
 -- Lines, and texts that are put on.
-use Rattle.std.proofs.Common.{◌≡◌, ℕ, List, [], ◌∷◌, ◌++◌, Result, Ok, Err, IfOk, Some, Vec, Global, arith, refl, sym, ap, ◌∙◌}
-use Rattle.std.specs.Prelude.{codes}
+use Rattle.std.proofs.Common.{◌≡◌, ℕ, List, [], ◌∷◌, ◌++◌, Result, Ok, Err, OnOk, Some, cond, arith, sym, ap, ◌∙◌}
+use Rattle.std.specs.Prelude.{codes, is_ok}
 use Rattle.std.proofs.lemmas.Fmt.{decimal_digit}
 use Rattle.json.specs.Token.{Token, begin_object, end_object, key}
 use Rattle.json.specs.Print.{print, quoted}
@@ -22,12 +22,10 @@ line_written name d before tokens text begins goes_on ends =
     ends ∙ ap (λ ts. print (ts ++ end_object ∷ []) ++ 10 ∷ []) (goes_on ∙ ap (λ ts. ts ++ value_tokens d) begins)
     ∙ ap (λ ts. ts ++ 10 ∷ []) (print-outline (object_of ((name, Some d) ∷ [])))
 
--- a line that is written behind what a buffer has
-pub line_onto : {E : Type 0} (r : Result (Vec ℕ Global) E) (name : List ℕ) (d : Data) (buffer before : List ℕ) (begun tokens : List Token) → IfOk r (λ v. v.items ≡ before ++ (print (tokens ++ end_object ∷ []) ++ 10 ∷ []))
-    → before ≡ buffer → begun ≡ begin_object ∷ key name ∷ [] → tokens ≡ begun ++ value_tokens d → IfOk r (λ v. v.items ≡ buffer ++ line name d)
-line_onto (Ok v) name d buffer before begun tokens is front begins goes_on =
-    is ∙ ap (λ b. b ++ (print (tokens ++ end_object ∷ []) ++ 10 ∷ [])) front ∙ ap (λ t. buffer ++ t) (line_written name d begun tokens _ begins goes_on refl)
-line_onto (Err e) name d buffer before begun tokens is front begins goes_on = tt
+-- a text that is put on after another
+pub put_on : {E : Type 0} (r : Result (Unit {0}) E) (new old text wanted : List ℕ) → new ≡ cond (is_ok r) (old ++ text) old → text ≡ wanted → OnOk r (new ≡ old ++ wanted)
+put_on (Ok x) new old text wanted is same = is ∙ ap (λ t. old ++ t) same
+put_on (Err e) new old text wanted is same = tt
 
 -- the protocol line with other digits for its version
 abbrev pub protocol_with : List ℕ → List ℕ

@@ -23,4 +23,4 @@ pub use faults::LinesFault;
 pub use kinds::{EndLine, FileLine, Line, Lines, MetaLine};
 pub use printing::{line_onto, line_text, push_line};
 pub use ranges::{TableVersion, UrlExpiry};
-pub use table_lines::{file_onto, meta_onto, protocol_onto};
+pub use table_lines::{push_file, push_meta, push_protocol};

@@ -1,5 +1,5 @@
 // Whole lines.
-ghost use Rattle.std.specs.Prelude.{◌≡◌, ◌++◌, [], ◌∷◌, Some, codes, OnOk, IfOk};
+ghost use Rattle.std.specs.Prelude.{◌≡◌, ◌++◌, [], ◌∷◌, Some, codes, OnOk, OnErr, IfOk};
 ghost use Rattle.json.specs.Print.{print};
 ghost use Rattle.json.specs.Token as token;
 ghost use Rattle.json_print.specs.Fields.{object_of};
@@ -11,11 +11,14 @@ ghost use Rattle.share_lines.specs.Printing.{file_fields, meta_fields};
 use crate::printing::format_object;
 use json::Writer;
 use json_print::{
-    begin_object, count_field, end_object, nonempty_pairs_field, optional_text_field, pairs_field,
-    text_field, texts_field,
+    begin_object, count_field, end_object, new_writer, nonempty_pairs_field, optional_text_field,
+    pairs_field, text_field, texts_field,
 };
 use log_actions::{AddFile, FileSize, MetaData};
-use std::alloc::AllocError;
+use std::alloc::{AllocError, Global};
+
+// Room for most lines.
+const ROOM: usize = 512;
 
 fn size_field(line: &mut Writer, size: FileSize) -> Result<(), AllocError>
     ensures { OnOk result (Adds line.old line.new (field_tokens (codes "size", Some (count_value size)))) }
@@ -50,20 +53,20 @@ fn meta_object(line: &mut Writer, meta: &MetaData) -> Result<(), AllocError>
     end_object(line)
 }
 
-// Begins a line behind what the buffer has: an object whose one name this is.
-fn begin(buffer: Vec<u8>, name: &str) -> Result<Writer, AllocError>
-    ensures before { IfOk result (λ line. line.before ≡ buffer.items) }
-    ensures tokens { IfOk result (λ line. line.tokens ≡ token.begin_object ∷ token.key name.now ∷ []) }
+// A line's beginning: an object whose one name this is.
+fn begin(alloc: Global, name: &str) -> Result<Writer, AllocError>
+    ensures { IfOk result (λ line. (line.before ≡ []) × (line.tokens ≡ token.begin_object ∷ token.key name.now ∷ [])) }
 {
-    let mut line = Writer::new(buffer);
+    let mut line = new_writer(alloc, ROOM)?;
     line.begin_object()?;
     line.key(name)?;
     Ok(line)
 }
 
-// What was there and the line that was written, with its end and a line feed.
+// The line that was written, with its end and a line feed.
 fn ended(mut line: Writer) -> Result<Vec<u8>, AllocError>
-    ensures { IfOk result (λ v. v.items ≡ line.before ++ (print (line.tokens ++ token.end_object ∷ []) ++ 10 ∷ [])) }
+    requires { line.before ≡ [] }
+    ensures { IfOk result (λ v. v.items ≡ print (line.tokens ++ token.end_object ∷ []) ++ 10 ∷ []) }
 {
     line.end_object()?;
     let mut bytes = line.into_inner();
@@ -71,30 +74,34 @@ fn ended(mut line: Writer) -> Result<Vec<u8>, AllocError>
     Ok(bytes)
 }
 
-/// Appends the protocol line to a buffer, and hands it back. On `Err`, which is want of memory, the
-/// buffer is gone, here and in the functions below; they take memory only where it has too little
-/// room.
-pub fn protocol_onto(mut buffer: Vec<u8>) -> Result<Vec<u8>, AllocError>
-    ensures { IfOk result (λ v. v.items ≡ buffer.items ++ protocol_line) }
+/// Appends the protocol line. On `Err`, which is want of memory, nothing is appended, here and in the
+/// functions below.
+pub fn push_protocol(out: &mut Vec<u8>) -> Result<(), AllocError>
+    ensures line { OnOk result (out.new.items ≡ out.old.items ++ protocol_line) }
+    ensures kept { OnErr result (out.new.items ≡ out.old.items) }
 {
-    buffer.extend_from_slice(b"{\"protocol\":{\"minReaderVersion\":1}}\n".as_slice())?;
-    Ok(buffer)
+    out.extend_from_slice(b"{\"protocol\":{\"minReaderVersion\":1}}\n")
 }
 
-/// Appends a metaData's line to a buffer, and hands it back.
-pub fn meta_onto(buffer: Vec<u8>, meta: &MetaData) -> Result<Vec<u8>, AllocError>
-    ensures { IfOk result (λ v. v.items ≡ buffer.items ++ meta_line meta.now) }
+/// Appends a metaData's line.
+pub fn push_meta(alloc: Global, out: &mut Vec<u8>, meta: &MetaData) -> Result<(), AllocError>
+    ensures line { OnOk result (out.new.items ≡ out.old.items ++ meta_line meta.now) }
+    ensures kept { OnErr result (out.new.items ≡ out.old.items) }
 {
-    let mut line = begin(buffer, "metaData")?;
+    let mut line = begin(alloc, "metaData")?;
     meta_object(&mut line, meta)?;
-    ended(line)
+    let text = ended(line)?;
+    out.extend_from_slice(&text)
 }
 
-/// Appends a file's line to a buffer, and hands it back.
-pub fn file_onto(buffer: Vec<u8>, file: &AddFile) -> Result<Vec<u8>, AllocError>
-    ensures { IfOk result (λ v. v.items ≡ buffer.items ++ file_line file.now) }
+/// Appends a file's line. It is written in a buffer of its own and copied, which takes less time than to let the kit's
+/// writer go on at the end of a long one: that fills the room ahead with zeros, for each line anew.
+pub fn push_file(alloc: Global, out: &mut Vec<u8>, file: &AddFile) -> Result<(), AllocError>
+    ensures line { OnOk result (out.new.items ≡ out.old.items ++ file_line file.now) }
+    ensures kept { OnErr result (out.new.items ≡ out.old.items) }
 {
-    let mut line = begin(buffer, "file")?;
+    let mut line = begin(alloc, "file")?;
     file_object(&mut line, file)?;
-    ended(line)
+    let text = ended(line)?;
+    out.extend_from_slice(&text)
 }

@@ -1,5 +1,5 @@
 // Lines as the rules of their form give them, written by hand.
-use crate::{file_onto, meta_onto, protocol_onto};
+use crate::{push_file, push_meta, push_protocol};
 use log_actions::{Action, action_of_line};
 use std::alloc::Global;
 use std::test::Fail;
@@ -28,25 +28,31 @@ const PARTED: &str =
 const PARTED_LINE: &str =
     "{\"file\":{\"id\":\"p=1/b\",\"partitionValues\":{\"p\":\"1\",\"q\":null},\"size\":9223372036854775807,\"url\":\"p=1/b\"}}\n";
 
-fn put(alloc: Global, out: Vec<u8>, action: &str) -> Result<Vec<u8>, Fail> {
-    match action_of_line(alloc, action.as_bytes())? {
-        Some(Action::MetaData(meta)) => Ok(meta_onto(out, &meta)?),
-        Some(Action::Add(file)) => Ok(file_onto(out, &file)?),
-        _ => Ok(out),
+fn push(alloc: Global, out: &mut Vec<u8>, action: &str) -> Result<(), Fail> {
+    if let Some(action) = action_of_line(alloc, action.as_bytes())? {
+        match &action {
+            Action::MetaData(meta) => push_meta(alloc, out, meta)?,
+            Action::Add(file) => push_file(alloc, out, file)?,
+            _ => {}
+        }
     }
+    Ok(())
 }
 
 #[test]
 fn prints_lines(rt: HostRuntime) -> Result<(), Fail> {
     let alloc = rt.alloc();
-    let mut out = protocol_onto(Vec::new(alloc))?;
-    for action in [META, NAMED, FILE, PARTED] {
-        out = put(alloc, out, action)?;
-    }
+    let mut out = Vec::new(alloc);
+    push_protocol(&mut out)?;
+    push(alloc, &mut out, META)?;
+    push(alloc, &mut out, NAMED)?;
+    push(alloc, &mut out, FILE)?;
+    push(alloc, &mut out, PARTED)?;
     let mut wanted = String::from_str(alloc, "{\"protocol\":{\"minReaderVersion\":1}}\n")?;
-    for line in [META_LINE, NAMED_LINE, FILE_LINE, PARTED_LINE] {
-        wanted.push_str(line)?;
-    }
+    wanted.push_str(META_LINE)?;
+    wanted.push_str(NAMED_LINE)?;
+    wanted.push_str(FILE_LINE)?;
+    wanted.push_str(PARTED_LINE)?;
     assert!(rt; out.as_slice() == wanted.as_bytes());
     Ok(())
 }

@@ -1,5 +1,5 @@
 // The lines of a table.
-ghost use Rattle.std.specs.Prelude.{◌≡◌, ◌++◌, ◌∷◌, [], ◌<◌, false, ◌≤◌, IfOk, filter, flat_map, length, map};
+ghost use Rattle.std.specs.Prelude.{◌≡◌, ◌++◌, ◌∷◌, [], ◌<◌, false, ◌≤◌, IfOk, OnOk, filter, flat_map, length, map};
 ghost use Rattle.edge_core.specs.Faults.{Cause};
 ghost use Rattle.edge_core.specs.Objects.{Between};
 ghost use Rattle.log_store.specs.Reading.{Looked};
@@ -20,46 +20,51 @@ use log_replay::{Bound, ReplayRefusal, SnapshotRef, Unresolved, marks_of, replay
 use log_store::{Block, BlockCause, LoadRefusal, Loaded, load};
 use part_values::columns_of;
 use pred_tree::{BoundPred, Truth, bind, pred_of};
-use share_lines::{file_onto, meta_onto, protocol_onto};
+use share_lines::{push_file, push_meta, push_protocol};
 use share_request::QueryBody;
 use std::alloc::{AllocError, Global};
 use std::sync::Arc;
 use step_count::Steps;
 
-fn files_onto(buffer: Vec<u8>, snapshot: &SnapshotRef) -> Result<Vec<u8>, AllocError>
-    ensures { IfOk result (λ v. v.items ≡ buffer.items ++ flat_map file_line snapshot.now.files) }
+fn push_files(alloc: Global, out: &mut Vec<u8>, snapshot: &SnapshotRef) -> Result<(), AllocError>
+    ensures { OnOk result (out.new.items
+        ≡ out.old.items ++ flat_map file_line snapshot.now.files) }
 {
-    let mut out = buffer;
     for place in 0..snapshot.len() {
-        out = file_onto(out, snapshot.file(place))?;
+        push_file(alloc, out, snapshot.file(place))?;
     }
-    Ok(out)
+    Ok(())
 }
 
-// Appends the line of a file that the predicate doesn't make False.
-fn if_listed_onto(buffer: Vec<u8>, file: &AddFile, pred: &BoundPred) -> Result<Vec<u8>, AllocError>
-    ensures { IfOk result (λ v. v.items
-        ≡ buffer.items ++ flat_map file_line (filter (passes pred.now) (file.now ∷ []))) }
+// Pushes the line of a file that the predicate doesn't make False.
+fn push_if_listed(
+    alloc: Global,
+    out: &mut Vec<u8>,
+    file: &AddFile,
+    pred: &BoundPred,
+) -> Result<(), AllocError>
+    ensures { OnOk result (out.new.items
+        ≡ out.old.items ++ flat_map file_line (filter (passes pred.now) (file.now ∷ []))) }
 {
     match pred.eval(file) {
-        Truth::False => Ok(buffer),
-        Truth::True | Truth::Unknown => file_onto(buffer, file),
+        Truth::False => Ok(()),
+        Truth::True | Truth::Unknown => push_file(alloc, out, file),
     }
 }
 
-fn listed_onto(
-    buffer: Vec<u8>,
+fn push_listed(
+    alloc: Global,
+    out: &mut Vec<u8>,
     snapshot: &SnapshotRef,
     pred: &BoundPred,
-) -> Result<Vec<u8>, AllocError>
-    ensures { IfOk result (λ v. v.items
-        ≡ buffer.items ++ flat_map file_line (filter (passes pred.now) snapshot.now.files)) }
+) -> Result<(), AllocError>
+    ensures { OnOk result (out.new.items
+        ≡ out.old.items ++ flat_map file_line (filter (passes pred.now) snapshot.now.files)) }
 {
-    let mut out = buffer;
     for place in 0..snapshot.len() {
-        out = if_listed_onto(out, snapshot.file(place), pred)?;
+        push_if_listed(alloc, out, snapshot.file(place), pred)?;
     }
-    Ok(out)
+    Ok(())
 }
 
 // The predicate of a hint over the columns of a table, none where the hint is none or no predicate.
@@ -82,17 +87,18 @@ fn bound_pred(
     }
 }
 
-fn under_onto(
-    buffer: Vec<u8>,
+fn push_under(
+    alloc: Global,
+    out: &mut Vec<u8>,
     snapshot: &SnapshotRef,
     pred: &Option<BoundPred>,
-) -> Result<Vec<u8>, AllocError>
-    ensures { IfOk result (λ v. v.items
-        ≡ buffer.items ++ flat_map file_line (files_under pred.now snapshot.now.files)) }
+) -> Result<(), AllocError>
+    ensures { OnOk result (out.new.items
+        ≡ out.old.items ++ flat_map file_line (files_under pred.now snapshot.now.files)) }
 {
     match pred {
-        Some(pred) => listed_onto(buffer, snapshot, pred),
-        None => files_onto(buffer, snapshot),
+        Some(pred) => push_listed(alloc, out, snapshot, pred),
+        None => push_files(alloc, out, snapshot),
     }
 }
 
@@ -121,10 +127,11 @@ fn lines_under(
     ensures { IfOk result (λ v. v.items
         ≡ protocol_line ++ meta_line snapshot.now.meta ++ flat_map file_line (files_under pred.now snapshot.now.files)) }
 {
-    let out = Vec::with_capacity(alloc, room_for(snapshot))?;
-    let out = protocol_onto(out)?;
-    let out = meta_onto(out, snapshot.meta())?;
-    under_onto(out, snapshot, pred)
+    let mut out = Vec::with_capacity(alloc, room_for(snapshot))?;
+    push_protocol(&mut out)?;
+    push_meta(alloc, &mut out, snapshot.meta())?;
+    push_under(alloc, &mut out, snapshot, pred)?;
+    Ok(out)
 }
 
 // The lines of a state.
