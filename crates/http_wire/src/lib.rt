@@ -16,4 +16,6 @@ pub use wire::{Message, Wire};
 pub use writing::write_all;
 
 #[cfg(test)]
+mod session_tests;
+#[cfg(test)]
 mod tests;
