@@ -1,5 +1,5 @@
 -- The head of a response at the front of a text, and the head that the whole text is.
-use Rattle.std.proofs.Common.{◌≡◌, ℕ, ◌<◌, ◌≤◌, List, [], ◌++◌, length, map, drop, sym, ap, ◌∙◌, arith}
+use Rattle.std.proofs.Common.{◌≡◌, ℕ, ◌<◌, ◌≤◌, List, [], ◌++◌, length, drop, sym, ap, ◌∙◌, arith}
 use Rattle.std.proofs.lemmas.List.{append-nil, length-map, drop_all}
 use Rattle.httparse.specs.Grammar.{ResponseHead as Tree, ReadsResponse, print_response}
 use Rattle.httparse.specs.Spans.{name_and_value}

@@ -1,19 +1,18 @@
 -- A stream has one reading.
-use Rattle.std.proofs.Common.{◌≡◌, ◌≢◌, ℕ, ◌+◌, ◌-◌, ◌<◌, ◌≤◌, ◌⊎◌, inl, inr, Bool, true, false, not, cond, leb, ltb, eqb, List, [], ◌∷◌, ◌++◌, length, take, drop, get_or, Option, Some, None, Result, Ok, Err, refl, sym, ap, ◌∙◌, subst, arith, append_assoc}
+use Rattle.std.proofs.Common.{◌≡◌, ℕ, ◌+◌, ◌-◌, ◌≤◌, ◌⊎◌, inl, inr, Bool, true, false, not, cond, leb, ltb, eqb, List, [], ◌∷◌, ◌++◌, length, take, drop, get_or, Option, Some, None, Result, Ok, Err, refl, sym, ap, ◌∙◌, subst, arith, append_assoc}
 use Rattle.std.specs.Bool.{MatchBool}
-use Rattle.std.proofs.lemmas.Bool.{cases_lt, cases_eq, lt-ltb, le-ltb, ne_eqb, cond-false}
 use Rattle.std.proofs.lemmas.Bool.Decides.{nat_tests}
 use Rattle.std.proofs.lemmas.List.{append_cancel_left, length-append}
 use Rattle.std.proofs.Math.Seq.{get_or-append_seam, take-append_seam, drop-append_seam}
 use Rattle.httparse.specs.Ascii.{crlf_bytes}
-use Rattle.httparse.specs.Grammar.{ChunkLine, ReadsChunkLine, print_chunk_line, chunk_size, RequestHead}
+use Rattle.httparse.specs.Grammar.{ChunkLine, print_chunk_line, chunk_size}
 use Rattle.httparse.proofs.ChunkLemmas.{chunk_line_unique}
 use Rattle.httparse.proofs.GrammarLemmas.{request_unique}
 use Rattle.std.proofs.lemmas.List.{append-nil}
-use Rattle.http_message.specs.Ends.{ends_empty, IsFirstEnd, HasNoEnd, TellsEnd, blank_len, line_count}
+use Rattle.http_message.specs.Ends.{line_count}
 use Rattle.http_message.specs.Heads.{IsHeadText, IsTrailersText, head_of_tree}
 use Rattle.http_message.specs.Lines.{IsLineAt, IsOpenLine, IsBadLine}
-use Rattle.http_message.specs.Bodies.{BodyReading, whole, unended, refused, behind, ReadsTrailersText, ReadsTrailersTo, ReadsTrailers, Chunk, IsChunk, print_chunk, content_stop, StopsBehindLine, Stops, ReadsChunks, ReadsChunked, ReadsBody}
+use Rattle.http_message.specs.Bodies.{BodyReading, whole, unended, refused, behind, ReadsTrailersTo, ReadsTrailers, Chunk, IsChunk, print_chunk, content_stop, StopsBehindLine, Stops, ReadsChunks, ReadsBody}
 use Rattle.http_message.specs.Framing.{request_form}
 use Rattle.http_message.specs.HeadReadings.{HeadReading, headed, nothing, cut, faulty}
 use Rattle.http_message.specs.Messages.{Reading, with_head, ReadsBehindHead, Reads}

@@ -1,11 +1,11 @@
 -- A head in front of a stream, and its text.
-use Rattle.std.proofs.Common.{◌≡◌, ℕ, ◌+◌, ◌-◌, ◌<◌, ◌≤◌, ◌⊎◌, inl, inr, Bool, true, false, cond, leb, eqb, List, ◌++◌, length, take, drop, Option, Some, None, refl, sym, ap, ◌∙◌, subst, arith}
+use Rattle.std.proofs.Common.{◌≡◌, ℕ, ◌+◌, ◌-◌, ◌≤◌, ◌⊎◌, inl, inr, Bool, true, false, cond, leb, eqb, List, ◌++◌, length, take, drop, Option, Some, None, refl, sym, ap, ◌∙◌, subst, arith}
 use Rattle.std.specs.Bool.{MatchBool}
 use Rattle.std.proofs.lemmas.Bool.{cases_lt}
-use Rattle.std.proofs.lemmas.List.{length-append, length-take, take-append-drop}
+use Rattle.std.proofs.lemmas.List.{length-take, take-append-drop}
 use Rattle.std.proofs.Math.Seq.{take-append-add, take-append_seam, drop-append_seam}
 use Rattle.http_message.specs.Ends.{blank_len, ends_empty, IsFirstEnd, TellsEnd}
-use Rattle.http_message.specs.HeadReadings.{HeadReading, headed, nothing, cut, faulty, has_many_lines, ReadsHeadText, ReadsHeadTo, ReadsHead, IsWholeHead}
+use Rattle.http_message.specs.HeadReadings.{headed, nothing, cut, faulty, has_many_lines, ReadsHeadText, ReadsHeadTo, ReadsHead, IsWholeHead}
 use Rattle.http_message.proofs.CutFacts.{blank_len-append, ends_empty-append, head_end-append}
 use Rattle.http_message.proofs.Growth.{blank_split, no_room}
 use Rattle.http_message.proofs.HeadUnique.{clash}

@@ -1,10 +1,10 @@
 -- What reading a head of the grammar IsText tells of the stream.
-use Rattle.std.proofs.Common.{◌≡◌, ℕ, ◌+◌, ◌-◌, ◌^◌, ◌<◌, ◌≤◌, min, List, [], ◌++◌, length, take, drop, Option, Some, None, Result, Ok, Err, refl, sym, ap, ◌∙◌, subst, arith, append_assoc}
+use Rattle.std.proofs.Common.{◌≡◌, ℕ, ◌+◌, ◌-◌, ◌^◌, ◌≤◌, min, List, ◌++◌, length, take, drop, Option, Some, None, Result, Ok, sym, ap, ◌∙◌, subst, arith, append_assoc}
 use Rattle.std.proofs.lemmas.List.{take-append-le, take-append-drop, drop-append-le, length-take-le, length-append}
 use Rattle.std.specs.Io.KnownBytes.{prepend_known}
 use Rattle.http_message.specs.Ends.{blank_len}
 use Rattle.http_message.specs.HeadReadings.{HeadReading, headed, nothing, cut, faulty, headless, ReadsHead, ReadsHeadText}
-use Rattle.http_wire.specs.Streams.{Buffer, stream, IsEnd, Grows, Moves, Told}
+use Rattle.http_wire.specs.Streams.{Buffer, stream, Grows, Told}
 use Rattle.http_wire.specs.Heads.{TellsStreamEnd, IsAllOpen, EndsAt, TellsText, HeadFound, TellsHeadRead}
 use Rattle.http_wire.specs.declared.head.HeadRead.{HeadRead}
 use Rattle.http_wire.specs.declared.head.HeadRead.TheVariants as read

@@ -1,16 +1,16 @@
 -- Messages, from heads and bodies.
-use Rattle.std.proofs.Common.{◌≡◌, ℕ, Bool, List, Option, Some, None, Result, Ok, Err, Vec, refl, sym, ap, ◌∙◌, subst}
+use Rattle.std.proofs.Common.{◌≡◌, ℕ, Bool, List, Option, Result, Ok, Err, Vec, refl, sym, ap, ◌∙◌, subst}
 use Rattle.std.specs.declared.alloc.Global.{Global}
 use Rattle.http_message.specs.Bodies.{BodyReading, whole, unended, refused, ReadsBody}
 use Rattle.http_message.specs.Framing.{request_form, closes}
 use Rattle.http_message.specs.HeadReadings.{headed, nothing, cut, faulty, ReadsHead}
 use Rattle.http_message.specs.Heads.{IsHeadText}
-use Rattle.http_message.specs.Messages.{ReadsBehindHead, Reading, request, ended, truncated, bad, with_head, ReadsMessage}
+use Rattle.http_message.specs.Messages.{ReadsBehindHead, request, ReadsMessage}
 use Rattle.http_message.specs.declared.framing.Form.{Form}
 use Rattle.http_message.specs.declared.head.Head.{Head}
 use Rattle.http_wire.specs.Bodies.{TellsBody}
 use Rattle.http_wire.specs.Heads.{TellsHeadRead}
-use Rattle.http_wire.specs.Streams.{Buffer, stream, Moves, Told}
+use Rattle.http_wire.specs.Streams.{Buffer, stream, Told}
 use Rattle.http_wire.specs.Wires.{Answers, TellsMessage, TellsRequest}
 use Rattle.http_wire.specs.declared.body.BodyRead.TheVariants as body
 use Rattle.http_wire.specs.declared.head.HeadRead.TheVariants as read

@@ -1,5 +1,5 @@
 -- What reading a head finds.
-use Rattle.std.specs.Prelude.{◌≡◌, ℕ, ◌+◌, ◌<◌, ◌≤◌, List, ◌++◌, length, take, Option, Some, None, Result, Ok, Err, ⊤}
+use Rattle.std.specs.Prelude.{◌≡◌, ℕ, ◌<◌, ◌≤◌, List, ◌++◌, length, take, Option, Some, None, Result, Ok, Err, ⊤}
 use Rattle.edge_core.specs.Faults.{Rose}
 use Rattle.http_message.specs.Ends.{blank_len, TellsEnd}
 use Rattle.http_message.specs.HeadReadings.{HeadReading, headed, nothing, cut, faulty, ReadsHeadText}

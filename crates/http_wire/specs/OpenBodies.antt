@@ -1,5 +1,5 @@
 -- What reading bytes straight into a body does.
-use Rattle.std.specs.Prelude.{◌≡◌, ℕ, ◌+◌, ◌-◌, ◌^◌, ◌<◌, ◌≤◌, min, List, [], ◌++◌, length, Result, Ok, Err, ⊤}
+use Rattle.std.specs.Prelude.{◌≡◌, ℕ, ◌+◌, ◌-◌, ◌^◌, min, List, [], ◌++◌, length, Result, Ok, Err, ⊤}
 use Rattle.edge_core.specs.Faults.{Rose}
 use Rattle.http_wire.specs.Streams.{Buffer, Moves}
 use Rattle.http_wire.specs.declared.inbox.Filled.{Filled}

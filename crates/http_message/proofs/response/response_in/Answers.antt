@@ -1,4 +1,4 @@
-use Rattle.std.proofs.Common.{◌≡◌, length, map, ap, arith}
+use Rattle.std.proofs.Common.{length, ap, arith}
 use Rattle.std.proofs.lemmas.List.{length-map}
 use Rattle.http_message.specs.Fields.{field_parts}
 use Rattle.http_message.proofs.ResponseFacts.{front_is_response, lacks_response, whole_response}

@@ -1,4 +1,4 @@
-use Rattle.std.proofs.Common.{◌≡◌, length, take, arith, rules}
+use Rattle.std.proofs.Common.{◌≡◌, length, arith, rules}
 use Rattle.std.proofs.lemmas.List.{length-take}
 use Rattle.http_message.specs.Ends.{blank_len}
 use Rattle.http_wire.proofs.HeadEnds.{end_found, none_found, no_head, end_no_room, end_inside}

@@ -1,4 +1,4 @@
-use Rattle.std.proofs.Common.{◌≡◌, Ok, take, subst, rules}
+use Rattle.std.proofs.Common.{Ok, take, subst, rules}
 use Rattle.http_message.specs.HeadReadings.{ReadsHead}
 use Rattle.http_message.specs.Heads.{IsHeadText}
 use Rattle.http_wire.specs.Heads.{TellsText}

@@ -1,4 +1,4 @@
-use Rattle.std.proofs.Common.{◌≡◌, Ok, length, arith, rules}
+use Rattle.std.proofs.Common.{◌≡◌, Ok, arith, rules}
 use Rattle.http_message.specs.ResponseMessages.{open_body}
 use Rattle.http_wire.specs.declared.body.BodyRead.TheVariants as body
 use Rattle.http_wire.proofs.Pouring.{pouring_more, pouring_kept}

@@ -1,4 +1,4 @@
-use Rattle.std.proofs.Common.{◌≡◌, ◌<◌, take, length, ap, ◌∙◌, arith}
+use Rattle.std.proofs.Common.{take, ap, ◌∙◌, arith}
 use Rattle.http_wire.proofs.Streams.{Grows-trans}
 use Rattle.http_wire.proofs.Windows.{window_short, known_here, full_window, known_grows, small_ended}
 use Rattle.http_wire.proofs.reading.await_start.Goals as goal

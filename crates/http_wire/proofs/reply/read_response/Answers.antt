@@ -1,5 +1,4 @@
-use Rattle.std.proofs.Common.{◌≡◌, Ok, Err, sym, ◌∙◌}
-use Rattle.http_message.specs.Responses.{response_form}
+use Rattle.std.proofs.Common.{sym, ◌∙◌}
 use Rattle.http_wire.proofs.Replies.{unformed_response, whole_response, refused_response}
 use Rattle.http_wire.proofs.reply.read_response.Goals as goal
 

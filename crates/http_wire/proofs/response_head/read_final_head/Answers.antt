@@ -1,4 +1,4 @@
-use Rattle.std.proofs.Common.{◌≡◌, Ok, true, false, sym, ◌∙◌, arith, rules}
+use Rattle.std.proofs.Common.{sym, ◌∙◌, arith, rules}
 use Rattle.http_wire.specs.declared.head.HeadRead.TheVariants as read
 use Rattle.http_wire.proofs.Passing.{passing_more, passing_stops, passing_kept}
 use Rattle.http_wire.proofs.response_head.read_final_head.Goals as goal

@@ -1,6 +1,5 @@
-use Rattle.std.proofs.Common.{◌≡◌, ◌+◌, ◌-◌, ℕ, List, Ok, length, take, subst, arith}
+use Rattle.std.proofs.Common.{Ok, take, subst, arith}
 use Rattle.std.specs.declared.alloc.AllocError.{AllocError}
-use Rattle.http_message.specs.HeadReadings.{ReadsHead}
 use Rattle.http_message.specs.Responses.{IsResponseText}
 use Rattle.http_message.specs.declared.response.ResponseHead.{ResponseHead}
 use Rattle.http_wire.specs.Heads.{TellsText, OnWhole}
