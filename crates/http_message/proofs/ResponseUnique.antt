@@ -6,7 +6,7 @@ use Rattle.httparse.proofs.GrammarLemmas.{response_unique}
 use Rattle.http_message.specs.Bodies.{BodyReading}
 use Rattle.http_message.specs.HeadReadings.{HeadReading, headed, nothing, cut, faulty, ReadsHead}
 use Rattle.http_message.specs.Responses.{response_of_tree, IsResponseText, response_form}
-use Rattle.http_message.specs.ResponseMessages.{HeadText, IsInterim, is_interim, heads_text, PassesOver, IsFinal, ReadsFinalHead, ReadsResponseBody, ResponseReading, with_response, ReadsBehindResponse, ReadsResponse}
+use Rattle.http_message.specs.ResponseMessages.{HeadText, IsInterim, is_interim, heads_text, PassesOver, IsFinal, ReadsFinalHead, ReadsResponseBody, ResponseReading, with_response, ReadsBehindResponse, ReadsResponseWithin}
 use Rattle.http_message.specs.declared.framing.Form.{Form}
 use Rattle.http_message.specs.declared.response.ResponseHead.{ResponseHead}
 use Rattle.http_message.proofs.HeadUnique.{clash, head_unique}
@@ -99,7 +99,7 @@ behind_response_unique most nothing x y p q = p ∙ sym q
 behind_response_unique most cut x y p q = p ∙ sym q
 behind_response_unique most (faulty code) x y p q = p ∙ sym q
 
-pub response_reading_unique : (most : ℕ) (stream : List ℕ) (x y : ResponseReading) → ReadsResponse most stream x → ReadsResponse most stream y → x ≡ y
+pub response_reading_unique : (most : ℕ) (stream : List ℕ) (x y : ResponseReading) → ReadsResponseWithin most stream x → ReadsResponseWithin most stream y → x ≡ y
 response_reading_unique most stream x y p q =
     let same = final_head_unique 16384 stream p.0 q.0 p.1 q.1 in
     behind_response_unique most q.0 x y (subst (λ h. ReadsBehindResponse most h x) same p.2) q.2

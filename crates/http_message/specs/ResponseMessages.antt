@@ -81,10 +81,10 @@ ReadsBehindResponse most cut reading = reading ≡ truncated
 ReadsBehindResponse most (faulty code) reading = reading ≡ bad
 
 -- all heads together have at most 16,384 bytes, and the body so many
-abbrev pub ReadsResponse : ℕ → List ℕ → ResponseReading → Type 0
-ReadsResponse most stream reading =
+abbrev pub ReadsResponseWithin : ℕ → List ℕ → ResponseReading → Type 0
+ReadsResponseWithin most stream reading =
     (head : HeadReading ResponseHead) × ReadsFinalHead 16384 stream head × ReadsBehindResponse most head reading
 
 -- a response's body has at most 256 MiB
 abbrev pub ReadsResponseMessage : List ℕ → ResponseReading → Type 0
-ReadsResponseMessage stream reading = ReadsResponse 268435456 stream reading
+ReadsResponseMessage stream reading = ReadsResponseWithin 268435456 stream reading

@@ -14,7 +14,7 @@ use std::alloc::{AllocError, Global};
 pub struct ResponseHead {
     /// The minor version: 0 for HTTP/1.0, and 1 for HTTP/1.1.
     pub minor: u8,
-    /// The status, three digits.
+    /// The status, three digits: 0 to 999.
     pub status: u16,
     /// The fields, in order.
     pub fields: Fields,

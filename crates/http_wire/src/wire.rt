@@ -81,9 +81,9 @@ impl Wire {
     }
 
     /// Reads the next response from the source (RFC 9112), however its pieces are cut. Interim heads, of status 1xx, are passed
-    /// over. The body is the chunks, else as many bytes as Content-Length says, else all bytes to the end of the input, at most
-    /// 256 MiB; the status and the request aren't looked at, so a response of status 204 or 304, or to HEAD, which RFC 9112,
-    /// section 6.3, leaves without a body, is read like any other.
+    /// over. The body is framed by Transfer-Encoding or by Content-Length; where there is neither it goes on to the end of the
+    /// input. It has at most 256 MiB. The status and the request aren't looked at, so a response of status 204 or 304, or to
+    /// HEAD, which RFC 9112, section 6.3, leaves without a body, is read like any other.
     ///
     /// Of a stream that is told, the bytes that were read and not used and then those that the source has left, the answer is its
     /// reading as a response, and what stands behind a response in the stream is left after it. The places are those of the
