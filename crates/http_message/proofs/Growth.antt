@@ -1,11 +1,11 @@
 -- What is found in the front of a stream stands in the stream.
-use Rattle.std.proofs.Common.{◌≡◌, ◌≢◌, ℕ, suc, ◌+◌, ◌-◌, ◌<◌, ◌≤◌, ◌⊎◌, ⊎_elim, inl, inr, true, false, List, [], ◌∷◌, ◌++◌, length, get_or, take, drop, refl, sym, ap, ◌∙◌, arith, length-append, append_assoc, zero-add}
+use Rattle.std.proofs.Common.{◌≡◌, ℕ, suc, ◌+◌, ◌-◌, ◌<◌, ◌≤◌, ⊎_elim, inl, inr, List, [], ◌∷◌, ◌++◌, length, take, drop, sym, ap, ◌∙◌, arith, length-append, append_assoc, zero-add}
 use Rattle.std.proofs.lemmas.Bool.{cases_eq, cases_Bool}
-use Rattle.std.proofs.lemmas.List.{append-nil, take-append-le, take-append-drop}
+use Rattle.std.proofs.lemmas.List.{take-append-le, take-append-drop}
 use Rattle.std.proofs.Math.Seq.{take-append_seam}
-use Rattle.httparse.specs.Grammar.{ChunkLine, print_chunk_line, ReadsChunkLine}
+use Rattle.httparse.specs.Grammar.{ChunkLine, print_chunk_line}
 use Rattle.http_message.specs.Ends.{blank_len, ends_empty, HasNoEnd, HasNoEndTo, IsFirstEnd}
-use Rattle.http_message.specs.Lines.{IsLineAt, IsLongLine, IsBadLine}
+use Rattle.http_message.specs.Lines.{IsLineAt, IsBadLine}
 use Rattle.http_message.proofs.BlankLemmas.{after_lf, after_crlf, no_blank, no_bytes}
 use Rattle.http_message.proofs.CutFacts.{front_of, after_blank, ends_empty-append, ends_after_lf}
 

@@ -1,10 +1,9 @@
 -- A head at the front of a text, and the head that the whole text is.
-use Rattle.std.proofs.Common.{◌≡◌, ◌≢◌, ℕ, ◌<◌, ◌≤◌, inl, inr, leb, eqb, List, [], ◌++◌, length, map, drop, sym, ap, subst, ◌∙◌, arith}
+use Rattle.std.proofs.Common.{◌≡◌, ◌≢◌, ℕ, ◌<◌, ◌≤◌, inl, inr, leb, eqb, List, [], ◌++◌, length, drop, sym, ap, subst, ◌∙◌, arith}
 use Rattle.std.specs.Bool.{MatchBool}
 use Rattle.std.proofs.lemmas.Bool.{cases_lt, le-leb, lt-leb, ne_eqb}
 use Rattle.std.proofs.lemmas.List.{append-nil, length-map, drop_all}
-use Rattle.std.specs.Prelude.{All}
-use Rattle.httparse.specs.Grammar.{RequestHead, IsRequestHead, ReadsRequest, HasNoRequest, NeverHasRequest, print_request, Field, LineEnd, ReadsSection, print_section, HasNoSection, NeverHasSection}
+use Rattle.httparse.specs.Grammar.{RequestHead, ReadsRequest, print_request, Field, LineEnd, ReadsSection, print_section, HasNoSection}
 use Rattle.httparse.specs.Borrowed.{header_parts, HoldsSection}
 use Rattle.httparse.specs.declared.borrowed.Header.{Header}
 use Rattle.httparse.specs.Spans.{name_and_value, RequestOverflows, SectionOverflows}

@@ -2,5 +2,9 @@ pub mod BlankLemmas
 pub mod CutFacts
 pub mod HeadFacts
 pub mod LineFacts
+pub mod HeadUnique
 pub mod Unique
 pub mod Growth
+pub mod ResponseFacts
+pub mod WholeHeads
+pub mod ResponseUnique

@@ -1,9 +1,9 @@
 -- Lines in front of chunks.
-use Rattle.std.proofs.Common.{◌≡◌, ℕ, ◌<◌, ◌≤◌, inr, List, ◌++◌, length, drop, sym, ap, ◌∙◌, arith, length-append}
+use Rattle.std.proofs.Common.{◌≡◌, ℕ, ◌<◌, ◌≤◌, inr, List, length, drop, ap, ◌∙◌, arith, length-append}
 use Rattle.httparse.specs.Grammar.{ChunkLine, print_chunk_line, chunk_size, HasNoChunkLine}
 use Rattle.httparse.specs.Spans.{IsChunkLineAt}
 use Rattle.httparse.proofs.ChunkLemmas.{chunk_line_unique}
-use Rattle.http_message.specs.Lines.{IsLineAt, IsLongLine, IsBadLine}
+use Rattle.http_message.specs.Lines.{IsLineAt, IsBadLine}
 
 pub bad_from_long : (bytes : List ℕ) (len size : ℕ) (k : ChunkLine) → IsChunkLineAt bytes len size k → 256 < len → IsBadLine bytes
 bad_from_long bytes len size k at long =

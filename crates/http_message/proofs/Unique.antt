@@ -1,46 +1,26 @@
 -- A stream has one reading.
-use Rattle.std.proofs.Common.{◌≡◌, ◌≢◌, ℕ, ◌+◌, ◌-◌, ◌<◌, ◌≤◌, ◌⊎◌, inl, inr, Bool, true, false, not, cond, leb, ltb, eqb, List, [], ◌∷◌, ◌++◌, length, take, drop, get_or, Option, Some, None, Result, Ok, Err, refl, sym, ap, ◌∙◌, subst, arith, append_assoc}
+use Rattle.std.proofs.Common.{◌≡◌, ℕ, ◌+◌, ◌-◌, ◌≤◌, ◌⊎◌, inl, inr, Bool, true, false, not, cond, leb, ltb, eqb, List, [], ◌∷◌, ◌++◌, length, take, drop, get_or, Option, Some, None, Result, Ok, Err, refl, sym, ap, ◌∙◌, subst, arith, append_assoc}
 use Rattle.std.specs.Bool.{MatchBool}
-use Rattle.std.proofs.lemmas.Bool.{cases_lt, cases_eq, lt-ltb, le-ltb, ne_eqb, cond-false}
 use Rattle.std.proofs.lemmas.Bool.Decides.{nat_tests}
 use Rattle.std.proofs.lemmas.List.{append_cancel_left, length-append}
 use Rattle.std.proofs.Math.Seq.{get_or-append_seam, take-append_seam, drop-append_seam}
 use Rattle.httparse.specs.Ascii.{crlf_bytes}
-use Rattle.httparse.specs.Grammar.{ChunkLine, ReadsChunkLine, print_chunk_line, chunk_size, RequestHead}
+use Rattle.httparse.specs.Grammar.{ChunkLine, print_chunk_line, chunk_size}
 use Rattle.httparse.proofs.ChunkLemmas.{chunk_line_unique}
 use Rattle.httparse.proofs.GrammarLemmas.{request_unique}
 use Rattle.std.proofs.lemmas.List.{append-nil}
-use Rattle.http_message.specs.Ends.{ends_empty, IsFirstEnd, HasNoEnd, TellsEnd, blank_len, line_count}
+use Rattle.http_message.specs.Ends.{line_count}
 use Rattle.http_message.specs.Heads.{IsHeadText, IsTrailersText, head_of_tree}
 use Rattle.http_message.specs.Lines.{IsLineAt, IsOpenLine, IsBadLine}
-use Rattle.http_message.specs.Bodies.{BodyReading, whole, unended, refused, behind, ReadsTrailersText, ReadsTrailersTo, ReadsTrailers, Chunk, IsChunk, print_chunk, content_stop, StopsBehindLine, Stops, ReadsChunks, ReadsChunked, ReadsBody}
+use Rattle.http_message.specs.Bodies.{BodyReading, whole, unended, refused, behind, ReadsTrailersTo, ReadsTrailers, Chunk, IsChunk, print_chunk, content_stop, StopsBehindLine, Stops, ReadsChunks, ReadsBody}
 use Rattle.http_message.specs.Framing.{request_form}
-use Rattle.http_message.specs.Messages.{HeadReading, headed, nothing, cut, faulty, ReadsHeadText, ReadsHeadTo, ReadsHead, Reading, with_head, ReadsBehindHead, Reads, has_many_lines}
+use Rattle.http_message.specs.HeadReadings.{HeadReading, headed, nothing, cut, faulty}
+use Rattle.http_message.specs.Messages.{Reading, with_head, ReadsBehindHead, Reads}
 use Rattle.http_message.specs.declared.framing.Form.{Form}
 use Rattle.http_message.specs.declared.framing.Form.TheVariants as form
 use Rattle.http_message.specs.declared.head.Head.{Head}
 use Rattle.http_message.proofs.HeadFacts.{reads_whole}
-
--- ---- where an empty line ends
-
-clash : (b : Bool) → b ≡ true → b ≡ false → ⊥
-clash b is isnt = cc
-
-first_unique : (bytes : List ℕ) (start m n : ℕ) → IsFirstEnd bytes start m → IsFirstEnd bytes start n → m ≡ n
-first_unique bytes start m n p q =
-    elim (cases_lt m n) [
-      | inl below ↦ absurd (clash (ends_empty bytes m) p.ends (q.first m p.after below))
-      | inr over ↦ elim (cases_lt n m) [
-        | inl above ↦ absurd (clash (ends_empty bytes n) q.ends (p.first n q.after above))
-        | inr under ↦ omega arith
-      ]
-    ]
-
-pub end_unique : (bytes : List ℕ) (start : ℕ) (f g : Option ℕ) → TellsEnd bytes start f → TellsEnd bytes start g → f ≡ g
-end_unique bytes start None None p q = refl
-end_unique bytes start None (Some n) p q = absurd (clash (ends_empty bytes n) q.ends (p n q.after q.within))
-end_unique bytes start (Some m) None p q = absurd (clash (ends_empty bytes m) p.ends (q m p.after p.within))
-end_unique bytes start (Some m) (Some n) p q = ap (λ (k : ℕ). Some k) (first_unique bytes start m n p q)
+use Rattle.http_message.proofs.HeadUnique.{end_unique, head_unique}
 
 -- ---- trailers
 
@@ -169,7 +149,7 @@ chunks_unique room (c ∷ cs) (d ∷ ds) stream x y p q =
     let later = chunks_unique (room - length d.content) cs ds q.2 p.4 q.4 moved q.5 in
     p.6 ∙ ap (λ b. behind c.content b) later ∙ ap (λ a. behind a q.4) same.0 ∙ sym q.6
 
-body_unique : (most : ℕ) (f : Result Form ℕ) (stream : List ℕ) (x y : BodyReading) → ReadsBody most f stream x → ReadsBody most f stream y → x ≡ y
+pub body_unique : (most : ℕ) (f : Result Form ℕ) (stream : List ℕ) (x y : BodyReading) → ReadsBody most f stream x → ReadsBody most f stream y → x ≡ y
 body_unique most (Err code) stream x y p q = p ∙ sym q
 body_unique most (Ok (form.Length size)) stream x y p q = p ∙ sym q
 body_unique most (Ok form.Chunked) stream x y p q = chunks_unique most p.0 q.0 stream x y p.1 q.1
@@ -181,31 +161,7 @@ head_text_unique text h k p q =
     let same = (request_unique text p.0 q.0 [] [] (reads_whole text p.0 p.1) (reads_whole text q.0 q.1)).0 in
     p.2 ∙ ap head_of_tree same ∙ sym q.2
 
-abbrev Found : (text rest : List ℕ) → HeadReading → Type 0
-Found text rest x =
-    ((head : Head) × IsHeadText text head × (x ≡ headed head rest))
-    ⊎ (((head : Head) → ¬ (IsHeadText text head)) × (x ≡ faulty 24))
-
-found_unique : (text rest : List ℕ) (x y : HeadReading) → Found text rest x → Found text rest y → x ≡ y
-found_unique text rest x y (inl p) (inl q) = p.2 ∙ ap (λ h. headed h rest) (head_text_unique text p.0 q.0 p.1 q.1) ∙ sym q.2
-found_unique text rest x y (inl p) (inr q) = absurd (q.0 p.0 p.1)
-found_unique text rest x y (inr p) (inl q) = absurd (p.0 q.0 q.1)
-found_unique text rest x y (inr p) (inr q) = p.1 ∙ sym q.1
-
-head_by_lines : (b : Bool) (text rest : List ℕ) (x y u : HeadReading) → MatchBool b (x ≡ u) (Found text rest x) → MatchBool b (y ≡ u) (Found text rest y) → x ≡ y
-head_by_lines true text rest x y u p q = p ∙ sym q
-head_by_lines false text rest x y u p q = found_unique text rest x y p q
-
-head_to_unique : (stream : List ℕ) (found : Option ℕ) (x y : HeadReading) → ReadsHeadTo stream found x → ReadsHeadTo stream found y → x ≡ y
-head_to_unique stream None x y p q = p ∙ sym q
-head_to_unique stream (Some end) x y p q = head_by_lines (has_many_lines (take end stream)) (take end stream) (drop end stream) x y (faulty 26) p q
-
-head_unique : (stream : List ℕ) (x y : HeadReading) → ReadsHead stream x → ReadsHead stream y → x ≡ y
-head_unique stream x y p q =
-    let same = end_unique (take 16384 stream) (blank_len (take 16384 stream)) p.0 q.0 p.1 q.1 in
-    head_to_unique stream q.0 x y (subst (λ f. ReadsHeadTo stream f x) same p.2) q.2
-
-behind_head_unique : (most : ℕ) (head : HeadReading) (x y : Reading) → ReadsBehindHead most head x → ReadsBehindHead most head y → x ≡ y
+behind_head_unique : (most : ℕ) (head : HeadReading Head) (x y : Reading) → ReadsBehindHead most head x → ReadsBehindHead most head y → x ≡ y
 behind_head_unique most (headed head rest) x y p q = p.2 ∙ ap (with_head head) (body_unique most (request_form most head) rest p.0 q.0 p.1 q.1) ∙ sym q.2
 behind_head_unique most nothing x y p q = p ∙ sym q
 behind_head_unique most cut x y p q = p ∙ sym q
@@ -213,5 +169,5 @@ behind_head_unique most (faulty code) x y p q = p ∙ sym q
 
 pub reading_unique : (most : ℕ) (stream : List ℕ) (x y : Reading) → Reads most stream x → Reads most stream y → x ≡ y
 reading_unique most stream x y p q =
-    let same = head_unique stream p.0 q.0 p.1 q.1 in
+    let same = head_unique IsHeadText head_text_unique 16384 stream p.0 q.0 p.1 q.1 in
     behind_head_unique most q.0 x y (subst (λ h. ReadsBehindHead most h x) same p.2) q.2

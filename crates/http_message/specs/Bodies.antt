@@ -1,8 +1,8 @@
 -- What stands where a body begins (RFC 9112, sections 6 and 7).
-use Rattle.std.specs.Prelude.{◌≡◌, ℕ, ◌+◌, ◌-◌, ◌<◌, ◌≤◌, ◌⊎◌, Bool, ◌==◌, not, nat_lt, nat_le, List, [], ◌∷◌, ◌++◌, length, take, drop, slice_index, Option, Some, None, Result, Ok, Err, MatchBool, if◌then◌else◌}
+use Rattle.std.specs.Prelude.{◌≡◌, ℕ, ◌+◌, ◌-◌, ◌<◌, ◌≤◌, ◌⊎◌, ◌==◌, not, nat_lt, nat_le, List, [], ◌∷◌, ◌++◌, length, take, drop, slice_index, Option, Some, None, Result, Ok, Err, MatchBool, if◌then◌else◌}
 use Rattle.httparse.specs.Ascii.{crlf_bytes}
 use Rattle.httparse.specs.Grammar.{ChunkLine, IsChunkLine, print_chunk_line, chunk_size}
-use Rattle.http_message.specs.Ends.{IsFirstEnd, TellsEnd, line_count}
+use Rattle.http_message.specs.Ends.{TellsEnd, line_count}
 use Rattle.http_message.specs.Heads.{IsTrailersText}
 use Rattle.http_message.specs.Lines.{IsLineAt, IsOpenLine, IsBadLine}
 use Rattle.http_message.specs.Refusals.{bad_message, body_too_large, head_too_large}

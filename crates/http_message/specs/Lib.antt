@@ -6,4 +6,7 @@ pub mod Fronts
 pub mod Framing
 pub mod Lines
 pub mod Bodies
+pub mod HeadReadings
 pub mod Messages
+pub mod Responses
+pub mod ResponseMessages

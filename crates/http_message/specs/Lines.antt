@@ -1,6 +1,6 @@
 -- The line in front of a chunk (RFC 9112, section 7.1), of at most 256 bytes with its CR LF.
 use Rattle.std.specs.Prelude.{◌≡◌, ℕ, ◌<◌, ◌≤◌, ◌⊎◌, List, ◌++◌, length, drop, Option, Result, MatchOption, MatchResult}
-use Rattle.httparse.specs.Grammar.{ChunkLine, IsChunkLine, ReadsChunkLine, print_chunk_line, chunk_size, HasNoChunkLine, MayBecomeChunkLine, NeverHasChunkLine}
+use Rattle.httparse.specs.Grammar.{ChunkLine, IsChunkLine, print_chunk_line, chunk_size, HasNoChunkLine, MayBecomeChunkLine, NeverHasChunkLine}
 
 -- the stream is that line and then rest
 pub record IsLineAt (stream : List ℕ) (line : ChunkLine) (rest : List ℕ) : Type 0 where

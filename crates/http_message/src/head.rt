@@ -41,7 +41,7 @@ impl From<AllocError> for HeadFault {
     }
 }
 
-fn copy_fields(alloc: Global, headers: &[Header<'_>]) -> Result<Vec<Field>, AllocError>
+pub(crate) fn copy_fields(alloc: Global, headers: &[Header<'_>]) -> Result<Vec<Field>, AllocError>
     ensures { IfOk result (λ fields. map field_parts fields.items ≡ map header_parts headers.now) }
 {
     let mut fields = Vec::new(alloc);

@@ -9,6 +9,7 @@ pub mod framing;
 pub mod head;
 pub mod law;
 pub mod refusal;
+pub mod response;
 #[cfg(test)]
 mod tests;
 mod text;

@@ -3,6 +3,7 @@ use crate::ends::{blank_len, end_after, line_count};
 use crate::framing::{Form, closes, request_form};
 use crate::head::{head_in, is_trailers};
 use crate::refusal::{BAD_MESSAGE, BODY_TOO_LARGE, TRANSFER_CODING};
+use crate::response::{response_form, response_in};
 use std::alloc::{AllocError, Global};
 
 const MOST: u64 = 16_777_216;
@@ -89,4 +90,27 @@ fn lines_of_chunks_and_trailers(rt: HostRuntime) {
     assert!(&rt; chunk_line(b"zz").is_err());
     assert!(&rt; is_trailers(b"A: b\r\n\r\n"));
     assert!(&rt; !is_trailers(b"A: b\r\n"));
+}
+
+// The status of the response whose head the text is, and the form of its body.
+fn reply(
+    alloc: Global,
+    text: &[u8],
+) -> Result<Option<(u16, Result<Option<Form>, u16>)>, AllocError> {
+    match response_in(alloc, text)? {
+        Some(head) => Ok(Some((head.status, response_form(MOST, &head)))),
+        None => Ok(None),
+    }
+}
+
+#[test]
+fn responses_have_a_status_and_a_body(rt: HostRuntime) -> Result<(), AllocError> {
+    let a = rt.alloc();
+    assert!(&rt;
+        reply(a, b"HTTP/1.1 200 OK\r\nContent-Length: 3\r\n\r\n")?
+            == Some((200, Ok(Some(Form::Length(3)))))
+    );
+    assert!(&rt; reply(a, b"HTTP/1.0 404\r\n\r\n")? == Some((404, Ok(None))));
+    assert!(&rt; reply(a, b"HTTP/2 200 OK\r\n\r\n")? == None);
+    Ok(())
 }

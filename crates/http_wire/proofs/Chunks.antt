@@ -1,22 +1,21 @@
 -- A chunk in a stream, behind its line.
-use Rattle.std.proofs.Common.{◌≡◌, ℕ, ◌+◌, ◌-◌, ◌^◌, ◌<◌, ◌≤◌, min, inl, inr, Bool, true, false, ltb, eqb, List, [], ◌∷◌, ◌++◌, length, take, drop, Option, Some, None, Result, Ok, Err, refl, sym, ap, ◌∙◌, subst, arith, append_assoc, length-append}
+use Rattle.std.proofs.Common.{◌≡◌, ℕ, ◌+◌, ◌-◌, ◌^◌, ◌<◌, ◌≤◌, min, inl, inr, eqb, List, [], ◌∷◌, ◌++◌, length, take, drop, Option, Some, Result, Ok, Err, refl, sym, ap, ◌∙◌, subst, arith, append_assoc, length-append}
 use Rattle.std.specs.Bool.{MatchBool}
 use Rattle.std.proofs.lemmas.Bool.{lt-ltb, le-ltb, eq-eqb, ne_eqb}
-use Rattle.std.proofs.lemmas.List.{append-nil, drop-append-le, length-take-le, take-append-drop}
+use Rattle.std.proofs.lemmas.List.{drop-append-le, length-take-le, take-append-drop}
 use Rattle.std.proofs.Math.Seq.{drop-append_seam}
 use Rattle.std.specs.Io.KnownBytes.{prepend_known}
-use Rattle.httparse.specs.Ascii.{crlf_bytes}
 use Rattle.httparse.specs.Grammar.{ChunkLine, print_chunk_line, print_extension, chunk_size}
-use Rattle.http_message.specs.Bodies.{BodyReading, whole, unended, refused, content_stop, Chunk, IsChunk, print_chunk, StopsBehindLine, Stops, ReadsTrailers}
+use Rattle.http_message.specs.Bodies.{BodyReading, whole, unended, refused, content_stop, Chunk, StopsBehindLine, Stops, ReadsTrailers}
 use Rattle.http_message.specs.Lines.{IsLineAt, IsBadLine}
 use Rattle.http_message.proofs.Growth.{line-append, bad-append}
 use Rattle.http_message.proofs.Unique.{chunk_front}
 use Rattle.http_wire.specs.Bodies.{OnMore, ContentFound, TellsContent, TrailersFound, TellsTrailers, ChunkFound, TellsChunk}
 use Rattle.http_wire.specs.Parts.{IsLineFound}
-use Rattle.http_wire.specs.Streams.{Buffer, stream, IsEnd, Grows, Moves, Told}
+use Rattle.http_wire.specs.Streams.{Buffer, stream, Grows, Moves, Told}
 use Rattle.http_wire.specs.declared.body.Part.{Part}
 use Rattle.http_wire.specs.declared.body.Part.TheVariants as part
-use Rattle.http_wire.proofs.Streams.{ended_stream, told_front, Moves-none, Moves-trans}
+use Rattle.http_wire.proofs.Streams.{told_front, Moves-none, Moves-trans}
 
 pub line_some : (l : ChunkLine) → 2 ≤ length (print_chunk_line l)
 unfolding print_chunk_line

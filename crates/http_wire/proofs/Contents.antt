@@ -1,12 +1,11 @@
 -- The content of a chunk in a stream.
-use Rattle.std.proofs.Common.{◌≡◌, ◌≢◌, ℕ, ◌+◌, ◌-◌, ◌^◌, ◌<◌, ◌≤◌, min, inl, inr, Bool, true, false, not, cond, leb, ltb, eqb, List, [], ◌∷◌, ◌++◌, length, take, drop, get_or, Option, Some, None, Result, Ok, Err, refl, sym, ap, ◌∙◌, subst, arith, append_assoc, length-append}
-use Rattle.std.proofs.lemmas.Bool.{cases_lt}
+use Rattle.std.proofs.Common.{◌≡◌, ℕ, ◌+◌, ◌-◌, ◌^◌, ◌≤◌, min, Bool, true, false, not, cond, leb, eqb, List, ◌∷◌, ◌++◌, length, take, drop, get_or, Option, Some, None, Result, Ok, refl, sym, ap, ◌∙◌, arith, append_assoc, length-append}
 use Rattle.std.proofs.lemmas.Bool.Decides.{nat_tests}
-use Rattle.std.proofs.lemmas.List.{append-nil, take-append-le, take-append-drop, drop-append-le, drop_more, length-take-le, get_or_append_left}
+use Rattle.std.proofs.lemmas.List.{take-append-drop, drop_more, length-take-le, get_or_append_left}
 use Rattle.std.specs.Io.KnownBytes.{prepend_known}
-use Rattle.http_message.specs.Bodies.{BodyReading, unended, refused, content_stop}
+use Rattle.http_message.specs.Bodies.{unended, refused, content_stop}
 use Rattle.http_wire.specs.Bodies.{IsOpenContent, ContentFound, TellsContent}
-use Rattle.http_wire.specs.Streams.{Buffer, stream, IsEnd, Grows, Moves, Told}
+use Rattle.http_wire.specs.Streams.{Buffer, stream, IsEnd, Grows, Told}
 use Rattle.http_wire.specs.declared.body.Part.{Part}
 use Rattle.http_wire.specs.declared.body.Part.TheVariants as part
 use Rattle.http_wire.proofs.Streams.{ended_stream, told_front, Moves-none}

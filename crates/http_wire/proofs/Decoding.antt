@@ -1,11 +1,11 @@
 -- Chunks, one after another, and bodies of a given length.
-use Rattle.std.proofs.Common.{◌≡◌, ℕ, ◌+◌, ◌-◌, ◌^◌, ◌<◌, ◌≤◌, min, cond, leb, List, [], ◌∷◌, ◌++◌, length, take, drop, Option, Some, None, Result, Ok, Err, refl, sym, ap, ◌∙◌, subst, arith, append_assoc, length-append}
+use Rattle.std.proofs.Common.{◌≡◌, ℕ, ◌+◌, ◌-◌, ◌^◌, ◌<◌, ◌≤◌, min, cond, List, [], ◌∷◌, ◌++◌, length, take, drop, Option, Result, Ok, refl, sym, ap, ◌∙◌, subst, arith, append_assoc, length-append}
 use Rattle.std.proofs.lemmas.Bool.{le-leb, lt-leb}
 use Rattle.std.proofs.lemmas.List.{append-nil, take-append-le, take-append-drop, drop-append-le, length-take-le}
 use Rattle.std.specs.Io.KnownBytes.{prepend_known}
-use Rattle.http_message.specs.Bodies.{BodyReading, whole, unended, refused, behind, sized_body, ReadsChunked, ReadsChunks, Chunk, IsChunk, print_chunk, Stops}
-use Rattle.http_wire.specs.Bodies.{ChunkFound, TellsChunk, BodyFound, TellsBody, IsDecoding}
-use Rattle.http_wire.specs.Streams.{Buffer, stream, IsEnd, Grows, Moves, Told}
+use Rattle.http_message.specs.Bodies.{BodyReading, whole, unended, refused, behind, sized_body, ReadsChunked, ReadsChunks}
+use Rattle.http_wire.specs.Bodies.{TellsChunk, BodyFound, TellsBody, IsDecoding}
+use Rattle.http_wire.specs.Streams.{Buffer, stream, IsEnd, Grows, Told}
 use Rattle.http_wire.specs.declared.body.Part.{Part}
 use Rattle.http_wire.specs.declared.body.Part.TheVariants as part
 use Rattle.http_wire.specs.declared.body.BodyRead.{BodyRead}

@@ -7,4 +7,7 @@ pub mod Trailers
 pub mod Chunks
 pub mod Decoding
 pub mod Flows
+pub mod Pouring
+pub mod Passing
 pub mod Wires
+pub mod Replies

@@ -1,5 +1,5 @@
 -- Streams, one step after another.
-use Rattle.std.proofs.Common.{◌≡◌, ℕ, ◌+◌, ◌-◌, ◌^◌, ◌<◌, ◌≤◌, min, List, [], ◌++◌, length, take, drop, Option, Some, None, refl, sym, ap, ◌∙◌, subst, arith, append_assoc, length-append}
+use Rattle.std.proofs.Common.{◌≡◌, ℕ, ◌≤◌, List, [], ◌++◌, Option, Some, None, refl, sym, ap, ◌∙◌, arith, append_assoc, length-append}
 use Rattle.std.proofs.lemmas.List.{append-nil}
 use Rattle.std.specs.Io.KnownBytes.{prepend_known}
 use Rattle.edge_core.specs.Faults.{Rose}
@@ -67,3 +67,9 @@ Moves-trans xs ys zs p q r first second = (
       let last = second.2 (omega (arith, mid)) in
       omega (arith, mid, last, length-append first.0 second.0),
 )
+
+pub told_first : {old new : Option (List ℕ)} {P Q : List ℕ → List ℕ → Type 0} → Told old new (λ xs ys. P xs ys × Q xs ys) → Told old new P
+told_first both = λ xs told. let f = both xs told in (f.0, f.1, f.2.0)
+
+pub told_map : {old new : Option (List ℕ)} {P Q : List ℕ → List ℕ → Type 0} → Told old new P → ((xs ys : List ℕ) → P xs ys → Q xs ys) → Told old new Q
+told_map all f = λ xs told. let p = all xs told in (p.0, p.1, f xs p.0 p.2)

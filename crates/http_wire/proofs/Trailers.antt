@@ -1,16 +1,16 @@
 -- The trailers of a chunked body in a stream.
-use Rattle.std.proofs.Common.{◌≡◌, ℕ, suc, ◌+◌, ◌-◌, ◌^◌, ◌<◌, ◌≤◌, min, cond, leb, List, [], ◌∷◌, ◌++◌, length, take, drop, Option, Some, None, Result, Ok, Err, refl, sym, ap, ◌∙◌, subst, arith, append_assoc, length-append}
+use Rattle.std.proofs.Common.{◌≡◌, ℕ, suc, ◌+◌, ◌-◌, ◌^◌, ◌<◌, ◌≤◌, min, cond, List, [], ◌∷◌, ◌++◌, length, take, drop, Option, Some, None, Result, Ok, refl, sym, ap, ◌∙◌, subst, arith, append_assoc, length-append}
 use Rattle.std.proofs.lemmas.Bool.{le-leb, lt-leb}
-use Rattle.std.proofs.lemmas.List.{append-nil, take-append-le, take-append-drop, drop-append-le, length-take, length-take-le, take_all}
+use Rattle.std.proofs.lemmas.List.{take-append-le, take-append-drop, drop-append-le, length-take, length-take-le, take_all}
 use Rattle.std.specs.Io.KnownBytes.{prepend_known}
 use Rattle.http_message.specs.Ends.{IsFirstEnd, HasNoEnd, TellsEnd}
-use Rattle.http_message.specs.Bodies.{BodyReading, whole, unended, refused, ReadsTrailers, ReadsTrailersText, ReadsTrailersTo}
+use Rattle.http_message.specs.Bodies.{whole, unended, refused, ReadsTrailers, ReadsTrailersText}
 use Rattle.http_wire.specs.Bodies.{OnMore, TellsTrailersText, TrailersFound, TellsTrailers}
-use Rattle.http_wire.specs.Streams.{Buffer, stream, IsEnd, Grows, Moves, Told}
+use Rattle.http_wire.specs.Streams.{Buffer, stream, IsEnd, Grows, Told}
 use Rattle.http_wire.specs.declared.body.Part.{Part}
 use Rattle.http_wire.specs.declared.body.Part.TheVariants as part
 use Rattle.http_wire.proofs.Streams.{ended_stream, told_front, Moves-none}
-use Rattle.http_wire.proofs.HeadEnds.{take_front, found_more}
+use Rattle.http_wire.proofs.HeadEnds.{found_more}
 
 one_more : (zs : List ℕ) → take 16385 (10 ∷ zs) ≡ 10 ∷ take 16384 zs
 one_more zs = refl

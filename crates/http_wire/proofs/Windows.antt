@@ -36,25 +36,25 @@ known_here k front w is known =
     let P : List ℕ → Type 0 = λ z. k + blank_len (drop k z) ≡ blank_len z in
     subst P (sym is) (subst P (append-nil w) (known []))
 
-pub full_window : (front old : List ℕ) (known : ℕ) → front ≡ take 16384 old → length front ≡ 16384 → known ≡ blank_len front → length front < known + 2
-    → (16384 ≤ length old) × (length (take 16384 old) < blank_len (take 16384 old) + 2)
-full_window front old known is full count small =
-    (omega (arith, ap length is, length-take 16384 old, full), omega (arith, ap length is, ap blank_len is, count, small))
+pub full_window : (most : ℕ) (front old : List ℕ) (known : ℕ) → front ≡ take most old → length front ≡ most → known ≡ blank_len front → length front < known + 2
+    → (most ≤ length old) × (length (take most old) < blank_len (take most old) + 2)
+full_window most front old known is full count small =
+    (omega (arith, ap length is, length-take most old, full), omega (arith, ap length is, ap blank_len is, count, small))
 
-pub known_grows : (front old new more : List ℕ) (known : ℕ) → front ≡ take 16384 old → new ≡ old ++ more → known ≡ blank_len front → known ≤ length front
-    → (known ≤ length (take 16384 new)) × ((ys : List ℕ) → known + blank_len (drop known (take 16384 new ++ ys)) ≡ blank_len (take 16384 new ++ ys))
-known_grows front old new more known is grown count within =
-    let rest = take (16384 - length old) more in
-    let e = window_more 16384 front old new more is grown in (
+pub known_grows : (most : ℕ) (front old new more : List ℕ) (known : ℕ) → front ≡ take most old → new ≡ old ++ more → known ≡ blank_len front → known ≤ length front
+    → (known ≤ length (take most new)) × ((ys : List ℕ) → known + blank_len (drop known (take most new ++ ys)) ≡ blank_len (take most new ++ ys))
+known_grows most front old new more known is grown count within =
+    let rest = take (most - length old) more in
+    let e = window_more most front old new more is grown in (
       omega (arith, ap length e, length-append front rest, within),
       λ ys.
-          let whole : take 16384 new ++ ys ≡ front ++ (rest ++ ys) = ap (λ x. x ++ ys) e ∙ append_assoc front rest ys in
+          let whole : take most new ++ ys ≡ front ++ (rest ++ ys) = ap (λ x. x ++ ys) e ∙ append_assoc front rest ys in
           let P : List ℕ → Type 0 = λ z. known + blank_len (drop known z) ≡ blank_len z in
           subst P (sym whole) (subst (λ k. k + blank_len (drop k (front ++ (rest ++ ys))) ≡ blank_len (front ++ (rest ++ ys))) (sym count) (blank_known front (rest ++ ys))),
     )
 
-pub small_ended : (front old new : List ℕ) (known : ℕ) → front ≡ take 16384 old → length front ≢ 16384 → new ≡ old → known ≡ blank_len front → length front < known + 2
-    → (length new < 16384) × (length new < blank_len new + 2)
-small_ended front old new known is short same count small =
-    let whole : front ≡ new = window_whole 16384 front old is short ∙ sym same in
-    (omega (arith, ap length same, window_short 16384 front old is short), omega (arith, ap length whole, ap blank_len whole, count, small))
+pub small_ended : (most : ℕ) (front old new : List ℕ) (known : ℕ) → front ≡ take most old → length front ≢ most → new ≡ old → known ≡ blank_len front → length front < known + 2
+    → (length new < most) × (length new < blank_len new + 2)
+small_ended most front old new known is short same count small =
+    let whole : front ≡ new = window_whole most front old is short ∙ sym same in
+    (omega (arith, ap length same, window_short most front old is short), omega (arith, ap length whole, ap blank_len whole, count, small))

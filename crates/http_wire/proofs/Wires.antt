@@ -1,14 +1,16 @@
 -- Messages, from heads and bodies.
-use Rattle.std.proofs.Common.{◌≡◌, ℕ, Bool, List, Option, Some, None, Result, Ok, Err, Vec, refl, sym, ap, ◌∙◌, subst}
+use Rattle.std.proofs.Common.{◌≡◌, ℕ, Bool, List, Option, Result, Ok, Err, Vec, refl, sym, ap, ◌∙◌, subst}
 use Rattle.std.specs.declared.alloc.Global.{Global}
 use Rattle.http_message.specs.Bodies.{BodyReading, whole, unended, refused, ReadsBody}
 use Rattle.http_message.specs.Framing.{request_form, closes}
-use Rattle.http_message.specs.Messages.{HeadReading, headed, nothing, cut, faulty, ReadsHead, ReadsBehindHead, Reading, request, ended, truncated, bad, with_head, ReadsMessage}
+use Rattle.http_message.specs.HeadReadings.{headed, nothing, cut, faulty, ReadsHead}
+use Rattle.http_message.specs.Heads.{IsHeadText}
+use Rattle.http_message.specs.Messages.{ReadsBehindHead, request, ReadsMessage}
 use Rattle.http_message.specs.declared.framing.Form.{Form}
 use Rattle.http_message.specs.declared.head.Head.{Head}
 use Rattle.http_wire.specs.Bodies.{TellsBody}
 use Rattle.http_wire.specs.Heads.{TellsHeadRead}
-use Rattle.http_wire.specs.Streams.{Buffer, stream, Moves, Told}
+use Rattle.http_wire.specs.Streams.{Buffer, stream, Told}
 use Rattle.http_wire.specs.Wires.{Answers, TellsMessage, TellsRequest}
 use Rattle.http_wire.specs.declared.body.BodyRead.TheVariants as body
 use Rattle.http_wire.specs.declared.head.HeadRead.TheVariants as read
@@ -18,7 +20,7 @@ use Rattle.http_wire.proofs.Streams.{Moves-none, Moves-trans}
 
 -- ---- behind the head
 
-request_answers : {E : Type 0} (xs mid ys : List ℕ) (head : Head) (at place : ℕ) (r : Result Message E) → ReadsHead xs (headed head mid) → at ≡ place
+request_answers : {E : Type 0} (xs mid ys : List ℕ) (head : Head) (at place : ℕ) (r : Result Message E) → ReadsHead IsHeadText 16384 xs (headed head mid) → at ≡ place
     → Answers (ReadsBehindHead 16777216 (headed head mid)) at ys r → Answers (ReadsMessage xs) place ys r
 request_answers xs mid ys head at place (Ok (message.Request h b c)) found is a = (headed head mid, found, a)
 request_answers xs mid ys head at place (Ok message.End) found is a = (headed head mid, found, a)
@@ -28,7 +30,7 @@ request_answers xs mid ys head at place (Ok message.ReadFault) found is a = tt
 request_answers xs mid ys head at place (Err e) found is a = tt
 
 pub request_message : {E F : Type 0} (old mid new : Buffer) (left left_mid left_new : Option (List ℕ)) (head : Head) (at : ℕ) (r : Result Message E) → at ≡ old.1
-    → Told (stream old left) (stream mid left_mid) (λ xs ys. TellsHeadRead {E = F} xs old.1 ys mid.1 (Ok (read.Whole head)))
+    → Told (stream old left) (stream mid left_mid) (λ xs ys. TellsHeadRead {H = Head} {E = F} (ReadsHead IsHeadText 16384 xs) xs old.1 ys mid.1 (Ok (read.Whole head)))
     → Told (stream mid left_mid) (stream new left_new) (λ xs ys. TellsRequest {E = E} head at xs mid.1 ys new.1 r)
     → Told (stream old left) (stream new left_new) (λ xs ys. TellsMessage {E = E} xs old.1 ys new.1 r)
 request_message old mid new left left_mid left_new head at r is first second = λ xs told.
@@ -44,23 +46,23 @@ request_message old mid new left left_mid left_new head at r is first second = �
 
 -- ---- without a head
 
-pub nothing_message : {E F : Type 0} (old new : Buffer) (left left_new : Option (List ℕ)) → Told (stream old left) (stream new left_new) (λ xs ys. TellsHeadRead {E = F} xs old.1 ys new.1 (Ok read.Nothing))
+pub nothing_message : {E F : Type 0} (old new : Buffer) (left left_new : Option (List ℕ)) → Told (stream old left) (stream new left_new) (λ xs ys. TellsHeadRead {H = Head} {E = F} (ReadsHead IsHeadText 16384 xs) xs old.1 ys new.1 (Ok read.Nothing))
     → Told (stream old left) (stream new left_new) (λ xs ys. TellsMessage {E = E} xs old.1 ys new.1 (Ok message.End))
 nothing_message old new left left_new first = λ xs told. let h = first xs told in (h.0, h.1, record { moves = h.2.moves; answers = (nothing, h.2.found, refl) })
 
-pub cut_message : {E F : Type 0} (old new : Buffer) (left left_new : Option (List ℕ)) (at : ℕ) → at ≡ old.1 → Told (stream old left) (stream new left_new) (λ xs ys. TellsHeadRead {E = F} xs old.1 ys new.1 (Ok read.Cut))
+pub cut_message : {E F : Type 0} (old new : Buffer) (left left_new : Option (List ℕ)) (at : ℕ) → at ≡ old.1 → Told (stream old left) (stream new left_new) (λ xs ys. TellsHeadRead {H = Head} {E = F} (ReadsHead IsHeadText 16384 xs) xs old.1 ys new.1 (Ok read.Cut))
     → Told (stream old left) (stream new left_new) (λ xs ys. TellsMessage {E = E} xs old.1 ys new.1 (Ok (message.Truncated at)))
 cut_message old new left left_new at is first = λ xs told. let h = first xs told in (h.0, h.1, record { moves = h.2.moves; answers = (is, (cut, h.2.found, refl)) })
 
-pub refused_message : {E F : Type 0} (old new : Buffer) (left left_new : Option (List ℕ)) (at code : ℕ) → at ≡ old.1 → Told (stream old left) (stream new left_new) (λ xs ys. TellsHeadRead {E = F} xs old.1 ys new.1 (Ok (read.Refused code)))
+pub refused_message : {E F : Type 0} (old new : Buffer) (left left_new : Option (List ℕ)) (at code : ℕ) → at ≡ old.1 → Told (stream old left) (stream new left_new) (λ xs ys. TellsHeadRead {H = Head} {E = F} (ReadsHead IsHeadText 16384 xs) xs old.1 ys new.1 (Ok (read.Refused code)))
     → Told (stream old left) (stream new left_new) (λ xs ys. TellsMessage {E = E} xs old.1 ys new.1 (Ok (message.Bad at code)))
 refused_message old new left left_new at code is first = λ xs told. let h = first xs told in (h.0, h.1, record { moves = h.2.moves; answers = (is, (faulty code, h.2.found, refl)) })
 
-pub failed_message : {E F : Type 0} (old new : Buffer) (left left_new : Option (List ℕ)) → Told (stream old left) (stream new left_new) (λ xs ys. TellsHeadRead {E = F} xs old.1 ys new.1 (Ok read.Failed))
+pub failed_message : {E F : Type 0} (old new : Buffer) (left left_new : Option (List ℕ)) → Told (stream old left) (stream new left_new) (λ xs ys. TellsHeadRead {H = Head} {E = F} (ReadsHead IsHeadText 16384 xs) xs old.1 ys new.1 (Ok read.Failed))
     → Told (stream old left) (stream new left_new) (λ xs ys. TellsMessage {E = E} xs old.1 ys new.1 (Ok message.ReadFault))
 failed_message old new left left_new first = λ xs told. let h = first xs told in (h.0, h.1, record { moves = h.2.moves; answers = tt })
 
-pub error_message : {E F : Type 0} (old new : Buffer) (left left_new : Option (List ℕ)) (e : E) (f : F) → Told (stream old left) (stream new left_new) (λ xs ys. TellsHeadRead {E = F} xs old.1 ys new.1 (Err f))
+pub error_message : {E F : Type 0} (old new : Buffer) (left left_new : Option (List ℕ)) (e : E) (f : F) → Told (stream old left) (stream new left_new) (λ xs ys. TellsHeadRead {H = Head} {E = F} (ReadsHead IsHeadText 16384 xs) xs old.1 ys new.1 (Err f))
     → Told (stream old left) (stream new left_new) (λ xs ys. TellsMessage {E = E} xs old.1 ys new.1 (Err e))
 error_message old new left left_new e f first = λ xs told. let h = first xs told in (h.0, h.1, record { moves = h.2.moves; answers = tt })
 

@@ -2,5 +2,8 @@ pub mod Streams
 pub mod Parts
 pub mod Heads
 pub mod Bodies
+pub mod OpenBodies
+pub mod Finals
 pub mod Wires
+pub mod Replies
 pub mod Writes

@@ -33,14 +33,14 @@ TellsLine bytes left n m (Ok line.Bad) = IsBadLine bytes
 TellsLine bytes left n m (Ok line.Failed) = Rose n m
 TellsLine bytes left n m (Err e) = ⊤
 
-abbrev pub TellsBlank : {E : Type 0} → List ℕ → Option (List ℕ) → ℕ → ℕ → Result Blank E → Type 0
-TellsBlank bytes left n m (Ok (blank.Start start)) =
-    (start ≡ blank_len (take 16384 bytes)) × (start + 2 ≤ length (take 16384 bytes))
-TellsBlank bytes left n m (Ok blank.TooLarge) =
-    (16384 ≤ length bytes) × (length (take 16384 bytes) < blank_len (take 16384 bytes) + 2)
-TellsBlank bytes left n m (Ok blank.Ended) = IsEnd left × (length bytes < 16384) × (length bytes < blank_len bytes + 2)
-TellsBlank bytes left n m (Ok blank.Failed) = Rose n m
-TellsBlank bytes left n m (Err e) = ⊤
+abbrev pub TellsBlank : {E : Type 0} → ℕ → List ℕ → Option (List ℕ) → ℕ → ℕ → Result Blank E → Type 0
+TellsBlank most bytes left n m (Ok (blank.Start start)) =
+    (start ≡ blank_len (take most bytes)) × (start + 2 ≤ length (take most bytes))
+TellsBlank most bytes left n m (Ok blank.TooLarge) =
+    (most ≤ length bytes) × (length (take most bytes) < blank_len (take most bytes) + 2)
+TellsBlank most bytes left n m (Ok blank.Ended) = IsEnd left × (length bytes < most) × (length bytes < blank_len bytes + 2)
+TellsBlank most bytes left n m (Ok blank.Failed) = Rose n m
+TellsBlank most bytes left n m (Err e) = ⊤
 
 abbrev pub TellsEndIn : {E : Type 0} → ℕ → ℕ → List ℕ → Option (List ℕ) → ℕ → ℕ → Result EndIn E → Type 0
 TellsEndIn most start bytes left n m (Ok (end.At place)) = IsFirstEnd (take most bytes) start place

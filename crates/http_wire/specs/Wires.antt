@@ -1,7 +1,8 @@
 -- What the next message of a connection is.
 use Rattle.std.specs.Prelude.{◌≡◌, ℕ, List, Result, Ok, Err, ⊤}
 use Rattle.edge_core.specs.Faults.{Rose}
-use Rattle.http_message.specs.Messages.{HeadReading, headed, ReadsBehindHead, Reading, request, ended, truncated, bad, ReadsMessage}
+use Rattle.http_message.specs.HeadReadings.{headed}
+use Rattle.http_message.specs.Messages.{ReadsBehindHead, Reading, request, ended, truncated, bad, ReadsMessage}
 use Rattle.http_message.specs.declared.head.Head.{Head}
 use Rattle.http_wire.specs.Streams.{Moves}
 use Rattle.http_wire.specs.declared.wire.Message.{Message}

@@ -1,7 +1,8 @@
-// Reading the head of a request.
+// Reading a head, and the head of a request.
 ghost use Rattle.std.specs.Prelude.{◌≡◌, ◌≤◌, IfOk, MatchBool, length};
 ghost use Rattle.http_message.specs.Ends.{blank_len};
-ghost use Rattle.http_message.specs.Messages.{has_many_lines};
+ghost use Rattle.http_message.specs.HeadReadings.{has_many_lines, ReadsHead};
+ghost use Rattle.http_message.specs.Heads.{IsHeadText};
 ghost use Rattle.http_wire.specs.Streams.{stream, Grows, Told};
 ghost use Rattle.http_wire.specs.Heads.{TellsHeadEnd, TellsHeadRead, TellsText, RoseWhereHeadFailed};
 
@@ -28,11 +29,11 @@ pub(crate) enum HeadEnd {
     Failed,
 }
 
-/// What reading a head came to.
+/// What reading a head came to, of which `H` is kept.
 #[derive(Drop)]
-pub(crate) enum HeadRead {
+pub(crate) enum HeadRead<H> {
     /// The head, which was used.
-    Whole(Head),
+    Whole(H),
     /// The input ended, and only empty lines were left.
     Nothing,
     /// The input ended inside a head.
@@ -50,13 +51,17 @@ fn is_blank(bytes: &[u8]) -> bool
     blank_len(bytes) == bytes.len()
 }
 
-/// Reads until the head at the front has ended. Nothing is used.
-pub(crate) fn head_end<S: Source>(inbox: &mut Inbox, source: &mut S) -> Result<HeadEnd, AllocError>
+/// Reads until the head at the front has ended, within so many bytes. Nothing is used.
+pub(crate) fn head_end<S: Source>(
+    inbox: &mut Inbox,
+    source: &mut S,
+    most: usize,
+) -> Result<HeadEnd, AllocError>
     ensures grows { Grows inbox.old inbox.new (S.left source.old) (S.left source.new) }
     ensures later { S.faults source.old ≤ S.faults source.new }
-    ensures told { TellsHeadEnd inbox.new.0 (S.left source.new) (S.faults source.old) (S.faults source.new) result }
+    ensures told { TellsHeadEnd most inbox.new.0 (S.left source.new) (S.faults source.old) (S.faults source.new) result }
 {
-    let start = match await_start(inbox, source)? {
+    let start = match await_start(inbox, source, most)? {
         Blank::Start(start) => start,
         Blank::TooLarge => return Ok(HeadEnd::TooLarge),
         Blank::Ended => {
@@ -67,7 +72,7 @@ pub(crate) fn head_end<S: Source>(inbox: &mut Inbox, source: &mut S) -> Result<H
         }
         Blank::Failed => return Ok(HeadEnd::Failed),
     };
-    match await_end(inbox, source, MOST, start)? {
+    match await_end(inbox, source, most, start)? {
         EndIn::At(end) => Ok(HeadEnd::At(end)),
         EndIn::TooLarge => Ok(HeadEnd::TooLarge),
         EndIn::Ended => Ok(HeadEnd::Cut),
@@ -76,15 +81,15 @@ pub(crate) fn head_end<S: Source>(inbox: &mut Inbox, source: &mut S) -> Result<H
 }
 
 // Whether more than 64 field lines stand in the text.
-fn has_many_lines(text: &[u8]) -> bool
+pub(crate) fn has_many_lines(text: &[u8]) -> bool
     ensures { result ≡ has_many_lines text.now }
 {
     line_count(&text[blank_len(text)..]) > 66
 }
 
 // The head that the text is, or why it is none.
-fn head_of_text(alloc: Global, text: &[u8]) -> Result<HeadRead, AllocError>
-    ensures { IfOk result (TellsText text.now) }
+fn head_of_text(alloc: Global, text: &[u8]) -> Result<HeadRead<Head>, AllocError>
+    ensures { IfOk result (TellsText IsHeadText text.now) }
 {
     if has_many_lines(text) {
         return Ok(HeadRead::Refused(HEAD_TOO_LARGE));
@@ -95,17 +100,17 @@ fn head_of_text(alloc: Global, text: &[u8]) -> Result<HeadRead, AllocError>
     }
 }
 
-/// Reads the head at the front, and uses it.
+/// Reads the head of a request at the front, and uses it.
 pub(crate) fn read_head<S: Source>(
     alloc: Global,
     inbox: &mut Inbox,
     source: &mut S,
-) -> Result<HeadRead, AllocError>
+) -> Result<HeadRead<Head>, AllocError>
     ensures later { S.faults source.old ≤ S.faults source.new }
     ensures cause { RoseWhereHeadFailed (S.faults source.old) (S.faults source.new) result }
-    ensures told { Told (stream inbox.old (S.left source.old)) (stream inbox.new (S.left source.new)) (λ xs ys. TellsHeadRead xs inbox.old.1 ys inbox.new.1 result) }
+    ensures told { Told (stream inbox.old (S.left source.old)) (stream inbox.new (S.left source.new)) (λ xs ys. TellsHeadRead (ReadsHead IsHeadText 16384 xs) xs inbox.old.1 ys inbox.new.1 result) }
 {
-    match head_end(inbox, source)? {
+    match head_end(inbox, source, MOST)? {
         HeadEnd::At(end) => {
             let found = head_of_text(alloc, &inbox.bytes()[..end])?;
             inbox.consume(end);

@@ -1,6 +1,7 @@
 // The bytes that were read from a source and not yet used.
-ghost use Rattle.std.specs.Prelude.{◌≡◌, ◌≤◌, ◌+◌, ◌-◌, ◌^◌, [], drop, length, min};
-ghost use Rattle.http_wire.specs.Streams.{Fills, Grows};
+ghost use Rattle.std.specs.Prelude.{◌≡◌, ◌≤◌, ◌<◌, ◌+◌, ◌-◌, ◌^◌, [], drop, length, min};
+ghost use Rattle.http_wire.specs.OpenBodies.{OnMoreFilled, RoseWhereFillFailed, TellsPour};
+ghost use Rattle.http_wire.specs.Streams.{stream, Fills, Grows, Told};
 
 use edge_core::{Source, Took};
 use std::alloc::{AllocError, Global};
@@ -98,6 +99,33 @@ impl Inbox {
         match source.read(&mut piece) {
             Took::Bytes(count) => {
                 self.buffer.extend_from_slice(&piece[..count])?;
+                Ok(Filled::More)
+            }
+            Took::End => Ok(Filled::End),
+            Took::Failed => Ok(Filled::Failed),
+        }
+    }
+
+    /// Reads once, where no bytes are left here, and puts what came behind the body, as used. Want of memory comes before the
+    /// read.
+    pub(crate) fn pour<S: Source>(
+        &mut self,
+        source: &mut S,
+        body: &mut Vec<u8>,
+    ) -> Result<Filled, AllocError>
+        requires { self.old.0 ≡ [] }
+        ensures empty { self.new.0 ≡ [] }
+        ensures later { S.faults source.old ≤ S.faults source.new }
+        ensures cause { RoseWhereFillFailed (S.faults source.old) (S.faults source.new) result }
+        ensures told { Told (stream self.old (S.left source.old)) (stream self.new (S.left source.new)) (λ xs ys. TellsPour xs self.old.1 ys self.new.1 body.old.items body.new.items result) }
+        ensures grows { OnMoreFilled result (length body.old.items < length body.new.items) }
+    {
+        let mut piece = [0u8; PIECE];
+        body.reserve(PIECE)?;
+        match source.read(&mut piece) {
+            Took::Bytes(count) => {
+                body.extend_from_slice(&piece[..count])?;
+                self.place = self.place.saturating_add(count as u64);
                 Ok(Filled::More)
             }
             Took::End => Ok(Filled::End),

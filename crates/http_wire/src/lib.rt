@@ -4,12 +4,18 @@
 mod body;
 mod head;
 mod inbox;
+mod open_body;
 mod reading;
+mod reply;
+mod response_head;
 mod wire;
 mod writing;
 
+pub use reply::Reply;
 pub use wire::{Message, Wire};
 pub use writing::write_all;
 
+#[cfg(test)]
+mod session_tests;
 #[cfg(test)]
 mod tests;

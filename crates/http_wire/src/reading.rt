@@ -9,7 +9,7 @@ use http_message::chunk::chunk_line;
 use http_message::ends::{blank_len_from, end_after};
 use std::alloc::AllocError;
 
-/// The most bytes of a head, and of trailers.
+/// The most bytes of a message's heads, and of trailers.
 pub(crate) const MOST: usize = 16_384;
 
 /// The empty lines at the front.
@@ -111,20 +111,24 @@ fn front<'a>(bytes: &'a [u8], most: usize) -> &'a [u8]
     &bytes[..bytes.len().min(most)]
 }
 
-/// Reads until two bytes are there behind the empty lines in front. Each empty line is looked at once.
-pub(crate) fn await_start<S: Source>(inbox: &mut Inbox, source: &mut S) -> Result<Blank, AllocError>
+/// Reads until two bytes are there behind the empty lines in front, within so many bytes. Each empty line is looked at once.
+pub(crate) fn await_start<S: Source>(
+    inbox: &mut Inbox,
+    source: &mut S,
+    most: usize,
+) -> Result<Blank, AllocError>
     ensures grows { Grows inbox.old inbox.new (S.left source.old) (S.left source.new) }
     ensures later { S.faults source.old ≤ S.faults source.new }
-    ensures told { TellsBlank inbox.new.0 (S.left source.new) (S.faults source.old) (S.faults source.new) result }
+    ensures told { TellsBlank most inbox.new.0 (S.left source.new) (S.faults source.old) (S.faults source.new) result }
 {
     let mut known = 0;
     'turns: loop {
-        let front = front(inbox.bytes(), MOST);
+        let front = front(inbox.bytes(), most);
         known = blank_len_from(front, known);
         if known + 2 <= front.len() {
             return Ok(Blank::Start(known));
         }
-        if front.len() == MOST {
+        if front.len() == most {
             return Ok(Blank::TooLarge);
         }
         match inbox.fill(source)? {

@@ -3,10 +3,12 @@ ghost use Rattle.std.specs.Prelude.{◌≡◌, ◌≤◌, []};
 ghost use Rattle.http_message.specs.Framing.{request_form};
 ghost use Rattle.http_wire.specs.Streams.{stream, Told};
 ghost use Rattle.http_wire.specs.Wires.{RoseAtFault, TellsMessage, TellsRequest};
+ghost use Rattle.http_wire.specs.Replies.{RoseAtReplyFault, TellsReply};
 
 use crate::body::{BodyRead, read_body};
 use crate::head::{HeadRead, read_head};
 use crate::inbox::Inbox;
+use crate::reply::{Reply, next_reply};
 use edge_core::Source;
 use http_message::framing::{closes, request_form};
 use http_message::head::Head;
@@ -76,6 +78,27 @@ impl Wire {
         ensures told { Told (stream self.old (S.left source.old)) (stream self.new (S.left source.new)) (λ xs ys. TellsMessage xs self.old.1 ys self.new.1 result) }
     {
         next_message(alloc, &mut self.inbox, source)
+    }
+
+    /// Reads the next response from the source (RFC 9112), however its pieces are cut. Interim heads, of status 1xx, are passed
+    /// over. The body is framed by Transfer-Encoding or by Content-Length; where there is neither it goes on to the end of the
+    /// input. It has at most 256 MiB. The status and the request aren't looked at, so a response of status 204 or 304, or to
+    /// HEAD, which RFC 9112, section 6.3, leaves without a body, is read like any other.
+    ///
+    /// Of a stream that is told, the bytes that were read and not used and then those that the source has left, the answer is its
+    /// reading as a response, and what stands behind a response in the stream is left after it. The places are those of the
+    /// stream's first byte. `ReadFault` comes only where the source's count of faults rose in this call. After it, and after want
+    /// of memory, which is the error, what is left is what stood behind the bytes that were used.
+    pub fn response_of<S: Source>(
+        &mut self,
+        alloc: Global,
+        source: &mut S,
+    ) -> Result<Reply, AllocError>
+        ensures later { S.faults source.old ≤ S.faults source.new }
+        ensures cause { RoseAtReplyFault (S.faults source.old) (S.faults source.new) result }
+        ensures told { Told (stream self.old (S.left source.old)) (stream self.new (S.left source.new)) (λ xs ys. TellsReply xs self.old.1 ys self.new.1 result) }
+    {
+        next_reply(alloc, &mut self.inbox, source)
     }
 }
 

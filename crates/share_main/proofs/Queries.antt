@@ -1,12 +1,11 @@
 -- From the bytes of the input to the query that they ask.
 use Rattle.std.proofs.Common.{◌≡◌, ℕ, ◌<◌, ◌≤◌, List, [], ◌++◌, length, Option, Some, None, refl, sym, ap, ◌∙◌, subst, arith, append_assoc, length-append, Result, Ok, Err, Bool, true, false, true≢false}
-use Rattle.std.specs.Prelude.{IfSome, option_map, nat_le, if◌then◌else◌}
+use Rattle.std.specs.Prelude.{IfSome, nat_le, if◌then◌else◌}
 use Rattle.std.specs.Bool.{OnTrue}
 use Rattle.std.specs.Io.KnownBytes.{prepend_known}
 use Rattle.std.proofs.lemmas.List.{append-nil}
 use Rattle.std.proofs.lemmas.Bool.{le-leb}
 use Rattle.std.proofs.lemmas.Bool.Decides.{nat_tests}
-use Rattle.edge_core.specs.Faults.{Rose}
 use Rattle.edge_core.specs.Objects.{Grows}
 use Rattle.edge_core.proofs.Growth.{Grows-itself}
 use Rattle.share_request.specs.Query.{query_in}
@@ -17,7 +16,6 @@ use Rattle.share_main.specs.Run.{Means}
 use Rattle.share_main.specs.Steps.{Runs}
 use Rattle.share_main.specs.declared.ends.End.{End}
 use Rattle.share_main.specs.declared.ends.End.TheVariants as ends
-use Rattle.share_main.specs.declared.words.Command.{Command}
 use Rattle.share_main.specs.declared.words.Command.TheVariants as command
 
 -- one piece more was read

@@ -1,5 +1,5 @@
 -- The lines of a version under a predicate.
-use Rattle.std.proofs.Common.{◌≡◌, ℕ, ◌<◌, ◌+◌, List, [], ◌∷◌, ◌++◌, length, map, take, Option, Some, None, Result, Ok, Err, Vec, Global, Bool, true, false, refl, sym, ap, ◌∙◌, subst, string_bytes, flat_map}
+use Rattle.std.proofs.Common.{◌≡◌, ℕ, ◌+◌, List, [], ◌∷◌, ◌++◌, map, take, Option, Some, None, Result, Ok, Err, Vec, Global, Bool, true, refl, sym, ap, ◌∙◌, subst, flat_map}
 use Rattle.std.specs.Prelude.{IfOk, filter}
 use Rattle.std.specs.Arc.{arc_value}
 use Rattle.std.specs.declared.sync.Arc.{Arc}
@@ -21,7 +21,6 @@ use Rattle.std.proofs.lemmas.List.{take-map}
 use Rattle.std.specs.declared.alloc.AllocError.{AllocError}
 use Rattle.share_main.specs.Table.{IsBound, IsLog, files_under, lines_at, lines_in, lines_of_log, lines_of_state, passes, pred_by, state_lines}
 use Rattle.share_main.specs.declared.table.LinesFault.{LinesFault}
-use Rattle.share_main.specs.declared.table.LinesFault.TheVariants as fault
 
 -- files that pass one test are those that pass another which tells the same
 filter_same : {X : Type 0} (p q : X → Bool) (xs : List X) → ((x : X) → p x ≡ q x) → filter p xs ≡ filter q xs

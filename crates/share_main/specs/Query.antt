@@ -1,7 +1,6 @@
 -- What a query asks, by the input of the program (Delta Sharing PROTOCOL.md, "Read Data from a Table").
-use Rattle.std.specs.Prelude.{◌≡◌, ℕ, ◌^◌, ◌<◌, ◌≤◌, ℤ, ◌&&◌, List, [], Bool, true, false, Option, Some, None, IfSome, Result, Ok, Err, ⊤, is_none, length, nat_le, option_map, Vec, if◌then◌else◌}
+use Rattle.std.specs.Prelude.{◌≡◌, ℕ, ◌^◌, ◌<◌, ◌≤◌, ℤ, ◌&&◌, List, [], Bool, Option, Some, None, IfSome, Result, Ok, Err, ⊤, is_none, length, nat_le, option_map, Vec, if◌then◌else◌}
 use Rattle.std.specs.declared.alloc.Global.{Global}
-use Rattle.std.specs.Io.KnownBytes.{prepend_known}
 use Rattle.edge_core.specs.Faults.{Rose}
 use Rattle.log_replay.specs.declared.times.Bound.{Bound}
 use Rattle.log_replay.specs.declared.times.Bound.TheVariants as bound

@@ -1,5 +1,5 @@
 -- What one run does to the outside, and why it ended so.
-use Rattle.std.specs.Prelude.{◌≡◌, ℕ, ◌⊎◌, List, [], ◌∷◌, take, Option, Some, None, IfSome, Result, Ok, Err, ⊤}
+use Rattle.std.specs.Prelude.{◌≡◌, ℕ, ◌⊎◌, List, take, Option, Some, None, IfSome, Result, Ok, Err, ⊤}
 use Rattle.std.specs.Bool.{OnTrue}
 use Rattle.std.specs.Io.KnownBytes.{append_known}
 use Rattle.edge_core.specs.Faults.{Rose}

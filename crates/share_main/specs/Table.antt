@@ -1,5 +1,5 @@
 -- The lines of a query's answer, as a function of the store's objects.
-use Rattle.std.specs.Prelude.{◌≡◌, ℕ, ◌+◌, List, [], ◌∷◌, ◌++◌, filter, flat_map, take, Option, Some, None, Result, Ok, Err, Vec, Bool, true, false, ⊤}
+use Rattle.std.specs.Prelude.{◌≡◌, ℕ, ◌+◌, List, ◌++◌, filter, flat_map, take, Option, Some, None, Result, Ok, Err, Vec, Bool, true, false, ⊤}
 use Rattle.std.specs.declared.alloc.Global.{Global}
 use Rattle.edge_core.specs.Objects.{Objects}
 use Rattle.log_actions.specs.declared.actions.Action.{Action}

@@ -1,4 +1,4 @@
-use Rattle.std.proofs.Common.{◌≡◌, length, map, ap, arith}
+use Rattle.std.proofs.Common.{length, ap, arith}
 use Rattle.std.proofs.lemmas.List.{length-map}
 use Rattle.http_message.specs.Fields.{field_parts}
 use Rattle.http_message.proofs.HeadFacts.{front_is_whole, lacks_whole, whole_front}

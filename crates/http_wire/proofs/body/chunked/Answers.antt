@@ -1,4 +1,4 @@
-use Rattle.std.proofs.Common.{◌≡◌, ◌+◌, ◌-◌, ◌<◌, ◌≤◌, Ok, length, ap, arith, rules}
+use Rattle.std.proofs.Common.{◌≡◌, ◌-◌, Ok, length, ap, arith, rules}
 use Rattle.http_wire.specs.declared.body.Part.TheVariants as part
 use Rattle.http_wire.proofs.Decoding.{room_is, decoding_begins, decoding_more, decoding_whole, decoding_ended, decoding_refused, decoding_failed, decoding_kept}
 use Rattle.http_wire.proofs.body.chunked.Goals as goal

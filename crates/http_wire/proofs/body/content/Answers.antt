@@ -1,7 +1,7 @@
-use Rattle.std.proofs.Common.{◌≡◌, ◌++◌, ◌+◌, ◌≤◌, Ok, None, Some, length, take, subst, rules}
+use Rattle.std.proofs.Common.{◌≡◌, ◌++◌, Ok, None, Some, take, subst, rules}
 use Rattle.http_message.specs.Bodies.{content_stop, refused}
 use Rattle.http_wire.specs.declared.body.Part.TheVariants as part
-use Rattle.http_wire.proofs.Contents.{told_content, told_content_kept, bad_content, open_content_found}
+use Rattle.http_wire.proofs.Contents.{told_content, told_content_kept, bad_content}
 use Rattle.http_wire.proofs.body.content.Goals as goal
 
 pub returns-then-not-is_crlf_at-clause-told : goal.returns-then-not-is_crlf_at-clause-told

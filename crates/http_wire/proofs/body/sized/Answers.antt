@@ -1,4 +1,4 @@
-use Rattle.std.proofs.Common.{◌≡◌, ◌++◌, [], List, ℕ, length, take, sym, ap, ◌∙◌, rules}
+use Rattle.std.proofs.Common.{◌≡◌, ◌++◌, List, ℕ, take, ap, ◌∙◌, rules}
 use Rattle.http_wire.proofs.Decoding.{sized_whole, sized_ended}
 use Rattle.http_wire.proofs.body.sized.Goals as goal
 

@@ -1,5 +1,4 @@
-use Rattle.std.proofs.Common.{◌≡◌, ℕ, ◌+◌, ◌-◌, ◌<◌, ◌≤◌, List, ◌++◌, length, take, drop}
-use Rattle.http_message.specs.Ends.{blank_len, HasNoEndTo}
+use Rattle.std.proofs.Common.{◌-◌, ◌≤◌, length}
 use Rattle.http_wire.specs.Streams.{Grows}
 use Rattle.http_wire.proofs.reading.await_bytes.Given as goal
 

@@ -1,5 +1,4 @@
-use Rattle.std.proofs.Common.{◌≡◌, Ok, Err, sym, ◌∙◌}
-use Rattle.http_message.specs.Framing.{request_form}
+use Rattle.std.proofs.Common.{sym, ◌∙◌}
 use Rattle.http_wire.proofs.Wires.{unformed_request, whole_request, refused_request}
 use Rattle.http_wire.proofs.wire.read_request.Goals as goal
 

@@ -1,4 +1,4 @@
-use Rattle.std.proofs.Common.{◌≡◌, ◌++◌, drop, take, ap, ◌∙◌, rules, arith}
+use Rattle.std.proofs.Common.{◌≡◌, ◌++◌, drop, take, ap, ◌∙◌, rules}
 use Rattle.std.proofs.lemmas.List.{drop-append-le}
 use Rattle.http_wire.proofs.Streams.{read-grows}
 use Rattle.http_wire.proofs.inbox.Inbox.fill.Goals as goal

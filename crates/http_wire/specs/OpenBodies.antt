@@ -1,0 +1,40 @@
+-- What reading bytes straight into a body does.
+use Rattle.std.specs.Prelude.{◌≡◌, ℕ, ◌+◌, ◌-◌, ◌^◌, min, List, [], ◌++◌, length, Result, Ok, Err, ⊤}
+use Rattle.edge_core.specs.Faults.{Rose}
+use Rattle.http_wire.specs.Streams.{Buffer, Moves}
+use Rattle.http_wire.specs.declared.inbox.Filled.{Filled}
+use Rattle.http_wire.specs.declared.inbox.Filled.TheVariants as filled
+
+-- all bytes were used, and are the body; on want of memory nothing was used
+abbrev pub IsPoured : {A E : Type 0} → Buffer → Buffer → List ℕ → Result A E → Type 0
+IsPoured old new body (Ok all) = (new.0 ≡ []) × (new.1 ≡ min (old.1 + length old.0) (2 ^ 64 - 1)) × (body ≡ old.0)
+IsPoured old new body (Err e) = new ≡ old
+
+-- the bytes of one read went behind the body
+abbrev pub PourFound : {E : Type 0} → (xs ys old new : List ℕ) → Result Filled E → Type 0
+PourFound xs ys old new (Ok filled.More) = (more : List ℕ) × (xs ≡ more ++ ys) × (new ≡ old ++ more)
+PourFound xs ys old new (Ok filled.End) = (xs ≡ []) × (ys ≡ []) × (new ≡ old)
+PourFound xs ys old new (Ok filled.Failed) = ⊤
+PourFound xs ys old new (Err e) = ⊤
+
+pub record TellsPour {E : Type 0} (xs : List ℕ) (p : ℕ) (ys : List ℕ) (q : ℕ) (old new : List ℕ) (r : Result Filled E) : Type 0 where
+  pub moves : Moves xs p ys q
+  pub found : PourFound xs ys old new r
+
+abbrev pub RoseWhereFillFailed : {E : Type 0} → ℕ → ℕ → Result Filled E → Type 0
+RoseWhereFillFailed n m (Ok filled.More) = ⊤
+RoseWhereFillFailed n m (Ok filled.End) = ⊤
+RoseWhereFillFailed n m (Ok filled.Failed) = Rose n m
+RoseWhereFillFailed n m (Err e) = ⊤
+
+-- P, where bytes came
+abbrev pub OnMoreFilled : {E : Type 0} → Result Filled E → Type 0 → Type 0
+OnMoreFilled (Ok filled.More) P = P
+OnMoreFilled (Ok filled.End) P = ⊤
+OnMoreFilled (Ok filled.Failed) P = ⊤
+OnMoreFilled (Err e) P = ⊤
+
+-- the body so far, and then what is left
+pub record IsPouring (xs : List ℕ) (p : ℕ) (ys : List ℕ) (q : ℕ) (body : List ℕ) : Type 0 where
+  pub moves : Moves xs p ys q
+  pub front : xs ≡ body ++ ys

@@ -1,0 +1,248 @@
+// Sessions of requests and responses, cut in many ways.
+use crate::{Message, Reply, Wire};
+use edge_core::MemSource;
+use std::alloc::{AllocError, Global};
+
+// Three requests, the second of which has chunks, an extension and a trailer.
+const SESSION: &[u8] =
+    b"GET /a HTTP/1.1\r\nHost: x\r\n\r\nPOST /b HTTP/1.1\r\nHost: x\r\nTransfer-Encoding: chunked\r\n\r\n4;n=v\r\nWiki\r\n5\r\npedia\r\n0\r\nA: b\r\n\r\n\r\nPUT /c HTTP/1.0\nContent-Length: 3\n\nxyz";
+
+// Whether the message is the session's of that number: its three requests, and then the end.
+fn is_of_session(number: u8, message: &Message) -> bool {
+    match message {
+        Message::Request(head, body, close) => match number {
+            0 => head.method.as_str() == "GET" && body.is_empty() && !*close,
+            1 => {
+                head.target.as_str() == "/b"
+                    && body.as_slice() == b"Wikipedia".as_slice()
+                    && !*close
+            }
+            2 => head.minor == 0 && body.as_slice() == b"xyz".as_slice() && *close,
+            _ => false,
+        },
+        Message::End => number == 3,
+        Message::Truncated { .. } => false,
+        Message::Bad { .. } => false,
+        Message::ReadFault => false,
+    }
+}
+
+fn is_fault(message: &Message) -> bool {
+    match message {
+        Message::ReadFault => true,
+        Message::Request(..) => false,
+        Message::End => false,
+        Message::Truncated { .. } => false,
+        Message::Bad { .. } => false,
+    }
+}
+
+// Whether the session's four messages come over pieces of those sizes.
+fn is_session(alloc: Global, sizes: Vec<usize>) -> Result<bool, AllocError> {
+    let bytes = Vec::from_slice(alloc, SESSION)?;
+    let mut source = MemSource::new(alloc, bytes).with_sizes(sizes);
+    let mut wire = Wire::new(alloc);
+    for number in 0..4u8 {
+        if !is_of_session(number, &wire.next(alloc, &mut source)?) {
+            return Ok(false);
+        }
+    }
+    Ok(true)
+}
+
+#[test]
+fn a_session_is_the_same_however_it_is_cut(rt: HostRuntime) -> Result<(), AllocError> {
+    let a = rt.alloc();
+    assert!(&rt; is_session(a, Vec::new(a))?);
+    assert!(&rt; is_session(a, vec![in a; 1usize; SESSION.len()]?)?);
+    for cut in 1..SESSION.len() {
+        assert!(&rt; is_session(a, Vec::from_slice(a, &[cut])?)?);
+    }
+    Ok(())
+}
+
+// Whether the session's messages come up to a fault, over single bytes, where the read of that number fails.
+fn is_session_to_fault(alloc: Global, fails: u64) -> Result<bool, AllocError> {
+    let bytes = Vec::from_slice(alloc, SESSION)?;
+    let mut source = MemSource::new(alloc, bytes)
+        .with_sizes(vec![in alloc; 1usize; SESSION.len()]?)
+        .with_fails(Vec::from_slice(alloc, &[fails])?);
+    let mut wire = Wire::new(alloc);
+    for number in 0..4u8 {
+        let message = wire.next(alloc, &mut source)?;
+        if is_fault(&message) {
+            return Ok(true);
+        }
+        if !is_of_session(number, &message) {
+            return Ok(false);
+        }
+    }
+    Ok(false)
+}
+
+#[test]
+fn a_read_that_fails_is_a_fault_wherever_it_is(rt: HostRuntime) -> Result<(), AllocError> {
+    for fails in 0..SESSION.len() as u64 {
+        assert!(&rt; is_session_to_fault(rt.alloc(), fails)?);
+    }
+    assert!(&rt; !is_session_to_fault(rt.alloc(), 10_000)?);
+    Ok(())
+}
+
+// Whether the reply is a response of that status and body.
+fn is_response(reply: &Reply, status: u16, body: &[u8]) -> bool {
+    match reply {
+        Reply::Response(code, _, content) => *code == status && content.as_slice() == body,
+        Reply::Bad { .. } => false,
+        Reply::Truncated { .. } => false,
+        Reply::ReadFault => false,
+    }
+}
+
+// Whether the text's first response is one of that status and body, over pieces of those sizes.
+fn reads_as(
+    alloc: Global,
+    text: &[u8],
+    sizes: Vec<usize>,
+    status: u16,
+    body: &[u8],
+) -> Result<bool, AllocError> {
+    let bytes = Vec::from_slice(alloc, text)?;
+    let mut source = MemSource::new(alloc, bytes).with_sizes(sizes);
+    let mut wire = Wire::new(alloc);
+    Ok(is_response(&wire.response_of(alloc, &mut source)?, status, body))
+}
+
+// Whether it is so however the text is cut in two, in single bytes, and whole.
+fn always_reads_as(
+    alloc: Global,
+    text: &[u8],
+    status: u16,
+    body: &[u8],
+) -> Result<bool, AllocError> {
+    for cut in 1..text.len() {
+        if !reads_as(alloc, text, Vec::from_slice(alloc, &[cut])?, status, body)? {
+            return Ok(false);
+        }
+    }
+    let single = vec![in alloc; 1usize; text.len()]?;
+    Ok(
+        reads_as(alloc, text, single, status, body)?
+            && reads_as(alloc, text, Vec::new(alloc), status, body)?,
+    )
+}
+
+const INTERIM: &[u8] =
+    b"HTTP/1.1 100 Continue\r\n\r\n\r\nHTTP/1.1 103 Early Hints\r\nLink: </a>\r\n\r\nHTTP/1.1 200 OK\r\nTransfer-Encoding: chunked\r\n\r\n4\r\nWiki\r\n5\r\npedia\r\n0\r\n\r\nHTTP/1.1 500 No\r\n\r\n";
+
+const TO_THE_END: &[u8] = b"\r\nHTTP/1.0 404\n\nall that is left\r\n\r\n";
+
+#[test]
+fn a_response_is_the_same_however_it_is_cut(rt: HostRuntime) -> Result<(), AllocError> {
+    let a = rt.alloc();
+    assert!(&rt; always_reads_as(a, INTERIM, 200, b"Wikipedia")?);
+    assert!(&rt; always_reads_as(a, TO_THE_END, 404, b"all that is left\r\n\r\n")?);
+    let sized = b"HTTP/1.1 204 No Content\r\nContent-Length: 3\r\n\r\nabcdef";
+    assert!(&rt; always_reads_as(a, sized, 204, b"abc")?);
+    let empty = b"HTTP/1.1 200 OK\r\ncontent-length: 0\r\n\r\n";
+    assert!(&rt; always_reads_as(a, empty, 200, b"")?);
+    Ok(())
+}
+
+// What the answer is, and its place.
+fn told(reply: Reply) -> (&'static str, u64) {
+    match reply {
+        Reply::Response(..) => ("response", 0),
+        Reply::Bad { at } => ("bad", at),
+        Reply::Truncated { at } => ("truncated", at),
+        Reply::ReadFault => ("fault", 0),
+    }
+}
+
+fn answer(alloc: Global, text: &[u8]) -> Result<(&'static str, u64), AllocError> {
+    let mut source = MemSource::new(alloc, Vec::from_slice(alloc, text)?);
+    let mut wire = Wire::new(alloc);
+    Ok(told(wire.response_of(alloc, &mut source)?))
+}
+
+#[test]
+fn responses_that_end_too_early(rt: HostRuntime) -> Result<(), AllocError> {
+    let a = rt.alloc();
+    let truncated = ("truncated", 0);
+    assert!(&rt; answer(a, b"")? == truncated);
+    assert!(&rt; answer(a, b"\r\n\n")? == truncated);
+    assert!(&rt; answer(a, b"HTTP/1.1 200 OK\r\nA: b\r\n")? == truncated);
+    assert!(&rt; answer(a, b"HTTP/1.1 100 Continue\r\n\r\n")? == truncated);
+    assert!(&rt; answer(a, b"HTTP/1.1 200 OK\r\nContent-Length: 3\r\n\r\nab")? == truncated);
+    assert!(&rt;
+        answer(
+            a,
+            b"HTTP/1.1 200 OK\r\nTransfer-Encoding: chunked\r\n\r\n3\r\nabc\r\n"
+        )? == truncated
+    );
+    Ok(())
+}
+
+#[test]
+fn responses_that_break_the_rules(rt: HostRuntime) -> Result<(), AllocError> {
+    let a = rt.alloc();
+    let bad = ("bad", 0);
+    assert!(&rt; answer(a, b"HTTP/2 200 OK\r\n\r\n")? == bad);
+    assert!(&rt; answer(a, b"HTTP/1.1 100 Continue\r\n\r\nHTTP/1.1 20 OK\r\n\r\n")? == bad);
+    assert!(&rt; answer(a, b"HTTP/1.1 200 OK\r\nTransfer-Encoding: gzip\r\n\r\n")? == bad);
+    assert!(&rt;
+        answer(
+            a,
+            b"HTTP/1.1 200 OK\r\nTransfer-Encoding: chunked\r\n\r\nzz"
+        )? == bad
+    );
+    assert!(&rt; answer(a, b"HTTP/1.1 200 OK\r\nContent-Length: 268435457\r\n\r\n")? == bad);
+    Ok(())
+}
+
+// So many interim heads of 25 bytes, and then a head of 38 and an empty body.
+fn behind_interim(alloc: Global, count: usize) -> Result<(&'static str, u64), AllocError> {
+    let mut text = Vec::new(alloc);
+    for _ in 0..count {
+        text.extend_from_slice(b"HTTP/1.1 100 Continue\r\n\r\n")?;
+    }
+    text.extend_from_slice(b"HTTP/1.1 200 OK\r\nContent-Length: 0\r\n\r\n")?;
+    answer(alloc, &text)
+}
+
+#[test]
+fn all_heads_together_have_a_limit(rt: HostRuntime) -> Result<(), AllocError> {
+    // 653 * 25 + 38 = 16,363, and 654 * 25 + 38 = 16,388
+    assert!(&rt; behind_interim(rt.alloc(), 653)? == ("response", 0));
+    assert!(&rt; behind_interim(rt.alloc(), 654)? == ("bad", 0));
+    Ok(())
+}
+
+#[test]
+fn places_are_those_of_responses(rt: HostRuntime) -> Result<(), AllocError> {
+    let a = rt.alloc();
+    let text = b"HTTP/1.1 200 OK\r\nContent-Length: 2\r\n\r\nabHTTP/1.1 100 Continue\r\n\r\n";
+    let mut source = MemSource::new(a, Vec::from_slice(a, text)?);
+    let mut wire = Wire::new(a);
+    assert!(&rt; is_response(&wire.response_of(a, &mut source)?, 200, b"ab"));
+    assert!(&rt; told(wire.response_of(a, &mut source)?) == ("truncated", 40));
+    Ok(())
+}
+
+// The first response over single bytes, where the read of that number fails.
+fn failing(alloc: Global, text: &[u8], fails: u64) -> Result<(&'static str, u64), AllocError> {
+    let mut source = MemSource::new(alloc, Vec::from_slice(alloc, text)?)
+        .with_sizes(vec![in alloc; 1usize; text.len()]?)
+        .with_fails(Vec::from_slice(alloc, &[fails])?);
+    let mut wire = Wire::new(alloc);
+    Ok(told(wire.response_of(alloc, &mut source)?))
+}
+
+#[test]
+fn a_failing_read_of_a_response_is_a_fault(rt: HostRuntime) -> Result<(), AllocError> {
+    for fails in 0..=TO_THE_END.len() as u64 {
+        assert!(&rt; failing(rt.alloc(), TO_THE_END, fails)? == ("fault", 0));
+    }
+    assert!(&rt; failing(rt.alloc(), TO_THE_END, 10_000)? == ("response", 0));
+    Ok(())
+}
