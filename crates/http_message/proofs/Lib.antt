@@ -8,3 +8,4 @@ pub mod Growth
 pub mod ResponseFacts
 pub mod WholeHeads
 pub mod ResponseUnique
+pub mod FieldFacts

@@ -1,71 +1,110 @@
 // The fields of a head.
-ghost use Rattle.std.specs.Prelude.{◌≡◌, ◌+◌, List, ℕ, count_by, length, map};
-ghost use Rattle.http_message.specs.Fields.{field_parts, is_named, first_named};
+ghost use Rattle.std.specs.Prelude.{◌≡◌, ◌<◌, ◌++◌, [], ◌∷◌, IfOk, OnErr, OnOk, count_by, length, slice_index_or};
+ghost use Rattle.http_message.specs.Fields.{is_named, first_named};
 
 use crate::text::same_text;
-use json_tree::Text;
+use std::alloc::{AllocError, Global};
 use std::marker::Model;
 
-/// A field: its name as it was written, and its value without the white space around it (RFC 9110, section 5).
-#[derive(Drop)]
-pub struct Field {
-    /// The name, in the letters' case of the message.
-    pub name: Text,
-    /// The value, which need not be text.
-    pub value: Vec<u8>,
+// Where a field stands in the text of all fields: its name, up to the middle, and its value, from there.
+#[derive(Clone, Copy)]
+struct Place {
+    start: usize,
+    middle: usize,
+    end: usize,
 }
 
-/// The fields of a head, in order. Contracts see them as pairs of a name and a value.
+/// The fields of a head, in order (RFC 9110, section 5). Contracts see them as pairs of a name, in the letters' case of the
+/// message, and a value, without the white space around it, which need not be text.
+///
+/// The names and values of all fields stand in one buffer.
 #[derive(Drop)]
 pub struct Fields {
-    items: Vec<Field>,
+    text: Vec<u8>,
+    places: Vec<Place>,
 }
 
 impl Model for Fields {
-    ghost use Rattle.std.specs.Prelude.{List, ℕ, map};
-    ghost use Rattle.http_message.specs.Fields.{field_parts};
+    ghost use Rattle.std.specs.Prelude.{List, ℕ, All, length, map};
+    ghost use Rattle.http_message.specs.Fields.{field_at, IsWithin};
 
     ghost Value = { List (List ℕ × List ℕ) };
 
-    ghost view = { λ f. map field_parts f.items.items };
+    ghost view = { λ f. map (field_at f.text.items) f.places.items };
+
+    ghost invariant = { λ f. All (IsWithin (length f.text.items)) f.places.items };
 }
 
 impl Fields {
-    /// The fields, in the order given.
-    pub fn of(items: Vec<Field>) -> Fields
-        ensures { result ≡ map field_parts items.items }
+    /// No fields, with room for so many bytes of names and values, and so many fields.
+    ///
+    /// The error is want of memory.
+    pub fn with_capacity(alloc: Global, bytes: usize, count: usize) -> Result<Fields, AllocError>
+        ensures { IfOk result (λ fields. fields ≡ []) }
     {
-        Fields { items }
+        Ok(Fields {
+            text: Vec::with_capacity(alloc, bytes)?,
+            places: Vec::with_capacity(alloc, count)?,
+        })
     }
 
-    /// The fields, in order.
-    pub fn items(&self) -> &[Field]
-        ensures { map field_parts result.now ≡ self.now }
+    /// Puts a field of that name and value behind the others.
+    ///
+    /// The error is want of memory, and leaves the fields as they were.
+    pub fn push(&mut self, name: &[u8], value: &[u8]) -> Result<(), AllocError>
+        ensures ok { OnOk result (self.new ≡ self.old ++ (name.now, value.now) ∷ []) }
+        ensures err { OnErr result (self.new ≡ self.old) }
     {
-        &self.items
+        let start = self.text.len();
+        self.text.extend_from_slice(name)?;
+        let middle = self.text.len();
+        self.text.extend_from_slice(value)?;
+        let end = self.text.len();
+        self.places.push(Place { start, middle, end })?;
+        Ok(())
     }
-}
 
-// Whether the field has the name, in any case.
-pub(crate) fn is_named(field: &Field, name: &str) -> bool
-    ensures { result ≡ is_named name.now (field_parts field.now) }
-{
-    same_text(field.name.as_str().as_bytes(), name.as_bytes())
+    /// How many fields there are.
+    pub fn len(&self) -> usize
+        ensures { result ≡ length self.now }
+    {
+        self.places.len()
+    }
+
+    /// The name of the field at that index, counted from 0, in the letters' case of the message.
+    pub fn name(&self, index: usize) -> &[u8]
+        requires { index < length self.now }
+        ensures { result.now ≡ (slice_index_or self.now index ([], [])).0 }
+    {
+        let Place { start, middle, .. } = self.places[index];
+        &self.text[start..middle]
+    }
+
+    /// The value of the field at that index, counted from 0, without the white space around it.
+    pub fn value(&self, index: usize) -> &[u8]
+        requires { index < length self.now }
+        ensures { result.now ≡ (slice_index_or self.now index ([], [])).1 }
+    {
+        let Place { middle, end, .. } = self.places[index];
+        &self.text[middle..end]
+    }
+
+    // Whether the field at that index has the name, in any case.
+    pub(crate) fn is_named(&self, index: usize, name: &str) -> bool
+        requires { index < length self.now }
+        ensures { result ≡ is_named name.now (slice_index_or self.now index ([], [])) }
+    {
+        same_text(self.name(index), name.as_bytes())
+    }
 }
 
 /// How many fields have the name, in any case.
 pub fn count_named(fields: &Fields, name: &str) -> usize
     ensures { result ≡ count_by (is_named name.now) fields.now }
 {
-    count_among(fields.items(), name)
-}
-
-fn count_among(fields: &[Field], name: &str) -> usize
-    ensures { result ≡ count_by (is_named name.now) (map field_parts fields.now) }
-{
     let mut count = 0;
-    for field in fields {
-        if is_named(field, name) {
+    for index in 0..fields.len() {
+        if fields.is_named(index, name) {
             count += 1;
         }
     }
@@ -76,15 +115,9 @@ fn count_among(fields: &[Field], name: &str) -> usize
 pub fn first_named<'a>(fields: &'a Fields, name: &str) -> &'a [u8]
     ensures { result.now ≡ first_named name.now fields.now }
 {
-    first_among(fields.items(), name)
-}
-
-fn first_among<'a>(fields: &'a [Field], name: &str) -> &'a [u8]
-    ensures { result.now ≡ first_named name.now (map field_parts fields.now) }
-{
-    for field in fields {
-        if is_named(field, name) {
-            return &field.value;
+    for index in 0..fields.len() {
+        if fields.is_named(index, name) {
+            return fields.value(index);
         }
     }
     &[]

@@ -1,11 +1,10 @@
 // How the body of a message is framed.
-ghost use Rattle.std.specs.Prelude.{◌≡◌, ◌||◌, ◌&&◌, codes, map};
+ghost use Rattle.std.specs.Prelude.{◌≡◌, ◌<◌, ◌||◌, ◌&&◌, [], codes, length, slice_index_or};
 ghost use Rattle.std.specs.List.{list_any};
 ghost use Rattle.http_message.specs.Fields.{is_named, lists_option};
 ghost use Rattle.http_message.specs.Framing.{closes, form_by, form_in, length_in, request_form};
-ghost use Rattle.http_message.specs.Fields.{field_parts};
 
-use crate::field::{Field, Fields, count_named, first_named, is_named};
+use crate::field::{Fields, count_named, first_named};
 use crate::head::Head;
 use crate::refusal::{BAD_MESSAGE, BODY_TOO_LARGE, TRANSFER_CODING};
 use crate::text::{lists_option, same_text};
@@ -99,18 +98,19 @@ pub fn request_form(most: u64, head: &Head) -> Result<Form, u16>
     form_in(most, head.minor, &head.fields)
 }
 
-// Whether the field is a Connection field that lists `close`.
-fn says_close(field: &Field) -> bool
-    ensures { result ≡ (is_named (codes "connection") (field_parts field.now) && lists_option (codes "close") (field_parts field.now).1) }
+// Whether the field at that index is a Connection field that lists `close`.
+fn says_close(fields: &Fields, index: usize) -> bool
+    requires { index < length fields.now }
+    ensures { result ≡ (is_named (codes "connection") (slice_index_or fields.now index ([], [])) && lists_option (codes "close") (slice_index_or fields.now index ([], [])).1) }
 {
-    is_named(field, "connection") && lists_option(&field.value, b"close")
+    fields.is_named(index, "connection") && lists_option(fields.value(index), b"close")
 }
 
-fn any_says_close(fields: &[Field]) -> bool
-    ensures { result ≡ list_any (λ field. is_named (codes "connection") field && lists_option (codes "close") field.1) (map field_parts fields.now) }
+fn any_says_close(fields: &Fields) -> bool
+    ensures { result ≡ list_any (λ field. is_named (codes "connection") field && lists_option (codes "close") field.1) fields.now }
 {
-    for field in fields {
-        if says_close(field) {
+    for index in 0..fields.len() {
+        if says_close(fields, index) {
             return true;
         }
     }
@@ -122,5 +122,5 @@ fn any_says_close(fields: &[Field]) -> bool
 pub fn closes(minor: u8, fields: &Fields) -> bool
     ensures { result ≡ closes minor fields.now }
 {
-    minor == 0 || any_says_close(fields.items())
+    minor == 0 || any_says_close(fields)
 }

@@ -1,11 +1,11 @@
 // Heads as texts.
-ghost use Rattle.std.specs.Prelude.{◌≡◌, map, IfOk, MatchBool};
+ghost use Rattle.std.specs.Prelude.{◌≡◌, ◌-◌, ◌^◌, map, min, sum_by, IfOk, MatchBool};
 ghost use Rattle.httparse.specs.Borrowed.{header_parts};
+ghost use Rattle.http_message.specs.Fields.{field_len};
 ghost use Rattle.http_message.specs.Heads.{IsTrailersText, TellsHead};
 ghost use Rattle.http_message.specs.Fronts.{TellsFront};
-ghost use Rattle.http_message.specs.Fields.{field_parts};
 
-use crate::field::{Field, Fields};
+use crate::field::Fields;
 use httparse::{EMPTY_HEADER, Error, Header, Request, Status, parse_headers};
 use json_tree::Text;
 use std::alloc::{AllocError, Global};
@@ -41,14 +41,25 @@ impl From<AllocError> for HeadFault {
     }
 }
 
-pub(crate) fn copy_fields(alloc: Global, headers: &[Header<'_>]) -> Result<Vec<Field>, AllocError>
-    ensures { IfOk result (λ fields. map field_parts fields.items ≡ map header_parts headers.now) }
+// How many bytes the names and values have together, or the greatest number where there are more.
+fn total_len(headers: &[Header<'_>]) -> usize
+    ensures { result ≡ min (sum_by field_len (map header_parts headers.now)) (2 ^ 64 - 1) }
 {
-    let mut fields = Vec::new(alloc);
+    let mut total: usize = 0;
     for header in headers {
-        let name = Text::of(String::from_str(alloc, header.name)?);
-        let value = Vec::from_slice(alloc, header.value)?;
-        fields.push(Field { name, value })?;
+        total = total
+            .saturating_add(header.name.len())
+            .saturating_add(header.value.len());
+    }
+    total
+}
+
+pub(crate) fn copy_fields(alloc: Global, headers: &[Header<'_>]) -> Result<Fields, AllocError>
+    ensures { IfOk result (λ fields. fields ≡ map header_parts headers.now) }
+{
+    let mut fields = Fields::with_capacity(alloc, total_len(headers), headers.len())?;
+    for header in headers {
+        fields.push(header.name.as_bytes(), header.value)?;
     }
     Ok(fields)
 }
@@ -64,7 +75,7 @@ fn front_of(alloc: Global, text: &[u8]) -> Result<(Head, usize), HeadFault>
             let method = Text::of(String::from_str(alloc, request.method.unwrap())?);
             let target = Text::of(String::from_str(alloc, request.path.unwrap())?);
             let minor = request.version.unwrap();
-            let fields = Fields::of(copy_fields(alloc, request.headers)?);
+            let fields = copy_fields(alloc, request.headers)?;
             Ok((
                 Head {
                     method,
@@ -92,7 +103,7 @@ pub fn head_in(alloc: Global, text: &[u8]) -> Result<Option<Head>, AllocError>
             if len != text.len() {
                 return Ok(None);
             }
-            if head.fields.items().len() > 64 {
+            if head.fields.len() > 64 {
                 return Ok(None);
             }
             Ok(Some(head))

@@ -30,7 +30,7 @@ fn response_front(alloc: Global, text: &[u8]) -> Result<(ResponseHead, usize), H
         Ok(Status::Complete(len)) => {
             let minor = response.version.unwrap();
             let status = response.code.unwrap();
-            let fields = Fields::of(copy_fields(alloc, response.headers)?);
+            let fields = copy_fields(alloc, response.headers)?;
             Ok((
                 ResponseHead {
                     minor,
@@ -57,7 +57,7 @@ pub fn response_in(alloc: Global, text: &[u8]) -> Result<Option<ResponseHead>, A
             if len != text.len() {
                 return Ok(None);
             }
-            if head.fields.items().len() > 64 {
+            if head.fields.len() > 64 {
                 return Ok(None);
             }
             Ok(Some(head))

@@ -1,5 +1,6 @@
 use crate::chunk::chunk_line;
 use crate::ends::{blank_len, end_after, line_count};
+use crate::field::{Fields, count_named, first_named};
 use crate::framing::{Form, closes, request_form};
 use crate::head::{head_in, is_trailers};
 use crate::refusal::{BAD_MESSAGE, BODY_TOO_LARGE, TRANSFER_CODING};
@@ -112,5 +113,42 @@ fn responses_have_a_status_and_a_body(rt: HostRuntime) -> Result<(), AllocError>
     );
     assert!(&rt; reply(a, b"HTTP/1.0 404\r\n\r\n")? == Some((404, Ok(None))));
     assert!(&rt; reply(a, b"HTTP/2 200 OK\r\n\r\n")? == None);
+    Ok(())
+}
+
+// Whether the field at that index has that name and that value.
+fn is_at(fields: &Fields, index: usize, name: &[u8], value: &[u8]) -> bool {
+    index < fields.len() && fields.name(index) == name && fields.value(index) == value
+}
+
+#[test]
+fn fields_keep_their_names_and_values(rt: HostRuntime) -> Result<(), AllocError> {
+    let mut fields = Fields::with_capacity(rt.alloc(), 0, 0)?;
+    fields.push(b"Host", b"x")?;
+    fields.push(b"Accept", b"")?;
+    fields.push(b"HOST", b"y:80")?;
+    assert!(&rt; fields.len() == 3);
+    assert!(&rt; is_at(&fields, 0, b"Host", b"x"));
+    assert!(&rt; is_at(&fields, 1, b"Accept", b""));
+    assert!(&rt; is_at(&fields, 2, b"HOST", b"y:80"));
+    assert!(&rt; count_named(&fields, "host") == 2);
+    assert!(&rt; first_named(&fields, "host") == b"x".as_slice());
+    Ok(())
+}
+
+#[test]
+fn a_head_keeps_its_fields_in_order(rt: HostRuntime) -> Result<(), AllocError> {
+    match head_in(
+        rt.alloc(),
+        b"GET / HTTP/1.1\r\nHost:  x \r\nAccept: a, b\r\n\r\n",
+    )? {
+        Some(head) => {
+            let fields = head.fields;
+            assert!(&rt; fields.len() == 2);
+            assert!(&rt; is_at(&fields, 0, b"Host", b"x"));
+            assert!(&rt; is_at(&fields, 1, b"Accept", b"a, b"));
+        }
+        None => assert!(&rt; false),
+    }
     Ok(())
 }
