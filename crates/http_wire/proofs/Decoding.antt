@@ -1,4 +1,4 @@
--- Chunks, one after another, and bodies of a given length.
+-- Chunks, one after another.
 use Rattle.std.proofs.Common.{◌≡◌, ℕ, ◌+◌, ◌-◌, ◌^◌, ◌<◌, ◌≤◌, min, cond, List, [], ◌∷◌, ◌++◌, length, take, drop, Option, Result, Ok, refl, sym, ap, ◌∙◌, subst, arith, append_assoc, length-append}
 use Rattle.std.proofs.lemmas.Bool.{le-leb, lt-leb}
 use Rattle.std.proofs.lemmas.List.{append-nil, take-append-le, take-append-drop, drop-append-le, length-take-le}
@@ -121,44 +121,3 @@ decoding_kept most start here later left left_here left_later content content_ne
     let a = decoding xs told in
     let f = chunk a.0 a.1 in
     (f.0, f.1, record { moves = Moves-trans xs a.0 f.0 start.1 here.1 later.1 a.2.moves f.2.moves; found = found (ReadsChunked most xs) f.0 })
-
--- ---- bodies of a given length
-
-pub sized_whole : {E : Type 0} (old mid new : Buffer) (left left_mid : Option (List ℕ)) (size : ℕ) (content : List ℕ) → Grows old mid left left_mid → size ≤ length mid.0
-    → new.0 ≡ drop size mid.0 → new.1 ≡ min (mid.1 + size) (2 ^ 64 - 1) → content ≡ take size mid.0
-    → Told (stream old left) (stream new left_mid) (λ xs ys. TellsBody {E = E} (λ reading. reading ≡ sized_body size xs) xs old.1 ys new.1 content (Ok body.Whole))
-sized_whole old mid new left left_mid size content grows room bytes place is = λ xs told.
-    let f = told_front mid left_mid xs (grows.stream_is ∙ told) in
-    let ys = drop size mid.0 ++ f.0 in
-    let front : content ≡ take size xs = is ∙ sym (ap (take size) f.2 ∙ take-append-le size mid.0 f.0 room) in
-    let behind_it : ys ≡ drop size xs = sym (ap (drop size) f.2 ∙ drop-append-le size mid.0 f.0 room) in
-    let long : size ≤ length xs = omega (arith, room, ap length f.2, length-append mid.0 f.0) in
-    let cut_up : xs ≡ take size mid.0 ++ ys = f.2 ∙ ap (λ x. x ++ f.0) (sym (take-append-drop size mid.0)) ∙ append_assoc (take size mid.0) (drop size mid.0) f.0 in (
-      ys,
-      ap (λ b. prepend_known b left_mid) bytes ∙ ap (prepend_known (drop size mid.0)) f.1,
-      record {
-        moves = (take size mid.0, cut_up, λ small. omega (arith, place, grows.place, length-take-le size mid.0 room));
-        found = ap (λ x. whole x ys) front ∙ ap (whole (take size xs)) behind_it ∙ sym (ap (λ b. cond b (whole (take size xs) (drop size xs)) unended) (le-leb size (length xs) long));
-      },
-    )
-
-pub sized_ended : {E : Type 0} (old mid : Buffer) (left left_mid : Option (List ℕ)) (size : ℕ) (content : List ℕ) → Grows old mid left left_mid → IsEnd left_mid → length mid.0 < size
-    → Told (stream old left) (stream mid left_mid) (λ xs ys. TellsBody {E = E} (λ reading. reading ≡ sized_body size xs) xs old.1 ys mid.1 content (Ok body.Ended))
-sized_ended old mid left left_mid size content grows end short = λ xs told.
-    let here = grows.stream_is ∙ told in
-    let all = ended_stream mid left_mid xs here end in
-    let few : length xs < size = omega (arith, ap length all, short) in (
-      xs,
-      here,
-      record {
-        moves = Moves-none xs old.1 mid.1 grows.place;
-        found = sym (ap (λ b. cond b (whole (take size xs) (drop size xs)) unended) (lt-leb size (length xs) few));
-      },
-    )
-
-pub sized_kept : {E : Type 0} (old mid : Buffer) (left left_mid : Option (List ℕ)) (size : ℕ) (content : List ℕ) (r : Result BodyRead E) → Grows old mid left left_mid
-    → ((Reads : BodyReading → Type 0) (ys : List ℕ) → BodyFound Reads ys content r)
-    → Told (stream old left) (stream mid left_mid) (λ xs ys. TellsBody {E = E} (λ reading. reading ≡ sized_body size xs) xs old.1 ys mid.1 content r)
-sized_kept old mid left left_mid size content r grows found = λ xs told.
-    let here = grows.stream_is ∙ told in
-    (xs, here, record { moves = Moves-none xs old.1 mid.1 grows.place; found = found (λ reading. reading ≡ sized_body size xs) xs })

@@ -1,13 +1,30 @@
--- A body that goes on to the end of the stream, piece by piece.
-use Rattle.std.proofs.Common.{◌≡◌, ℕ, List, ◌++◌, Option, Result, Ok, sym, ap, ◌∙◌, append_assoc}
-use Rattle.http_message.specs.Bodies.{BodyReading}
+-- A body that is read piece by piece: one of a given length, or one that goes on to the end of the stream.
+use Rattle.std.proofs.Common.{◌≡◌, ℕ, ◌+◌, ◌-◌, ◌^◌, ◌<◌, ◌≤◌, min, cond, List, [], ◌++◌, length, take, drop, Option, Result, Ok, sym, ap, ◌∙◌, arith, append_assoc, length-append}
+use Rattle.std.proofs.Math.Seq.{take-append_seam}
+use Rattle.std.proofs.lemmas.Bool.{le-leb, lt-leb}
+use Rattle.std.proofs.lemmas.List.{append-nil, take-append-drop, drop_at}
+use Rattle.std.specs.Io.KnownBytes.{prepend_known}
+use Rattle.http_message.specs.Bodies.{BodyReading, whole, unended, sized_body}
 use Rattle.http_wire.specs.Bodies.{BodyFound, TellsBody}
-use Rattle.http_wire.specs.OpenBodies.{TellsPour, IsPouring}
+use Rattle.http_wire.specs.Pours.{TellsPour, IsPouring}
 use Rattle.http_wire.specs.Streams.{Buffer, stream, Told}
 use Rattle.http_wire.specs.declared.body.BodyRead.{BodyRead}
+use Rattle.http_wire.specs.declared.body.BodyRead.TheVariants as read
 use Rattle.http_wire.specs.declared.inbox.Filled.{Filled}
 use Rattle.http_wire.specs.declared.inbox.Filled.TheVariants as filled
-use Rattle.http_wire.proofs.Streams.{Moves-trans}
+use Rattle.http_wire.proofs.Streams.{told_front, Moves-trans}
+
+-- what was there
+pub pouring_begins : (start here : Buffer) (left : Option (List ℕ)) (most : ℕ) (body : List ℕ) → here.0 ≡ drop most start.0 → here.1 ≡ min (start.1 + length (take most start.0)) (2 ^ 64 - 1) → body ≡ take most start.0
+    → Told (stream start left) (stream here left) (λ xs ys. IsPouring xs start.1 ys here.1 body)
+pouring_begins start here left most body bytes place front = λ xs told.
+    let f = told_front start left xs told in
+    let ys = drop most start.0 ++ f.0 in
+    let cut_up : xs ≡ take most start.0 ++ ys = f.2 ∙ ap (λ x. x ++ f.0) (sym (take-append-drop most start.0)) ∙ append_assoc (take most start.0) (drop most start.0) f.0 in (
+      ys,
+      ap (λ b. prepend_known b left) bytes ∙ ap (prepend_known (drop most start.0)) f.1,
+      record { moves = (take most start.0, cut_up, λ small. place); front = cut_up ∙ ap (λ x. x ++ ys) (sym front) },
+    )
 
 -- one more piece
 pub pouring_more : {E : Type 0} (start here later : Buffer) (left left_here left_later : Option (List ℕ)) (body body_new : List ℕ)

@@ -4,7 +4,7 @@ ghost use Rattle.http_message.specs.Bodies.{content_stop, refused, sized_body, R
 ghost use Rattle.http_wire.specs.Bodies.{IsLineThere, IsOpenContent, OnMore, RoseWhereBodyFailed, RoseWhereFailed, TellsBody, TellsChunk, TellsContent, TellsTrailers, TellsTrailersText};
 ghost use Rattle.http_wire.specs.Streams.{stream, Told};
 
-use crate::inbox::Inbox;
+use crate::inbox::{Filled, Inbox};
 use crate::reading::{EndIn, Line, MOST, Need, await_bytes, await_end, await_line};
 use edge_core::Source;
 use http_message::ends::line_count;
@@ -215,15 +215,15 @@ fn sized<S: Source>(
     ensures cause { RoseWhereBodyFailed (S.faults source.old) (S.faults source.new) result }
     ensures told { Told (stream inbox.old (S.left source.old)) (stream inbox.new (S.left source.new)) (λ xs ys. TellsBody (λ reading. reading ≡ sized_body size xs) xs inbox.old.1 ys inbox.new.1 body.new.items result) }
 {
-    match await_bytes(inbox, source, size)? {
-        Need::Enough => {
-            body.extend_from_slice(&inbox.bytes()[..size])?;
-            inbox.consume(size);
-            Ok(BodyRead::Whole)
+    inbox.drain(size, body)?;
+    'pieces: while body.len() < size {
+        match inbox.pour(source, size - body.len(), body)? {
+            Filled::More => {}
+            Filled::End => return Ok(BodyRead::Ended),
+            Filled::Failed => return Ok(BodyRead::Failed),
         }
-        Need::Ended => Ok(BodyRead::Ended),
-        Need::Failed => Ok(BodyRead::Failed),
     }
+    Ok(BodyRead::Whole)
 }
 
 /// Reads a body of that form, of at most so many bytes, into an empty one.

@@ -1,6 +1,6 @@
 // The bytes that were read from a source and not yet used.
-ghost use Rattle.std.specs.Prelude.{◌≡◌, ◌≤◌, ◌<◌, ◌+◌, ◌-◌, ◌^◌, [], drop, length, min};
-ghost use Rattle.http_wire.specs.OpenBodies.{OnMoreFilled, RoseWhereFillFailed, TellsPour};
+ghost use Rattle.std.specs.Prelude.{◌≡◌, ◌≤◌, ◌<◌, ◌+◌, ◌-◌, ◌^◌, ◌*◌, [], OnOk, drop, length, max, min, vec_capacity};
+ghost use Rattle.http_wire.specs.Pours.{IsDrained, OnMoreFilled, RoseWhereFillFailed, TellsPour};
 ghost use Rattle.http_wire.specs.Streams.{stream, Fills, Grows, Told};
 
 use edge_core::{Source, Took};
@@ -106,23 +106,37 @@ impl Inbox {
         }
     }
 
-    /// Reads once, where no bytes are left here, and puts what came behind the body, as used. Want of memory comes before the
-    /// read.
+    /// Puts the first bytes behind the body, at most so many, and uses them.
+    pub(crate) fn drain(&mut self, most: usize, body: &mut Vec<u8>) -> Result<(), AllocError>
+        ensures { IsDrained most self.old self.new body.old.items body.new.items result }
+    {
+        let count = self.bytes().len().min(most);
+        body.extend_from_slice(&self.bytes()[..count])?;
+        self.consume(count);
+        Ok(())
+    }
+
+    /// Reads once, where no bytes are left here, at most so many bytes, and puts what came behind the body, as used. Want of
+    /// memory comes before the read.
     pub(crate) fn pour<S: Source>(
         &mut self,
         source: &mut S,
+        most: usize,
         body: &mut Vec<u8>,
     ) -> Result<Filled, AllocError>
-        requires { self.old.0 ≡ [] }
+        requires empty { self.old.0 ≡ [] }
+        requires some { 0 < most }
         ensures empty { self.new.0 ≡ [] }
         ensures later { S.faults source.old ≤ S.faults source.new }
         ensures cause { RoseWhereFillFailed (S.faults source.old) (S.faults source.new) result }
         ensures told { Told (stream self.old (S.left source.old)) (stream self.new (S.left source.new)) (λ xs ys. TellsPour xs self.old.1 ys self.new.1 body.old.items body.new.items result) }
         ensures grows { OnMoreFilled result (length body.old.items < length body.new.items) }
+        ensures fits { length body.new.items ≤ length body.old.items + most }
     {
         let mut piece = [0u8; PIECE];
-        body.reserve(PIECE)?;
-        match source.read(&mut piece) {
+        let size = most.min(PIECE);
+        make_room(body, size, most)?;
+        match source.read(&mut piece[..size]) {
             Took::Bytes(count) => {
                 body.extend_from_slice(&piece[..count])?;
                 self.place = self.place.saturating_add(count as u64);
@@ -132,4 +146,19 @@ impl Inbox {
             Took::Failed => Ok(Filled::Failed),
         }
     }
+}
+
+// Makes room for so many bytes behind the body, of which at most `most` are to come. Where it has to grow it doubles, so that all
+// pieces together are moved no more often than twice, but not beyond those bytes.
+fn make_room(body: &mut Vec<u8>, size: usize, most: usize) -> Result<(), AllocError>
+    requires { size ≤ most }
+    ensures items { body.new.items ≡ body.old.items }
+    ensures room { OnOk result (length body.old.items + size ≤ vec_capacity body.new) }
+    ensures announced { vec_capacity body.new ≤ max (vec_capacity body.old) (length body.old.items + most) }
+    ensures came { vec_capacity body.new ≤ max (vec_capacity body.old) (2 * max (length body.old.items) size) }
+{
+    if body.capacity() - body.len() < size {
+        body.reserve_exact(most.min(body.len().max(size)))?;
+    }
+    Ok(())
 }

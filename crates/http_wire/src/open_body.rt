@@ -3,7 +3,7 @@ ghost use Rattle.std.specs.Prelude.{◌≡◌, ◌≤◌, ◌^◌, ◌<◌, [], 
 ghost use Rattle.http_message.specs.Bodies.{BodyReading};
 ghost use Rattle.http_message.specs.ResponseMessages.{open_body, ReadsResponseBody};
 ghost use Rattle.http_wire.specs.Bodies.{RoseWhereBodyFailed, TellsBody};
-ghost use Rattle.http_wire.specs.OpenBodies.{IsPoured, OnMoreFilled, RoseWhereFillFailed, TellsPour};
+ghost use Rattle.http_wire.specs.Pours.{OnMoreFilled, RoseWhereFillFailed, TellsPour};
 ghost use Rattle.http_wire.specs.Streams.{stream, Told};
 
 use crate::body::{BodyRead, read_body};
@@ -12,17 +12,6 @@ use edge_core::Source;
 use http_message::framing::Form;
 use http_message::refusal::BODY_TOO_LARGE;
 use std::alloc::AllocError;
-
-// Puts the bytes that are there behind the body, and uses them.
-fn drain(inbox: &mut Inbox, body: &mut Vec<u8>) -> Result<(), AllocError>
-    requires { body.old.items ≡ [] }
-    ensures { IsPoured inbox.old inbox.new body.new.items result }
-{
-    let size = inbox.bytes().len();
-    body.extend_from_slice(inbox.bytes())?;
-    inbox.consume(size);
-    Ok(())
-}
 
 // Reads all bytes to the end of the input, at most so many. The body is empty before.
 fn open_body<S: Source>(
@@ -36,12 +25,13 @@ fn open_body<S: Source>(
     ensures cause { RoseWhereBodyFailed (S.faults source.old) (S.faults source.new) result }
     ensures told { Told (stream inbox.old (S.left source.old)) (stream inbox.new (S.left source.new)) (λ xs ys. TellsBody (λ reading. reading ≡ open_body most xs) xs inbox.old.1 ys inbox.new.1 body.new.items result) }
 {
-    drain(inbox, body)?;
+    let there = inbox.bytes().len();
+    inbox.drain(there, body)?;
     'pieces: loop {
         if body.len() > most {
             return Ok(BodyRead::Refused(BODY_TOO_LARGE));
         }
-        match inbox.pour(source, body)? {
+        match inbox.pour(source, (most - body.len()).saturating_add(1), body)? {
             Filled::More => {}
             Filled::End => return Ok(BodyRead::Whole),
             Filled::Failed => return Ok(BodyRead::Failed),

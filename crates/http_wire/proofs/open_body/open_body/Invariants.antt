@@ -1,5 +1,5 @@
 use Rattle.std.proofs.Common.{◌≡◌, ◌+◌, ◌-◌, ◌≤◌, [], length}
-use Rattle.http_wire.specs.OpenBodies.{IsPouring}
+use Rattle.http_wire.specs.Pours.{IsPouring}
 use Rattle.http_wire.specs.Streams.{stream, Told}
 use Rattle.http_wire.proofs.open_body.open_body.Given as goal
 

@@ -1,14 +1,15 @@
 -- What reading bytes straight into a body does.
-use Rattle.std.specs.Prelude.{◌≡◌, ℕ, ◌+◌, ◌-◌, ◌^◌, min, List, [], ◌++◌, length, Result, Ok, Err, ⊤}
+use Rattle.std.specs.Prelude.{◌≡◌, ℕ, ◌+◌, ◌-◌, ◌^◌, min, List, [], ◌++◌, length, take, drop, Result, Ok, Err, ⊤}
 use Rattle.edge_core.specs.Faults.{Rose}
 use Rattle.http_wire.specs.Streams.{Buffer, Moves}
 use Rattle.http_wire.specs.declared.inbox.Filled.{Filled}
 use Rattle.http_wire.specs.declared.inbox.Filled.TheVariants as filled
 
--- all bytes were used, and are the body; on want of memory nothing was used
-abbrev pub IsPoured : {A E : Type 0} → Buffer → Buffer → List ℕ → Result A E → Type 0
-IsPoured old new body (Ok all) = (new.0 ≡ []) × (new.1 ≡ min (old.1 + length old.0) (2 ^ 64 - 1)) × (body ≡ old.0)
-IsPoured old new body (Err e) = new ≡ old
+-- the first bytes, at most so many, were used and stand behind the body; on want of memory nothing was used
+abbrev pub IsDrained : {A E : Type 0} → ℕ → Buffer → Buffer → (body body_new : List ℕ) → Result A E → Type 0
+IsDrained most old new body body_new (Ok all) =
+    (new.0 ≡ drop most old.0) × (new.1 ≡ min (old.1 + length (take most old.0)) (2 ^ 64 - 1)) × (body_new ≡ body ++ take most old.0)
+IsDrained most old new body body_new (Err e) = (new ≡ old) × (body_new ≡ body)
 
 -- the bytes of one read went behind the body
 abbrev pub PourFound : {E : Type 0} → (xs ys old new : List ℕ) → Result Filled E → Type 0
