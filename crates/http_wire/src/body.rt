@@ -1,6 +1,7 @@
 // Reading the body of a message.
 ghost use Rattle.std.specs.Prelude.{◌≡◌, ◌≤◌, ◌<◌, ◌+◌, ◌^◌, ◌-◌, ◌∷◌, [], List, ℕ, MatchBool, Ok, None, Some, drop, length, take};
 ghost use Rattle.http_message.specs.Bodies.{content_stop, refused, sized_body, ReadsBody, ReadsChunked};
+ghost use Rattle.http_message.specs.Refusals.{bad_message};
 ghost use Rattle.http_wire.specs.Bodies.{IsLineThere, IsOpenContent, OnMore, RoseWhereBodyFailed, RoseWhereFailed, TellsBody, TellsChunk, TellsContent, TellsTrailers, TellsTrailersText};
 ghost use Rattle.http_wire.specs.Streams.{stream, Told};
 
@@ -44,7 +45,7 @@ pub(crate) enum BodyRead {
 // Whether CR LF stands behind so many bytes.
 fn is_crlf_at(bytes: &[u8], size: usize) -> bool
     requires { size + 2 ≤ length bytes.now }
-    ensures { MatchBool result (content_stop size bytes.now ≡ None) (content_stop size bytes.now ≡ Some (refused 24)) }
+    ensures { MatchBool result (content_stop size bytes.now ≡ None) (content_stop size bytes.now ≡ Some (refused bad_message)) }
 {
     bytes[size] == b'\r' && bytes[size + 1] == b'\n'
 }
