@@ -148,8 +148,8 @@ impl Inbox {
     }
 }
 
-// Makes room for so many bytes behind the body, of which at most `most` are to come. Where it has to grow it doubles, so that all
-// pieces together are moved no more often than twice, but not beyond those bytes.
+// Makes room for so many bytes behind the body, of which at most `most` are to come. Where it grows it doubles what came, but not
+// beyond those bytes: bytes that are announced and don't come cost nothing.
 fn make_room(body: &mut Vec<u8>, size: usize, most: usize) -> Result<(), AllocError>
     requires { size ≤ most }
     ensures items { body.new.items ≡ body.old.items }

@@ -89,6 +89,32 @@ fn a_read_that_fails_is_a_fault_wherever_it_is(rt: HostRuntime) -> Result<(), Al
     Ok(())
 }
 
+// Whether a request whose body has 20,000 bytes, which takes several reads, and then another come over pieces of those sizes.
+fn is_long_session(alloc: Global, sizes: Vec<usize>) -> Result<bool, AllocError> {
+    let content = vec![in alloc; b'a'; 20_000]?;
+    let mut bytes = Vec::from_slice(alloc, b"PUT / HTTP/1.0\r\nContent-Length: 20000\r\n\r\n")?;
+    bytes.extend_from_slice(&content)?;
+    bytes.extend_from_slice(b"GET /a HTTP/1.1\r\nHost: x\r\n\r\n")?;
+    let mut source = MemSource::new(alloc, bytes).with_sizes(sizes);
+    let mut wire = Wire::new(alloc);
+    let whole = match wire.next(alloc, &mut source)? {
+        Message::Request(_, body, _) => body.as_slice() == content.as_slice(),
+        Message::End => false,
+        Message::Truncated { .. } => false,
+        Message::Bad { .. } => false,
+        Message::ReadFault => false,
+    };
+    Ok(whole && is_of_session(0, &wire.next(alloc, &mut source)?))
+}
+
+#[test]
+fn a_long_body_ends_where_the_next_message_begins(rt: HostRuntime) -> Result<(), AllocError> {
+    let a = rt.alloc();
+    assert!(&rt; is_long_session(a, Vec::new(a))?);
+    assert!(&rt; is_long_session(a, Vec::from_slice(a, &[39, 1, 8192, 7])?)?);
+    Ok(())
+}
+
 // Whether the reply is a response of that status and body.
 fn is_response(reply: &Reply, status: u16, body: &[u8]) -> bool {
     match reply {
