@@ -7,3 +7,4 @@ pub mod Parts
 pub mod Shelves
 pub mod Slots
 pub mod Puts
+pub mod Flows

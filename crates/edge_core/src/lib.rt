@@ -15,6 +15,7 @@ mod shelf;
 mod sink;
 mod source;
 mod store;
+mod writing;
 
 pub use foreign::Foreign;
 pub use mem_sink::MemSink;
@@ -27,6 +28,7 @@ pub use shelf::Stored;
 pub use sink::{Gave, Sink};
 pub use source::{Source, Took};
 pub use store::{Got, Listed, Measured, Put, Store};
+pub use writing::write_all;
 
 #[cfg(test)]
 mod tests;

@@ -1,6 +1,6 @@
 // Names, and sources, sinks and stores in memory at work.
 use super::*;
-use std::alloc::Global;
+use std::alloc::{AllocError, Global};
 
 fn text(alloc: Global, text: &str) -> String {
     match String::from_str(alloc, text) {
@@ -182,4 +182,15 @@ fn puts_gets_and_lists(rt: HostRuntime) {
         }
         Listed::Failed | Listed::NoMemory => assert!(rt; false),
     }
+}
+
+#[test]
+fn all_is_written_or_how_much(rt: HostRuntime) -> Result<(), AllocError> {
+    let a = rt.alloc();
+    let sizes = Vec::from_slice(a, &[2usize, 1])?;
+    let mut sink = MemSink::new(a, 8, 8)?.with_sizes(sizes);
+    assert!(&rt; write_all(&mut sink, b"abcdef") == Ok(()));
+    assert!(&rt; sink.bytes() == b"abcdef".as_slice());
+    assert!(&rt; write_all(&mut sink, b"ghi") == Err(2));
+    Ok(())
 }

@@ -6,7 +6,6 @@ pub mod Contents
 pub mod Trailers
 pub mod Chunks
 pub mod Decoding
-pub mod Flows
 pub mod Pouring
 pub mod Passing
 pub mod Wires

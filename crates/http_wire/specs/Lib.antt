@@ -6,4 +6,3 @@ pub mod Pours
 pub mod Finals
 pub mod Wires
 pub mod Replies
-pub mod Writes

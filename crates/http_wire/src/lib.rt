@@ -9,11 +9,10 @@ mod reading;
 mod reply;
 mod response_head;
 mod wire;
-mod writing;
 
+pub use edge_core::write_all;
 pub use reply::Reply;
 pub use wire::{Message, Wire};
-pub use writing::write_all;
 
 #[cfg(test)]
 mod session_tests;

@@ -1,5 +1,5 @@
-use crate::{Message, Wire, write_all};
-use edge_core::{MemSink, MemSource};
+use crate::{Message, Wire};
+use edge_core::MemSource;
 use http_message::refusal::{BAD_MESSAGE, BODY_TOO_LARGE, HEAD_TOO_LARGE, TRANSFER_CODING};
 use std::alloc::{AllocError, Global};
 
@@ -123,16 +123,5 @@ fn a_failing_read_is_a_fault(rt: HostRuntime) -> Result<(), AllocError> {
         assert!(&rt; failing(rt.alloc(), number)? == ("fault", 0, 0));
     }
     assert!(&rt; failing(rt.alloc(), 28)? == ("request", 0, 0));
-    Ok(())
-}
-
-#[test]
-fn all_is_written_or_how_much(rt: HostRuntime) -> Result<(), AllocError> {
-    let a = rt.alloc();
-    let sizes = Vec::from_slice(a, &[2usize, 1])?;
-    let mut sink = MemSink::new(a, 8, 8)?.with_sizes(sizes);
-    assert!(&rt; write_all(&mut sink, b"abcdef") == Ok(()));
-    assert!(&rt; sink.bytes() == b"abcdef".as_slice());
-    assert!(&rt; write_all(&mut sink, b"ghi") == Err(2));
     Ok(())
 }

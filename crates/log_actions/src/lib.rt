@@ -24,6 +24,8 @@ pub use printing::line_of_action;
 pub use ranges::{CommitTime, FileSize, ProtocolVersion};
 
 #[cfg(test)]
+mod field_tests;
+#[cfg(test)]
 mod path_tests;
 #[cfg(test)]
 mod print_tests;

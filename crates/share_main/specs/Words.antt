@@ -1,21 +1,14 @@
 -- What the words of the command line ask for.
-use Rattle.std.specs.Prelude.{ℕ, ◌≤◌, ⊤, ◌&&◌, ◌||◌, List, [], ◌∷◌, length, Bool, not, Option, Some, None, option_map, String, string_bytes, bytes_eq, codes, nat_le, nat_eq, if◌then◌else◌}
-use Rattle.std.specs.List.{starts_with}
+use Rattle.std.specs.Prelude.{ℕ, ◌&&◌, List, [], ◌∷◌, Option, Some, None, option_map, String, string_bytes, bytes_eq, codes, if◌then◌else◌}
 use Rattle.std.specs.declared.alloc.Global.{Global}
 use Rattle.edge_core.specs.Names.{is_name}
+use Rattle.share_catalog.specs.Locations.{is_location}
 use Rattle.share_main.specs.declared.words.Command.{Command}
 use Rattle.share_main.specs.declared.words.Command.TheVariants as command
 
--- a name whose first segment is the folder in which the server keeps its own records
-abbrev pub is_own : List ℕ → Bool
-is_own text = bytes_eq text (codes "_share_log") || starts_with nat_eq text (codes "_share_log/")
-
--- the place of a table: a name of at most 256 bytes that isn't the server's own
-abbrev pub is_location : List ℕ → Bool
-is_location text = not (is_own text) && (nat_le (length text) 256 && is_name text)
-
+-- the place of a table: a name that isn't the server's own
 abbrev pub location_in : List ℕ → Option (List ℕ)
-location_in text = if is_location text then Some text else None
+location_in text = if is_name text && is_location text then Some text else None
 
 -- `--help` or `--version`
 abbrev pub option_in : List ℕ → Option Command
@@ -31,10 +24,3 @@ command_in [] = None
 command_in (word ∷ []) = option_in (string_bytes word)
 command_in (word ∷ location ∷ []) = query_in (string_bytes word) (string_bytes location)
 command_in (word ∷ location ∷ more ∷ words) = None
-
--- a location is at most 256 bytes long
-abbrev pub IsGood : Option Command → Type 0
-IsGood None = ⊤
-IsGood (Some command.Help) = ⊤
-IsGood (Some command.Version) = ⊤
-IsGood (Some (command.Query location)) = length location ≤ 256

@@ -4,7 +4,7 @@ ghost use Rattle.share_main.specs.Ends.{note, note_line, status};
 ghost use Rattle.share_main.specs.Expected.{IsExact, IsExactAlone};
 ghost use Rattle.share_main.specs.Run.{IsRun};
 ghost use Rattle.share_main.specs.Steps.{Finds, Prints, Runs, Tells, Wrote};
-ghost use Rattle.share_main.specs.Words.{IsGood, command_in};
+ghost use Rattle.share_main.specs.Words.{command_in};
 ghost use Rattle.share_main.specs.declared.ends.End.{End};
 ghost use Rattle.share_main.specs.declared.ends.End.TheVariants as ends;
 ghost use Rattle.share_main.specs.declared.words.Command.TheVariants.{Query};
@@ -13,7 +13,7 @@ use crate::ends::{End, Note};
 use crate::input::asked;
 use crate::table::{LinesFault, table_lines};
 use crate::words::{Command, HELP, VERSION, command_of};
-use edge_core::{Gave, Name, Sink, Source, Store};
+use edge_core::{Name, Sink, Source, Store, write_all};
 use itoa::Buffer;
 use std::alloc::Global;
 use std::marker::Model;
@@ -51,27 +51,23 @@ impl<S: Source, K: Sink, M: Sink, W: Store, L> Model for Edge<S, K, M, W, L> {
 }
 
 // Whether all was written.
-fn write_all<K: Sink>(sink: &mut K, bytes: &[u8]) -> bool
+fn write_text<K: Sink>(sink: &mut K, bytes: &[u8]) -> bool
     ensures { Wrote (K.holds sink.old) (K.holds sink.new) (K.faults sink.old) (K.faults sink.new) bytes.now result }
 {
-    let mut at = 0usize;
-    while at < bytes.len() {
-        match sink.write(&bytes[at..]) {
-            Gave::Bytes(n) => at += n,
-            Gave::Failed => return false,
-        }
+    match write_all(sink, bytes) {
+        Ok(()) => true,
+        Err(_) => false,
     }
-    true
 }
 
 // Whether both were written, one after the other.
 fn write_both<K: Sink>(sink: &mut K, first: &[u8], second: &[u8]) -> bool
     ensures { Wrote (K.holds sink.old) (K.holds sink.new) (K.faults sink.old) (K.faults sink.new) (first.now ++ second.now) result }
 {
-    if !write_all(sink, first) {
+    if !write_text(sink, first) {
         return false;
     }
-    write_all(sink, second)
+    write_text(sink, second)
 }
 
 // A number in decimal, and the end of the line.
@@ -88,7 +84,7 @@ fn write_last<K: Sink>(sink: &mut K, number: u64) -> bool
 fn write_numbered<K: Sink>(sink: &mut K, text: &[u8], number: u64) -> bool
     ensures { Wrote (K.holds sink.old) (K.holds sink.new) (K.faults sink.old) (K.faults sink.new) (text.now ++ (decimal number ++ codes "\n")) result }
 {
-    if !write_all(sink, text) {
+    if !write_text(sink, text) {
         return false;
     }
     write_last(sink, number)
@@ -111,7 +107,7 @@ fn print<S: Source, K: Sink, M: Sink, W: Store, L>(
 ) -> End
     ensures prints { Prints text.now edge.old edge.new result }
 {
-    if write_all(&mut edge.output, text) {
+    if write_text(&mut edge.output, text) {
         End::Done
     } else {
         End::WriteFault
@@ -157,13 +153,12 @@ fn answer<S: Source, K: Sink, M: Sink, W: Store, L>(
     command: Option<Command>,
     edge: &mut Edge<S, K, M, W, L>,
 ) -> End
-    requires { IsGood command }
     ensures { Runs command edge.old edge.new result }
 {
     match command {
         Some(Command::Help) => print(edge, HELP.as_bytes()),
         Some(Command::Version) => print(edge, VERSION.as_bytes()),
-        Some(Command::Query(location)) => query(alloc, &location, edge),
+        Some(Command::Query(location)) => query(alloc, location.name(), edge),
         None => End::Words,
     }
 }

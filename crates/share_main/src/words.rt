@@ -1,8 +1,9 @@
 // The words of the command line.
-ghost use Rattle.std.specs.Prelude.{◌≡◌, ◌≤◌, IfOk, IfSome, length, string_bytes};
-ghost use Rattle.share_main.specs.Words.{IsGood, command_in, is_own as begins_with_own, location_in, option_in, query_in};
+ghost use Rattle.std.specs.Prelude.{◌≡◌, IfOk};
+ghost use Rattle.share_main.specs.Words.{command_in, location_in, option_in, query_in};
 
 use edge_core::Name;
+use share_catalog::Location;
 use std::alloc::{AllocError, Global};
 
 /// What `--help` prints: each command with its input, its output and its statuses.
@@ -20,28 +21,20 @@ pub enum Command {
     /// `--version`: print the version.
     Version,
     /// `query LOCATION`: print the lines of the table there.
-    Query(Name),
+    Query(Location),
 }
 
-fn is_own(text: &str) -> bool
-    ensures { result ≡ begins_with_own text.now }
+fn location_of(alloc: Global, text: &str) -> Result<Option<Location>, AllocError>
+    ensures { IfOk result (λ location. location ≡ location_in text.now) }
 {
-    text == "_share_log" || text.as_bytes().starts_with(b"_share_log/".as_slice())
-}
-
-fn location_of(alloc: Global, text: &str) -> Result<Option<Name>, AllocError>
-    ensures location { IfOk result (λ location. location ≡ location_in text.now) }
-    ensures short { IfOk result (λ location. IfSome location (λ name. length name ≤ 256)) }
-{
-    if is_own(text) || text.len() > 256 {
-        return Ok(None);
+    match Name::of(String::from_str(alloc, text)?) {
+        Some(name) => Ok(Location::of(name)),
+        None => Ok(None),
     }
-    Ok(Name::of(String::from_str(alloc, text)?))
 }
 
 fn option_of(word: &str) -> Option<Command>
-    ensures command { result ≡ option_in word.now }
-    ensures good { IsGood result }
+    ensures { result ≡ option_in word.now }
 {
     match word {
         "--help" => Some(Command::Help),
@@ -51,8 +44,7 @@ fn option_of(word: &str) -> Option<Command>
 }
 
 fn query_of(alloc: Global, word: &str, location: &str) -> Result<Option<Command>, AllocError>
-    ensures command { IfOk result (λ command. command ≡ query_in word.now location.now) }
-    ensures good { IfOk result IsGood }
+    ensures { IfOk result (λ command. command ≡ query_in word.now location.now) }
 {
     if word != "query" {
         return Ok(None);
@@ -65,8 +57,7 @@ fn query_of(alloc: Global, word: &str, location: &str) -> Result<Option<Command>
 
 /// The command of the words, none where they are no row of the table of words.
 pub fn command_of(alloc: Global, words: &[String]) -> Result<Option<Command>, AllocError>
-    ensures command { IfOk result (λ command. command ≡ command_in words.now) }
-    ensures good { IfOk result IsGood }
+    ensures { IfOk result (λ command. command ≡ command_in words.now) }
 {
     match words {
         [word] => Ok(option_of(word.as_str())),

@@ -3,15 +3,15 @@ use Rattle.std.specs.Prelude.{decimal}
 use Rattle.share_main.proofs.Flows.{Wrote-on, whole, short}
 use Rattle.share_main.proofs.run.write_numbered.Goals as goal
 
-pub returns-then-not-write_all : goal.returns-then-not-write_all
-returns-then-not-write_all g c =
-    short (g.K.Sink.holds c.args.sink.now) (g.K.Sink.holds c.write_all.new.sink) (g.K.Sink.faults c.args.sink.now) (g.K.Sink.faults c.write_all.new.sink)
-    c.args.text.now c.args.text.now (decimal c.args.number ++ codes "\n") c.write_all.result refl c.if-not-write_all.true c.write_all.ensures
+pub returns-then-not-write_text : goal.returns-then-not-write_text
+returns-then-not-write_text g c =
+    short (g.K.Sink.holds c.args.sink.now) (g.K.Sink.holds c.write_text.new.sink) (g.K.Sink.faults c.args.sink.now) (g.K.Sink.faults c.write_text.new.sink)
+    c.args.text.now c.args.text.now (decimal c.args.number ++ codes "\n") c.write_text.result refl c.if-not-write_text.true c.write_text.ensures
 
 pub returns : goal.returns
 returns g c =
-    Wrote-on (g.K.Sink.holds c.args.sink.now) (g.K.Sink.holds c.write_all.new.sink) (g.K.Sink.holds c.write_last.new.sink) (g.K.Sink.faults c.args.sink.now) (g.K.Sink.faults c.write_all.new.sink) (g.K.Sink.faults c.write_last.new.sink)
+    Wrote-on (g.K.Sink.holds c.args.sink.now) (g.K.Sink.holds c.write_text.new.sink) (g.K.Sink.holds c.write_last.new.sink) (g.K.Sink.faults c.args.sink.now) (g.K.Sink.faults c.write_text.new.sink) (g.K.Sink.faults c.write_last.new.sink)
     c.args.text.now (decimal c.args.number ++ codes "\n") c.write_last.result
-    (whole (g.K.Sink.holds c.args.sink.now) (g.K.Sink.holds c.write_all.new.sink) (g.K.Sink.faults c.args.sink.now) (g.K.Sink.faults c.write_all.new.sink)
-    c.args.text.now c.args.text.now c.write_all.result refl c.if-not-write_all.false c.write_all.ensures)
+    (whole (g.K.Sink.holds c.args.sink.now) (g.K.Sink.holds c.write_text.new.sink) (g.K.Sink.faults c.args.sink.now) (g.K.Sink.faults c.write_text.new.sink)
+    c.args.text.now c.args.text.now c.write_text.result refl c.if-not-write_text.false c.write_text.ensures)
     c.write_last.ensures

@@ -1,11 +1,11 @@
-// Writing to a sink.
+// Writing all of some bytes.
 ghost use Rattle.std.specs.Prelude.{◌≤◌};
-ghost use Rattle.http_wire.specs.Writes.{Wrote};
+ghost use Rattle.edge_core.specs.Flow.{Wrote};
 
-use edge_core::{Gave, Sink};
+use crate::sink::{Gave, Sink};
 
-/// Writes all of the bytes. The error is how many of them went out before a write failed, and comes only where the sink's
-/// count of faults rose in this call. It takes no memory.
+/// Writes all of the bytes, in as many writes as the sink makes of them. The error is how many of them went out before a write
+/// failed, and comes only where the sink's count of faults rose in this call. It takes no memory.
 pub fn write_all<K: Sink>(sink: &mut K, bytes: &[u8]) -> Result<(), u64>
     ensures later { K.faults sink.old ≤ K.faults sink.new }
     ensures wrote { Wrote (K.holds sink.old) (K.holds sink.new) (K.faults sink.old) (K.faults sink.new) bytes.now result }
