@@ -4,4 +4,3 @@ pub mod ReadBack
 pub mod Pieces
 pub mod BodyBack
 pub mod ErrorBack
-pub mod PrintedOnto

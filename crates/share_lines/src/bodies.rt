@@ -5,7 +5,7 @@ ghost use Rattle.share_lines.specs.Printing.{body_text, is_printable};
 ghost use Rattle.share_lines.specs.Reading.{Gives};
 
 use crate::faults::LineFault;
-use crate::printing::line_onto;
+use crate::printing::push_line;
 use crate::reading::line_of;
 use crate::{Line, Lines, LinesFault};
 use json_print::lines::cut;
@@ -76,12 +76,9 @@ pub fn lines_text(alloc: Global, lines: &[Line]) -> Result<Text, AllocError>
     ensures text { IfOk result (λ t. t ≡ body_text lines.now) }
     ensures back { IfOk result (λ t. lines_in t ≡ Ok lines.now) }
 {
-    let mut body = Vec::new(alloc);
+    let mut body = String::new(alloc);
     for line in lines {
-        body = line_onto(body, line)?;
+        push_line(alloc, &mut body, line)?;
     }
-    match String::from_utf8(body) {
-        Ok(text) => Ok(Text::of(text)),
-        Err(_) => unreachable!(),
-    }
+    Ok(Text::of(body))
 }

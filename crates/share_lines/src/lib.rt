@@ -21,6 +21,6 @@ pub use bodies::{lines_of, lines_text};
 pub use errors::{error_of, error_text, one_error};
 pub use faults::LinesFault;
 pub use kinds::{EndLine, FileLine, Line, Lines, MetaLine};
-pub use printing::{line_onto, line_text, push_line};
+pub use printing::{line_text, push_line};
 pub use ranges::{TableVersion, UrlExpiry};
 pub use table_lines::{push_file, push_meta, push_protocol};

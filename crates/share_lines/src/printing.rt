@@ -183,6 +183,8 @@ pub fn line_text(alloc: Global, line: &Line) -> Result<Text, AllocError>
 }
 
 /// Appends a line's text and a line feed. On `Err`, which is want of memory, the text is as it was.
+///
+/// The line is written in a buffer of its own and copied, as in `push_file`.
 pub fn push_line(alloc: Global, out: &mut String, line: &Line) -> Result<(), AllocError>
     requires { IsTrue (is_printable line.now) }
     ensures text { OnOk result (string_bytes out.new ≡ string_bytes out.old ++ (line_text line.now ++ 10 ∷ [])) }
@@ -192,19 +194,4 @@ pub fn push_line(alloc: Global, out: &mut String, line: &Line) -> Result<(), All
     let mut text = printed_line(alloc, line)?;
     text.push('\n')?;
     out.push_str(text.as_str())
-}
-
-/// Appends a line's text and a line feed to a buffer, and hands it back. Memory is taken only where
-/// the buffer has too little room. On `Err`, which is want of memory, the buffer is gone.
-pub fn line_onto(buffer: Vec<u8>, line: &Line) -> Result<Vec<u8>, AllocError>
-    requires { IsTrue (is_printable line.now) }
-    ensures text { IfOk result (λ v. v.items ≡ buffer.items ++ (line_text line.now ++ 10 ∷ [])) }
-    ensures back { OnOk result (line_at (line_text line.now) ≡ Some line.now) }
-    ensures utf8 { IfOk result (λ v. IsUtf8 buffer.items → IsUtf8 v.items) }
-{
-    let mut writer = Writer::new(buffer);
-    line_object(&mut writer, line)?;
-    let mut bytes = writer.into_inner();
-    bytes.push(b'\n')?;
-    Ok(bytes)
 }

@@ -1,5 +1,5 @@
 use Rattle.std.proofs.Common.{◌≡◌, take}
-use Rattle.std.specs.Prelude.{IsUtf8}
+use Rattle.std.specs.Prelude.{string_bytes}
 use Rattle.share_lines.specs.Printing.{body_text}
 use Rattle.share_lines.proofs.BodyBack.{AreReadBack}
 use Rattle.share_lines.proofs.bodies.lines_text.Given as goal
@@ -7,7 +7,6 @@ use Rattle.share_lines.proofs.bodies.lines_text.Given as goal
 -- the lines so far, and each is read back
 abbrev pub invariant-loop-line : goal.invariant-loop-line
 invariant-loop-line l = record {
-  text : l.body.items ≡ body_text (take l.line-index l.lines);
+  text : string_bytes l.body ≡ body_text (take l.line-index l.lines);
   back : AreReadBack (take l.line-index l.lines);
-  utf8 : IsUtf8 l.body.items;
 }
