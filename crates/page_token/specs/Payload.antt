@@ -8,6 +8,9 @@ use Rattle.page_token.specs.declared.cursor.ListKind.{ListKind}
 use Rattle.page_token.specs.declared.cursor.ListKind.TheVariants as kind
 use Rattle.page_token.specs.declared.cursor.Asked.{Asked}
 use Rattle.page_token.specs.declared.cursor.Asked.TheVariants as asked
+use Rattle.page_token.specs.declared.cursor.ListCursor.{ListCursor}
+use Rattle.page_token.specs.declared.cursor.FilesCursor.{FilesCursor}
+use Rattle.page_token.specs.declared.cursor.FeedCursor.{FeedCursor}
 use Rattle.page_token.specs.declared.cursor.Cursor.{Cursor}
 use Rattle.page_token.specs.declared.cursor.Cursor.TheVariants as cursor
 
@@ -34,15 +37,23 @@ abbrev pub hint_field : Option (List ℕ) → List ℕ
 hint_field None = codes "-"
 hint_field (Some text) = codes "+" ++ text
 
+abbrev pub list_fields : ListCursor → List (List ℕ)
+list_fields c = kind_field c.kind ∷ c.recipient ∷ c.share ∷ c.schema ∷ c.after ∷ []
+
+abbrev pub files_fields : FilesCursor → List (List ℕ)
+files_fields c =
+    codes "q" ∷ c.recipient ∷ c.share ∷ c.schema ∷ c.table ∷ decimal c.grant ∷ decimal c.binding
+    ∷ asked_field c.asked ∷ decimal c.version ∷ hint_field c.hint ∷ decimal c.place ∷ []
+
+abbrev pub feed_fields : FeedCursor → List (List ℕ)
+feed_fields c =
+    codes "f" ∷ c.recipient ∷ c.share ∷ c.schema ∷ c.table ∷ decimal c.grant ∷ decimal c.binding
+    ∷ asked_field c.asked_from ∷ asked_field c.asked_to ∷ decimal c.from ∷ decimal c.to ∷ decimal c.place ∷ []
+
 abbrev pub fields : Cursor → List (List ℕ)
-fields (cursor.List kind recipient share schema after) =
-    kind_field kind ∷ recipient ∷ share ∷ schema ∷ after ∷ []
-fields (cursor.Files recipient share schema table grant binding asked version hint place) =
-    codes "q" ∷ recipient ∷ share ∷ schema ∷ table ∷ decimal grant ∷ decimal binding
-    ∷ asked_field asked ∷ decimal version ∷ hint_field hint ∷ decimal place ∷ []
-fields (cursor.Feed recipient share schema table grant binding asked_from asked_to from to place) =
-    codes "f" ∷ recipient ∷ share ∷ schema ∷ table ∷ decimal grant ∷ decimal binding
-    ∷ asked_field asked_from ∷ asked_field asked_to ∷ decimal from ∷ decimal to ∷ decimal place ∷ []
+fields (cursor.List c) = list_fields c
+fields (cursor.Files c) = files_fields c
+fields (cursor.Feed c) = feed_fields c
 
 abbrev pub payload : Cursor → List ℕ
 payload c = flat_map field (fields c)
@@ -55,27 +66,40 @@ IsAskedInRange (asked.Version version) = version < 2 ^ 63
 IsAskedInRange (asked.Moment moment) = ⊤
 
 -- editions, versions and places are below 2^63
-abbrev pub IsInRange : Cursor → Type 0
-IsInRange (cursor.List kind recipient share schema after) = ⊤
-IsInRange (cursor.Files recipient share schema table grant binding asked version hint place) =
-    (grant < 2 ^ 63) × (binding < 2 ^ 63) × IsAskedInRange asked × (version < 2 ^ 63) × (place < 2 ^ 63)
-IsInRange (cursor.Feed recipient share schema table grant binding asked_from asked_to from to place) =
-    (grant < 2 ^ 63) × (binding < 2 ^ 63) × IsAskedInRange asked_from × IsAskedInRange asked_to
-    × (from < 2 ^ 63) × (to < 2 ^ 63) × (place < 2 ^ 63)
+abbrev pub IsFilesInRange : FilesCursor → Type 0
+IsFilesInRange c = (c.grant < 2 ^ 63) × (c.binding < 2 ^ 63) × IsAskedInRange c.asked × (c.version < 2 ^ 63) × (c.place < 2 ^ 63)
 
+abbrev pub IsFeedInRange : FeedCursor → Type 0
+IsFeedInRange c =
+    (c.grant < 2 ^ 63) × (c.binding < 2 ^ 63) × IsAskedInRange c.asked_from × IsAskedInRange c.asked_to
+    × (c.from < 2 ^ 63) × (c.to < 2 ^ 63) × (c.place < 2 ^ 63)
+
+abbrev pub IsInRange : Cursor → Type 0
+IsInRange (cursor.List c) = ⊤
+IsInRange (cursor.Files c) = IsFilesInRange c
+IsInRange (cursor.Feed c) = IsFeedInRange c
+
+-- What a Rust cursor satisfies by its type: its texts are UTF-8, and its moments have 128 bits.
 abbrev pub IsAskedValue : Asked → Type 0
 IsAskedValue asked.Latest = ⊤
 IsAskedValue (asked.Version version) = ⊤
 IsAskedValue (asked.Moment moment) = FitsSigned w128 moment
 
--- What a Rust cursor satisfies by its type: its texts are UTF-8, and its moments have 128 bits.
+abbrev pub IsListValue : ListCursor → Type 0
+IsListValue c = IsUtf8 c.recipient × IsUtf8 c.share × IsUtf8 c.schema × IsUtf8 c.after
+
+abbrev pub IsFilesValue : FilesCursor → Type 0
+IsFilesValue c =
+    IsUtf8 c.recipient × IsUtf8 c.share × IsUtf8 c.schema × IsUtf8 c.table × IsAskedValue c.asked × IfSome c.hint IsUtf8
+
+abbrev pub IsFeedValue : FeedCursor → Type 0
+IsFeedValue c =
+    IsUtf8 c.recipient × IsUtf8 c.share × IsUtf8 c.schema × IsUtf8 c.table × IsAskedValue c.asked_from × IsAskedValue c.asked_to
+
 abbrev pub IsValue : Cursor → Type 0
-IsValue (cursor.List kind recipient share schema after) =
-    IsUtf8 recipient × IsUtf8 share × IsUtf8 schema × IsUtf8 after
-IsValue (cursor.Files recipient share schema table grant binding asked version hint place) =
-    IsUtf8 recipient × IsUtf8 share × IsUtf8 schema × IsUtf8 table × IsAskedValue asked × IfSome hint IsUtf8
-IsValue (cursor.Feed recipient share schema table grant binding asked_from asked_to from to place) =
-    IsUtf8 recipient × IsUtf8 share × IsUtf8 schema × IsUtf8 table × IsAskedValue asked_from × IsAskedValue asked_to
+IsValue (cursor.List c) = IsListValue c
+IsValue (cursor.Files c) = IsFilesValue c
+IsValue (cursor.Feed c) = IsFeedValue c
 
 -- the bytes are this cursor's payload
 pub record IsPayload (bytes : List ℕ) (c : Cursor) : Type 0 where

@@ -9,6 +9,9 @@ use Rattle.page_token.specs.declared.cursor.ListKind.{ListKind}
 use Rattle.page_token.specs.declared.cursor.ListKind.TheVariants as kind
 use Rattle.page_token.specs.declared.cursor.Asked.{Asked}
 use Rattle.page_token.specs.declared.cursor.Asked.TheVariants as asked
+use Rattle.page_token.specs.declared.cursor.ListCursor.{ListCursor}
+use Rattle.page_token.specs.declared.cursor.FilesCursor.{FilesCursor}
+use Rattle.page_token.specs.declared.cursor.FeedCursor.{FeedCursor}
 use Rattle.page_token.specs.declared.cursor.Cursor.{Cursor}
 use Rattle.page_token.specs.declared.cursor.Cursor.TheVariants as cursor
 
@@ -81,7 +84,7 @@ hint_of (b ∷ bs) =
     else if b == 43 then (text_of bs >>= λ t. Some (Some t))
     else None
 
-unfoldable pub list_in : ListKind → List ℕ → Option Cursor
+unfoldable pub list_in : ListKind → List ℕ → Option ListCursor
 list_in kind bytes = do
   recipient ← field_in bytes
   share ← field_in recipient.1
@@ -91,9 +94,9 @@ list_in kind bytes = do
   share_text ← text_of share.0
   schema_text ← text_of schema.0
   after_text ← text_of after.0
-  Some (cursor.List kind recipient_text share_text schema_text after_text)
+  Some (record { kind = kind; recipient = recipient_text; share = share_text; schema = schema_text; after = after_text })
 
-unfoldable pub files_in : List ℕ → Option Cursor
+unfoldable pub files_in : List ℕ → Option FilesCursor
 files_in bytes = do
   recipient ← field_in bytes
   share ← field_in recipient.1
@@ -110,9 +113,20 @@ files_in bytes = do
   schema_text ← text_of schema.0
   table_text ← text_of table.0
   hint_text ← hint_of hint.0
-  Some (cursor.Files recipient_text share_text schema_text table_text grant.0 binding.0 asked.0 version.0 hint_text place.0)
+  Some (record {
+    recipient = recipient_text;
+    share = share_text;
+    schema = schema_text;
+    table = table_text;
+    grant = grant.0;
+    binding = binding.0;
+    asked = asked.0;
+    version = version.0;
+    hint = hint_text;
+    place = place.0;
+  })
 
-unfoldable pub feed_in : List ℕ → Option Cursor
+unfoldable pub feed_in : List ℕ → Option FeedCursor
 feed_in bytes = do
   recipient ← field_in bytes
   share ← field_in recipient.1
@@ -129,18 +143,30 @@ feed_in bytes = do
   share_text ← text_of share.0
   schema_text ← text_of schema.0
   table_text ← text_of table.0
-  Some (cursor.Feed recipient_text share_text schema_text table_text grant.0 binding.0 asked_from.0 asked_to.0 from.0 to.0 place.0)
+  Some (record {
+    recipient = recipient_text;
+    share = share_text;
+    schema = schema_text;
+    table = table_text;
+    grant = grant.0;
+    binding = binding.0;
+    asked_from = asked_from.0;
+    asked_to = asked_to.0;
+    from = from.0;
+    to = to.0;
+    place = place.0;
+  })
 
 -- by the first field
 unfoldable pub by_first : List ℕ → List ℕ → Option Cursor
 by_first [] rest = None
 by_first (b ∷ bs) rest =
-    if b == 115 then list_in kind.Shares rest
-    else if b == 99 then list_in kind.Schemas rest
-    else if b == 116 then list_in kind.Tables rest
-    else if b == 97 then list_in kind.AllTables rest
-    else if b == 113 then files_in rest
-    else if b == 102 then feed_in rest
+    if b == 115 then (list_in kind.Shares rest >>= λ c. Some (cursor.List c))
+    else if b == 99 then (list_in kind.Schemas rest >>= λ c. Some (cursor.List c))
+    else if b == 116 then (list_in kind.Tables rest >>= λ c. Some (cursor.List c))
+    else if b == 97 then (list_in kind.AllTables rest >>= λ c. Some (cursor.List c))
+    else if b == 113 then (files_in rest >>= λ c. Some (cursor.Files c))
+    else if b == 102 then (feed_in rest >>= λ c. Some (cursor.Feed c))
     else None
 
 unfoldable pub cursor_in : List ℕ → Option Cursor

@@ -25,54 +25,80 @@ pub enum Asked {
     Moment(i128),
 }
 
-/// Where a listing or a query goes on. Editions, versions and places are below 2^63 in each cursor that has a
-/// token.
+/// Where a listing or a query goes on.
 #[derive(Drop)]
 pub enum Cursor {
-    /// A listing. A share or schema that the listing isn't of is the empty text.
-    List {
-        kind: ListKind,
-        recipient: Text,
-        share: Text,
-        schema: Text,
-        /// The last name given, of all tables `schema/table`; the empty text before the first.
-        after: Text,
-    },
+    /// A listing.
+    List(ListCursor),
     /// The files of a table.
-    Files {
-        recipient: Text,
-        share: Text,
-        schema: Text,
-        table: Text,
-        /// The edition of the recipient's grant.
-        grant: u64,
-        /// The edition of the table's binding.
-        binding: u64,
-        asked: Asked,
-        /// The version that is answered.
-        version: u64,
-        /// The text that was used as the predicate.
-        hint: Option<Text>,
-        /// How many files were given.
-        place: u64,
-    },
+    Files(FilesCursor),
     /// The changes of a table.
-    Feed {
-        recipient: Text,
-        share: Text,
-        schema: Text,
-        table: Text,
-        /// The edition of the recipient's grant.
-        grant: u64,
-        /// The edition of the table's binding.
-        binding: u64,
-        asked_from: Asked,
-        asked_to: Asked,
-        /// The first version that is answered.
-        from: u64,
-        /// The last version that is answered.
-        to: u64,
-        /// How many lines were given.
-        place: u64,
-    },
+    Feed(FeedCursor),
+}
+
+/// Where a listing goes on.
+#[derive(Drop)]
+pub struct ListCursor {
+    /// What is listed.
+    pub kind: ListKind,
+    /// The name of the recipient that asked.
+    pub recipient: Text,
+    /// The share that is listed, or the empty text where the listing is of no share.
+    pub share: Text,
+    /// The schema that is listed, or the empty text where the listing is of no schema.
+    pub schema: Text,
+    /// The last name given, of all tables `schema/table`; the empty text before the first.
+    pub after: Text,
+}
+
+/// Where the files of a table go on. Editions, versions and places are below 2^63 in each cursor that has a token.
+#[derive(Drop)]
+pub struct FilesCursor {
+    /// The name of the recipient that asked.
+    pub recipient: Text,
+    /// The share that the table is in.
+    pub share: Text,
+    /// The schema that the table is in.
+    pub schema: Text,
+    /// The table's name.
+    pub table: Text,
+    /// The edition of the recipient's grant.
+    pub grant: u64,
+    /// The edition of the table's binding.
+    pub binding: u64,
+    /// The state that was asked for.
+    pub asked: Asked,
+    /// The version that is answered.
+    pub version: u64,
+    /// The text that was used as the predicate.
+    pub hint: Option<Text>,
+    /// How many files were given.
+    pub place: u64,
+}
+
+/// Where the changes of a table go on. Editions, versions and places are below 2^63 in each cursor that has a token.
+#[derive(Drop)]
+pub struct FeedCursor {
+    /// The name of the recipient that asked.
+    pub recipient: Text,
+    /// The share that the table is in.
+    pub share: Text,
+    /// The schema that the table is in.
+    pub schema: Text,
+    /// The table's name.
+    pub table: Text,
+    /// The edition of the recipient's grant.
+    pub grant: u64,
+    /// The edition of the table's binding.
+    pub binding: u64,
+    /// The first state that was asked for.
+    pub asked_from: Asked,
+    /// The last state that was asked for.
+    pub asked_to: Asked,
+    /// The first version that is answered.
+    pub from: u64,
+    /// The last version that is answered.
+    pub to: u64,
+    /// How many lines were given.
+    pub place: u64,
 }

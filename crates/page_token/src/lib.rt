@@ -7,7 +7,7 @@ mod payload;
 mod reading;
 mod token;
 
-pub use cursor::{Asked, Cursor, ListKind};
+pub use cursor::{Asked, Cursor, FeedCursor, FilesCursor, ListCursor, ListKind};
 pub use token::{cursor_of, one_cursor, spell};
 
 #[cfg(test)]

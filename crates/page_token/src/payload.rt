@@ -3,9 +3,9 @@ ghost use Rattle.std.specs.Prelude.{◌≡◌, ◌++◌, [], ◌∷◌, IfOk, On
 ghost use Rattle.std.specs.List.{flat_map};
 ghost use Rattle.std.specs.Str.{IsUtf8};
 ghost use Rattle.std.specs.Fmt.{decimal};
-ghost use Rattle.page_token.specs.Payload.{field, kind_field, asked_field, hint_field, payload, IsAskedValue, IsValue};
+ghost use Rattle.page_token.specs.Payload.{field, kind_field, asked_field, hint_field, list_fields, files_fields, feed_fields, payload, IsAskedValue, IsListValue, IsFilesValue, IsFeedValue, IsValue};
 
-use crate::cursor::{Asked, Cursor, ListKind};
+use crate::cursor::{Asked, Cursor, FeedCursor, FilesCursor, ListCursor, ListKind};
 use json_tree::Text;
 use std::alloc::{AllocError, Global};
 
@@ -104,62 +104,71 @@ fn front_of(
     Ok(payload)
 }
 
+fn list_payload(alloc: Global, list: &ListCursor) -> Result<String, AllocError>
+    ensures text { IfOk result (λ p. string_bytes p ≡ flat_map field (list_fields list.now)) }
+    ensures value { IfOk result (λ _. IsListValue list.now) }
+{
+    front_of(
+        alloc,
+        kind_text(list.kind),
+        &list.recipient,
+        &list.share,
+        &list.schema,
+        &list.after,
+    )
+}
+
+fn files_payload(alloc: Global, files: &FilesCursor) -> Result<String, AllocError>
+    ensures text { IfOk result (λ p. string_bytes p ≡ flat_map field (files_fields files.now)) }
+    ensures value { IfOk result (λ _. IsFilesValue files.now) }
+{
+    let mut payload = front_of(
+        alloc,
+        "q",
+        &files.recipient,
+        &files.share,
+        &files.schema,
+        &files.table,
+    )?;
+    push_number(alloc, &mut payload, files.grant)?;
+    push_number(alloc, &mut payload, files.binding)?;
+    push_asked(alloc, &mut payload, &files.asked)?;
+    push_number(alloc, &mut payload, files.version)?;
+    push_hint(alloc, &mut payload, &files.hint)?;
+    push_number(alloc, &mut payload, files.place)?;
+    Ok(payload)
+}
+
+fn feed_payload(alloc: Global, feed: &FeedCursor) -> Result<String, AllocError>
+    ensures text { IfOk result (λ p. string_bytes p ≡ flat_map field (feed_fields feed.now)) }
+    ensures value { IfOk result (λ _. IsFeedValue feed.now) }
+{
+    let mut payload = front_of(
+        alloc,
+        "f",
+        &feed.recipient,
+        &feed.share,
+        &feed.schema,
+        &feed.table,
+    )?;
+    push_number(alloc, &mut payload, feed.grant)?;
+    push_number(alloc, &mut payload, feed.binding)?;
+    push_asked(alloc, &mut payload, &feed.asked_from)?;
+    push_asked(alloc, &mut payload, &feed.asked_to)?;
+    push_number(alloc, &mut payload, feed.from)?;
+    push_number(alloc, &mut payload, feed.to)?;
+    push_number(alloc, &mut payload, feed.place)?;
+    Ok(payload)
+}
+
 /// The payload of the cursor.
 pub(crate) fn payload_of(alloc: Global, cursor: &Cursor) -> Result<String, AllocError>
     ensures text { IfOk result (λ p. string_bytes p ≡ payload cursor.now) }
     ensures value { IfOk result (λ _. IsValue cursor.now) }
 {
     match cursor {
-        Cursor::List {
-            kind,
-            recipient,
-            share,
-            schema,
-            after,
-        } => front_of(alloc, kind_text(*kind), recipient, share, schema, after),
-        Cursor::Files {
-            recipient,
-            share,
-            schema,
-            table,
-            grant,
-            binding,
-            asked,
-            version,
-            hint,
-            place,
-        } => {
-            let mut payload = front_of(alloc, "q", recipient, share, schema, table)?;
-            push_number(alloc, &mut payload, *grant)?;
-            push_number(alloc, &mut payload, *binding)?;
-            push_asked(alloc, &mut payload, asked)?;
-            push_number(alloc, &mut payload, *version)?;
-            push_hint(alloc, &mut payload, hint)?;
-            push_number(alloc, &mut payload, *place)?;
-            Ok(payload)
-        }
-        Cursor::Feed {
-            recipient,
-            share,
-            schema,
-            table,
-            grant,
-            binding,
-            asked_from,
-            asked_to,
-            from,
-            to,
-            place,
-        } => {
-            let mut payload = front_of(alloc, "f", recipient, share, schema, table)?;
-            push_number(alloc, &mut payload, *grant)?;
-            push_number(alloc, &mut payload, *binding)?;
-            push_asked(alloc, &mut payload, asked_from)?;
-            push_asked(alloc, &mut payload, asked_to)?;
-            push_number(alloc, &mut payload, *from)?;
-            push_number(alloc, &mut payload, *to)?;
-            push_number(alloc, &mut payload, *place)?;
-            Ok(payload)
-        }
+        Cursor::List(list) => list_payload(alloc, list),
+        Cursor::Files(files) => files_payload(alloc, files),
+        Cursor::Feed(feed) => feed_payload(alloc, feed),
     }
 }

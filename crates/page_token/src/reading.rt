@@ -1,10 +1,10 @@
 // Payloads read. What is read is no more than a guess: the caller spells it again and compares.
 ghost use Rattle.std.specs.Prelude.{◌≡◌, ◌^◌, ◌<◌, ◌==◌, Some, position, IfOk, IfSome};
-ghost use Rattle.page_token.specs.Payload.{IsAskedInRange, IsInRange, IsPayload};
+ghost use Rattle.page_token.specs.Payload.{IsAskedInRange, IsFilesInRange, IsFeedInRange, IsInRange, IsPayload};
 ghost use Rattle.page_token.specs.declared.cursor.Cursor.{Cursor};
 ghost use Rattle.page_token.specs.Reading.{Gives, digits_in, field_in, number_in, moment_of, asked_of, asked_in, text_of, hint_of, list_in, files_in, feed_in, by_first, cursor_in};
 
-use crate::cursor::{Asked, Cursor, ListKind};
+use crate::cursor::{Asked, Cursor, FeedCursor, FilesCursor, ListCursor, ListKind};
 use crate::fault::Fault;
 use crate::payload::payload_of;
 use json_tree::Text;
@@ -131,9 +131,8 @@ fn hint_of(alloc: Global, field: &[u8]) -> Result<Option<Text>, Fault>
 }
 
 #[tactic(auto, unfolding(crate::specs::Reading::list_in))]
-fn list_in(alloc: Global, kind: ListKind, bytes: &[u8]) -> Result<Cursor, Fault>
-    ensures value { Gives (λ c. c) result (list_in kind bytes.now) }
-    ensures in_range { IfOk result IsInRange }
+fn list_in(alloc: Global, kind: ListKind, bytes: &[u8]) -> Result<ListCursor, Fault>
+    ensures { Gives (λ c. c) result (list_in kind bytes.now) }
 {
     let (recipient, rest) = field_in(bytes)?;
     let (share, rest) = field_in(rest)?;
@@ -143,7 +142,7 @@ fn list_in(alloc: Global, kind: ListKind, bytes: &[u8]) -> Result<Cursor, Fault>
     let share = text_of(alloc, share)?;
     let schema = text_of(alloc, schema)?;
     let after = text_of(alloc, after)?;
-    Ok(Cursor::List {
+    Ok(ListCursor {
         kind,
         recipient,
         share,
@@ -153,9 +152,9 @@ fn list_in(alloc: Global, kind: ListKind, bytes: &[u8]) -> Result<Cursor, Fault>
 }
 
 #[tactic(auto, unfolding(crate::specs::Reading::files_in))]
-fn files_in(alloc: Global, bytes: &[u8]) -> Result<Cursor, Fault>
+fn files_in(alloc: Global, bytes: &[u8]) -> Result<FilesCursor, Fault>
     ensures value { Gives (λ c. c) result (files_in bytes.now) }
-    ensures in_range { IfOk result IsInRange }
+    ensures in_range { IfOk result IsFilesInRange }
 {
     let (recipient, rest) = field_in(bytes)?;
     let (share, rest) = field_in(rest)?;
@@ -172,7 +171,7 @@ fn files_in(alloc: Global, bytes: &[u8]) -> Result<Cursor, Fault>
     let schema = text_of(alloc, schema)?;
     let table = text_of(alloc, table)?;
     let hint = hint_of(alloc, hint)?;
-    Ok(Cursor::Files {
+    Ok(FilesCursor {
         recipient,
         share,
         schema,
@@ -187,9 +186,9 @@ fn files_in(alloc: Global, bytes: &[u8]) -> Result<Cursor, Fault>
 }
 
 #[tactic(auto, unfolding(crate::specs::Reading::feed_in))]
-fn feed_in(alloc: Global, bytes: &[u8]) -> Result<Cursor, Fault>
+fn feed_in(alloc: Global, bytes: &[u8]) -> Result<FeedCursor, Fault>
     ensures value { Gives (λ c. c) result (feed_in bytes.now) }
-    ensures in_range { IfOk result IsInRange }
+    ensures in_range { IfOk result IsFeedInRange }
 {
     let (recipient, rest) = field_in(bytes)?;
     let (share, rest) = field_in(rest)?;
@@ -206,7 +205,7 @@ fn feed_in(alloc: Global, bytes: &[u8]) -> Result<Cursor, Fault>
     let share = text_of(alloc, share)?;
     let schema = text_of(alloc, schema)?;
     let table = text_of(alloc, table)?;
-    Ok(Cursor::Feed {
+    Ok(FeedCursor {
         recipient,
         share,
         schema,
@@ -227,12 +226,12 @@ fn by_first(alloc: Global, first: &[u8], rest: &[u8]) -> Result<Cursor, Fault>
     ensures in_range { IfOk result IsInRange }
 {
     match first {
-        [b's', ..] => list_in(alloc, ListKind::Shares, rest),
-        [b'c', ..] => list_in(alloc, ListKind::Schemas, rest),
-        [b't', ..] => list_in(alloc, ListKind::Tables, rest),
-        [b'a', ..] => list_in(alloc, ListKind::AllTables, rest),
-        [b'q', ..] => files_in(alloc, rest),
-        [b'f', ..] => feed_in(alloc, rest),
+        [b's', ..] => Ok(Cursor::List(list_in(alloc, ListKind::Shares, rest)?)),
+        [b'c', ..] => Ok(Cursor::List(list_in(alloc, ListKind::Schemas, rest)?)),
+        [b't', ..] => Ok(Cursor::List(list_in(alloc, ListKind::Tables, rest)?)),
+        [b'a', ..] => Ok(Cursor::List(list_in(alloc, ListKind::AllTables, rest)?)),
+        [b'q', ..] => Ok(Cursor::Files(files_in(alloc, rest)?)),
+        [b'f', ..] => Ok(Cursor::Feed(feed_in(alloc, rest)?)),
         _ => Err(Fault::NotSpelt),
     }
 }

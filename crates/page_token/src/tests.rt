@@ -34,7 +34,7 @@ fn files(alloc: Global, asked: Asked, hint: Option<Text>, place: u64) -> Result<
     requires place { place < 2 ^ 63 }
     ensures { IfOk result IsInRange }
 {
-    Ok(Cursor::Files {
+    Ok(Cursor::Files(FilesCursor {
         recipient: text(alloc, "r1")?,
         share: text(alloc, "s1")?,
         schema: text(alloc, "sc")?,
@@ -45,7 +45,7 @@ fn files(alloc: Global, asked: Asked, hint: Option<Text>, place: u64) -> Result<
         version: 4,
         hint,
         place,
-    })
+    }))
 }
 
 #[test]
@@ -68,13 +68,13 @@ fn spells_a_moment_and_a_hint(rt: HostRuntime) -> Result<(), Fail> {
 #[test]
 fn spells_a_listing(rt: HostRuntime) -> Result<(), Fail> {
     let alloc = rt.alloc();
-    let cursor = Cursor::List {
+    let cursor = Cursor::List(ListCursor {
         kind: ListKind::AllTables,
         recipient: text(alloc, "r1")?,
         share: text(alloc, "s1")?,
         schema: text(alloc, "")?,
         after: text(alloc, "sc/t1")?,
-    };
+    });
     assert!(rt; spell(alloc, &KEY, &cursor)?.as_str() == ALL_TABLES);
     Ok(())
 }
@@ -82,7 +82,7 @@ fn spells_a_listing(rt: HostRuntime) -> Result<(), Fail> {
 #[test]
 fn spells_a_feed(rt: HostRuntime) -> Result<(), Fail> {
     let alloc = rt.alloc();
-    let cursor = Cursor::Feed {
+    let cursor = Cursor::Feed(FeedCursor {
         recipient: text(alloc, "r1")?,
         share: text(alloc, "s1")?,
         schema: text(alloc, "sc")?,
@@ -94,7 +94,7 @@ fn spells_a_feed(rt: HostRuntime) -> Result<(), Fail> {
         from: 0,
         to: (1 << 63) - 1,
         place: 12,
-    };
+    });
     assert!(rt; spell(alloc, &KEY, &cursor)?.as_str() == FEED);
     Ok(())
 }
@@ -102,9 +102,9 @@ fn spells_a_feed(rt: HostRuntime) -> Result<(), Fail> {
 // The place of the cursor that the token stands for, and 100 for a listing.
 fn place_in(alloc: Global, token: &str) -> Result<Option<u64>, AllocError> {
     match cursor_of(alloc, &KEY, token)? {
-        Some(Cursor::Files { place, .. }) => Ok(Some(place)),
-        Some(Cursor::Feed { place, .. }) => Ok(Some(place)),
-        Some(Cursor::List { .. }) => Ok(Some(100)),
+        Some(Cursor::Files(files)) => Ok(Some(files.place)),
+        Some(Cursor::Feed(feed)) => Ok(Some(feed.place)),
+        Some(Cursor::List(_)) => Ok(Some(100)),
         None => Ok(None),
     }
 }

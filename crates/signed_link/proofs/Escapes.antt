@@ -10,7 +10,7 @@ use Rattle.percent_encoding.proofs.PercentLemmas.{round_trip, IsByte, IsEscapeBy
 use Rattle.signed_link.specs.declared.escape.TheConstants.{RESERVED}
 use Rattle.signed_link.specs.Escape.{is_unreserved, escaped_byte, escaped}
 use Rattle.signed_link.specs.Reading.{path_of}
-use Rattle.signed_link.proofs.Bytes.{utf8_bytes}
+use Rattle.hmac_core.proofs.Bytes.{utf8_bytes}
 
 set_agrees : agree_below (should_percent_encode RESERVED) (λ b. not (is_unreserved b)) 256 ≡ true
 unfolding should_percent_encode

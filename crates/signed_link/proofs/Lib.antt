@@ -1,4 +1,3 @@
-mod Bytes
 mod Cuts
 mod Escapes
 mod Numbers

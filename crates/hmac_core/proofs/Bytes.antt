@@ -5,8 +5,10 @@ use Rattle.std.specs.Str.{IsUtf8, encode_utf8_all}
 use Rattle.std.proofs.lemmas.Bool.{and_parts, cond_both, ltb-true}
 use Rattle.std.proofs.lemmas.Bool.Decides.{nat_tests}
 use Rattle.std.proofs.lemmas.List.Elements.{All-nil, All-cons, All-append}
-use Rattle.percent_encoding.proofs.PercentLemmas.{IsByte}
 use lib.Utf8.{scalar, scalars}
+
+abbrev pub IsByte : ℕ → Type 0
+IsByte b = b < 256
 
 scalar_below : (c : ℕ) → scalar c ≡ true → c < 1114112
 scalar_below c e = grind (arith, nat_tests)
