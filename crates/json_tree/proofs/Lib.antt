@@ -1,3 +1,4 @@
 pub mod Trees
 pub mod Rest
 pub mod Order
+pub mod Rising

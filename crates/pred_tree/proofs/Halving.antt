@@ -1,16 +1,13 @@
 -- What halving finds among pairs in order of their names.
-use Rattle.std.proofs.Common.{◌≡◌, ℕ, zero, suc, ◌+◌, ◌<◌, List, [], ◌∷◌, true, false, None, Err, map, length, get_or, refl, sym, ap, ◌∙◌, subst, Less, Equal, arith, bytes_eq, nat_cmp}
+use Rattle.std.proofs.Common.{◌≡◌, ℕ, zero, suc, ◌<◌, List, [], ◌∷◌, true, false, None, Err, map, length, get_or, refl, sym, ap, ◌∙◌, subst, Less, Equal, arith, bytes_eq, nat_cmp}
 use Rattle.std.specs.Prelude.{nat_lt}
-use Rattle.std.specs.List.Sorted.{IsStrictlySortedBy, IsNonDecreasingBy, IsSortedBy, IsBinarySearchResult}
-use Rattle.std.specs.Ordering.{is_lt, is_eq, ordering_index, ordering_reverse}
+use Rattle.std.specs.List.Sorted.{IsStrictlySortedBy, IsBinarySearchResult}
+use Rattle.std.specs.Ordering.{is_eq}
 use Rattle.std.specs.Cmp.Lexicographic.{slice_cmp}
 use Rattle.std.proofs.lemmas.Bool.Decides.{nat_tests}
-use Rattle.std.proofs.lemmas.Cmp.{nat_list_cmp_total}
-use Rattle.std.proofs.lemmas.List.{get_or-map, length-map}
-use Rattle.std.proofs.lemmas.List.Sorted.{searchable_from_sorted}
-use Rattle.std.proofs.lemmas.Map.Keys.{Less-from_sorted}
 use Rattle.std.proofs.lemmas.Map.Text.{is_eq-slice_cmp}
 use Rattle.std.proofs.lemmas.Slice.Eq.{bytes_eq-Decides}
+use Rattle.json_tree.proofs.Rising.{KeysRise, below, rises}
 use Rattle.json_tree.specs.Lists.{pair_of}
 use Rattle.json_tree.specs.Pairs.{IsPairs, names}
 use Rattle.json_tree.specs.declared.pairs.Pair.{Pair}
@@ -19,31 +16,12 @@ use Rattle.pred_tree.specs.Truth.{text_of_column}
 abbrev name_of : Pair → List ℕ
 name_of p = p.name
 
-abbrev Rise : List Pair → Type 0
-Rise ps = IsStrictlySortedBy (slice_cmp nat_cmp) (map name_of ps)
-
 same_names : (ps : List Pair) → names (map pair_of ps) ≡ map name_of ps
 same_names [] = refl
 same_names (p ∷ ps) = ap (λ ns. p.name ∷ ns) (same_names ps)
 
-rise-from_pairs : (ps : List Pair) → IsPairs (map pair_of ps) → Rise ps
+rise-from_pairs : (ps : List Pair) → IsPairs (map pair_of ps) → KeysRise name_of ps
 rise-from_pairs ps h = subst (λ ns. IsStrictlySortedBy (slice_cmp nat_cmp) ns) (same_names ps) h
-
--- a name is below a later one
-below : (ps : List Pair) (k j : ℕ) (d : Pair) → Rise ps → k < j → j < length ps → slice_cmp nat_cmp (get_or ps k d).name (get_or ps j d).name ≡ Less
-below ps k j d rise low high =
-    subst (λ n. slice_cmp nat_cmp n (get_or ps j d).name ≡ Less) (get_or-map name_of ps k d d.name (omega (arith, low, high)))
-    (subst (λ n. slice_cmp nat_cmp (get_or (map name_of ps) k d.name) n ≡ Less) (get_or-map name_of ps j d d.name high)
-    (Less-from_sorted (slice_cmp nat_cmp) (map name_of ps) k j d.name rise low (subst (λ n. j < n) (sym (length-map ps name_of)) high)))
-
-later_is_not_less : (x y : List ℕ) → slice_cmp nat_cmp x y ≡ Less → is_lt (slice_cmp nat_cmp y x) ≡ false
-later_is_not_less x y e = ap is_lt (nat_list_cmp_total.antisymm y x ∙ ap ordering_reverse e)
-
-sorted : (ps : List Pair) → Rise ps → IsSortedBy (λ a b. is_lt (slice_cmp nat_cmp (name_of a) (name_of b))) ps
-sorted ps rise k d low high = later_is_not_less (get_or ps k d).name (get_or ps (k + 1) d).name (below ps k (k + 1) d rise (omega arith) high)
-
-rises : (ps : List Pair) (name : List ℕ) → Rise ps → IsNonDecreasingBy (λ p. ordering_index (slice_cmp nat_cmp p.name name)) ps
-rises ps name rise = searchable_from_sorted nat_list_cmp_total name_of ps name (sorted ps rise)
 
 -- the pair of that name is the first of that name
 pub found : (name : List ℕ) (ps : List Pair) (i : ℕ) (p : Pair) → IsPairs (map pair_of ps) → i < length ps → p ≡ get_or ps i p → slice_cmp nat_cmp p.name name ≡ Equal → text_of_column name (map pair_of ps) ≡ p.value
@@ -53,7 +31,7 @@ found name (q ∷ ps) zero p rise lt at is =
     let same : bytes_eq q.name name ≡ true = sym (is_eq-slice_cmp q.name name) ∙ ap is_eq (subst (λ x. slice_cmp nat_cmp x.name name ≡ Equal) at is) in
     rw same (ap (λ x. x.value) (sym at))
 found name (q ∷ ps) (suc i) p rise lt at is =
-    let lower : slice_cmp nat_cmp q.name (get_or ps i p).name ≡ Less = below (q ∷ ps) 0 (suc i) p (rise-from_pairs (q ∷ ps) rise) (omega arith) lt in
+    let lower : slice_cmp nat_cmp q.name (get_or ps i p).name ≡ Less = below name_of (q ∷ ps) 0 (suc i) p (rise-from_pairs (q ∷ ps) rise) (omega arith) lt in
     let named : p.name ≡ name = (bytes_eq-Decides p.name name).0 (sym (is_eq-slice_cmp p.name name) ∙ ap is_eq is) in
     let first : slice_cmp nat_cmp q.name name ≡ Less =
     subst (λ n. slice_cmp nat_cmp q.name n ≡ Less) named (subst (λ x. slice_cmp nat_cmp q.name x.name ≡ Less) (sym at) lower) in
@@ -69,7 +47,7 @@ none_left name (q ∷ ps) h =
 
 pub missing : (name : List ℕ) (ps : List Pair) (i : ℕ) → IsPairs (map pair_of ps) → IsBinarySearchResult (λ p. slice_cmp nat_cmp p.name name) ps (Err i) → text_of_column name (map pair_of ps) ≡ None
 missing name ps i rise ends =
-    let parted = ends (rises ps name (rise-from_pairs ps rise)) in
+    let parted = ends (rises name_of ps name (rise-from_pairs ps rise)) in
     none_left name ps (λ k d lt. elim (nat_lt k i) as (λ b. nat_lt k i ≡ b → is_eq (slice_cmp nat_cmp (get_or ps k d).name name) ≡ false) [
       | true ↦ λ e. ap is_eq (parted.0 k d (omega arith) (grind (arith, nat_tests, e)))
       | false ↦ λ e. ap is_eq (parted.1 k d (grind (arith, nat_tests, e)) lt)
