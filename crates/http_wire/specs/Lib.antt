@@ -1,9 +1,10 @@
 pub mod Streams
 pub mod Parts
+pub mod Pours
+pub mod Rests
 pub mod Heads
 pub mod Bodies
-pub mod Pours
-pub mod Finals
 pub mod Wires
 pub mod Replies
+pub mod Connections
 pub mod Writes

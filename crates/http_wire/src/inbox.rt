@@ -106,8 +106,8 @@ impl Inbox {
         }
     }
 
-    /// Puts the first bytes behind the body, at most so many, and uses them.
-    pub(crate) fn drain(&mut self, most: usize, body: &mut Vec<u8>) -> Result<(), AllocError>
+    // Puts the first bytes behind the body, at most so many, and uses them.
+    fn drain(&mut self, most: usize, body: &mut Vec<u8>) -> Result<(), AllocError>
         ensures { IsDrained most self.old self.new body.old.items body.new.items result }
     {
         let count = self.bytes().len().min(most);
@@ -116,9 +116,9 @@ impl Inbox {
         Ok(())
     }
 
-    /// Reads once, where no bytes are left here, at most so many bytes, and puts what came behind the body, as used. Want of
-    /// memory comes before the read.
-    pub(crate) fn pour<S: Source>(
+    // Reads once, where no bytes are left here, at most so many bytes, and puts what came behind the body, as used. Want of
+    // memory comes before the read.
+    fn pour<S: Source>(
         &mut self,
         source: &mut S,
         most: usize,
@@ -126,7 +126,6 @@ impl Inbox {
     ) -> Result<Filled, AllocError>
         requires empty { self.old.0 ≡ [] }
         requires some { 0 < most }
-        ensures empty { self.new.0 ≡ [] }
         ensures later { S.faults source.old ≤ S.faults source.new }
         ensures cause { RoseWhereFillFailed (S.faults source.old) (S.faults source.new) result }
         ensures told { Told (stream self.old (S.left source.old)) (stream self.new (S.left source.new)) (λ xs ys. TellsPour xs self.old.1 ys self.new.1 body.old.items body.new.items result) }
@@ -145,6 +144,35 @@ impl Inbox {
             Took::End => Ok(Filled::End),
             Took::Failed => Ok(Filled::Failed),
         }
+    }
+
+    /// Puts some bytes behind the body, at most so many, as used: bytes that are here, or where none are, those of one read.
+    /// Where fewer than a piece are wanted, the read takes what follows too. Want of memory comes before bytes are used.
+    pub(crate) fn move_some<S: Source>(
+        &mut self,
+        source: &mut S,
+        most: usize,
+        body: &mut Vec<u8>,
+    ) -> Result<Filled, AllocError>
+        requires { 0 < most }
+        ensures later { S.faults source.old ≤ S.faults source.new }
+        ensures cause { RoseWhereFillFailed (S.faults source.old) (S.faults source.new) result }
+        ensures told { Told (stream self.old (S.left source.old)) (stream self.new (S.left source.new)) (λ xs ys. TellsPour xs self.old.1 ys self.new.1 body.old.items body.new.items result) }
+        ensures grows { OnMoreFilled result (length body.old.items < length body.new.items) }
+        ensures fits { length body.new.items ≤ length body.old.items + most }
+    {
+        if self.bytes().is_empty() {
+            if most >= PIECE {
+                return self.pour(source, most, body);
+            }
+            match self.fill(source)? {
+                Filled::More => {}
+                Filled::End => return Ok(Filled::End),
+                Filled::Failed => return Ok(Filled::Failed),
+            }
+        }
+        self.drain(most, body)?;
+        Ok(Filled::More)
     }
 }
 
