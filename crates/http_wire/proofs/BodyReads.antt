@@ -1,5 +1,5 @@
 -- Parts of a body, one after another.
-use Rattle.std.proofs.Common.{ℕ, List, Option, Result, refl}
+use Rattle.std.proofs.Common.{ℕ, List, Option, Result}
 use Rattle.std.specs.declared.alloc.AllocError.{AllocError}
 use Rattle.http_wire.specs.Bodies.{PartFound, TellsPart, BodyFound, TellsBody, IsReading}
 use Rattle.http_wire.specs.Rests.{GoesOn, ReadsRest}
@@ -7,11 +7,7 @@ use Rattle.http_wire.specs.Streams.{Buffer, stream, Told}
 use Rattle.http_wire.specs.declared.begun.BegunBody.{BegunBody}
 use Rattle.http_wire.specs.declared.body.Part.{Part}
 use Rattle.http_wire.specs.declared.body.BodyRead.{BodyRead}
-use Rattle.http_wire.proofs.Streams.{Moves-none, Moves-trans}
-
--- nothing was read
-pub reading_begins : (most : ℕ) (body : BegunBody) (start : Buffer) (left : Option (List ℕ)) → Told (stream start left) (stream start left) (λ xs ys. IsReading most body body xs start.1 ys start.1)
-reading_begins most body start left = λ xs told. (xs, told, record { moves = Moves-none xs start.1 start.1 refl; goes = λ reading reads. reads })
+use Rattle.http_wire.proofs.Streams.{Moves-trans}
 
 -- what a part tells, of what was there at the start
 pub reading_goes : (most : ℕ) (old now new : BegunBody) (start here later : Buffer) (left left_here left_later : Option (List ℕ))

@@ -1,6 +1,7 @@
 pub mod Streams
 pub mod HeadEnds
 pub mod Windows
+pub mod Looks
 pub mod HeadReads
 pub mod Rests
 pub mod Pouring

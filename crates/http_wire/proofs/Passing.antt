@@ -1,5 +1,5 @@
 -- Interim heads, one after another, and what stands behind them.
-use Rattle.std.proofs.Common.{◌≡◌, ℕ, ◌+◌, ◌-◌, true, false, List, [], ◌∷◌, ◌++◌, length, Option, Some, Result, Ok, Err, refl, sym, ap, ◌∙◌, subst, arith, append_assoc, length-append}
+use Rattle.std.proofs.Common.{◌≡◌, ℕ, ◌+◌, ◌-◌, true, false, List, [], ◌∷◌, ◌++◌, length, Option, Result, Ok, Err, refl, sym, ap, ◌∙◌, subst, arith, append_assoc, length-append}
 use Rattle.std.specs.Prelude.{⊤}
 use Rattle.std.specs.declared.alloc.AllocError.{AllocError}
 use Rattle.std.proofs.lemmas.List.Elements.{All-cons, All-nil}
@@ -8,20 +8,17 @@ use Rattle.http_message.specs.Responses.{IsResponseText}
 use Rattle.http_message.specs.ResponseMessages.{HeadText, IsInterim, is_interim, heads_text, IsFinal, ReadsFinalHead}
 use Rattle.http_message.specs.declared.response.ResponseHead.{ResponseHead}
 use Rattle.http_message.proofs.WholeHeads.{headed_whole}
-use Rattle.http_wire.specs.Heads.{HeadFound, TellsHeadRead, OnWhole, OnFault}
+use Rattle.http_wire.specs.Heads.{HeadFound, TellsHeadRead, OnWhole}
 use Rattle.http_wire.specs.Replies.{IsPassing}
 use Rattle.http_wire.specs.Rests.{GoesOn}
-use Rattle.http_wire.specs.Streams.{Buffer, stream, Grows, Told}
+use Rattle.http_wire.specs.Streams.{Buffer, stream, Told}
 use Rattle.http_wire.specs.declared.head.HeadRead.{HeadRead}
 use Rattle.http_wire.specs.declared.head.HeadRead.TheVariants as read
-use Rattle.http_wire.proofs.Streams.{Moves-none, Moves-trans}
+use Rattle.http_wire.proofs.Streams.{Moves-trans}
 
 -- the reading of a response's head at the front, with what is left of the room
 abbrev pub Step : (room room_new : ℕ) → (xs : List ℕ) (p : ℕ) (ys : List ℕ) (q : ℕ) → Result (HeadRead ResponseHead) AllocError → Type 0
 Step room room_new xs p ys q r = TellsHeadRead (ReadsHead IsResponseText room xs) xs p ys q r × OnWhole r (room + length ys ≡ room_new + length xs)
-
-pub passing_begins : (room : ℕ) (start : Buffer) (left : Option (List ℕ)) → Told (stream start left) (stream start left) (λ xs ys. IsPassing room room xs start.1 ys start.1)
-passing_begins room start left = λ xs told. (xs, told, record { moves = Moves-none xs start.1 start.1 refl; goes = λ reading reads. reads })
 
 -- one interim head
 interim_goes : (room room_new : ℕ) (mid ys : List ℕ) (head : ResponseHead) → ReadsHead IsResponseText room mid (headed head ys) → room + length ys ≡ room_new + length mid → is_interim head ≡ true
@@ -85,33 +82,14 @@ final_found most room xs mid ys (Ok (read.Refused code)) goes found final = goes
 final_found most room xs mid ys (Ok read.Failed) goes found final = tt
 final_found most room xs mid ys (Err e) goes found final = tt
 
-fault_map : (r : Result (HeadRead ResponseHead) AllocError) (P Q : Type 0) → OnFault r P → (P → Q) → OnFault r Q
-fault_map (Ok read.Failed) P Q p f = f p
-fault_map (Err e) P Q p f = f p
-fault_map (Ok (read.Whole head)) P Q p f = tt
-fault_map (Ok read.Nothing) P Q p f = tt
-fault_map (Ok read.Cut) P Q p f = tt
-fault_map (Ok (read.Refused code)) P Q p f = tt
-
-some_is : (x y : List ℕ) → Some x ≡ Some y → x ≡ y
-some_is x y e = cc
-
 pub passing_ends : (most room room_new : ℕ) (start here later : Buffer) (left left_here left_later : Option (List ℕ)) (r : Result (HeadRead ResponseHead) AllocError)
     → Told (stream start left) (stream here left_here) (λ xs ys. IsPassing most room xs start.1 ys here.1)
-    → Told (stream here left_here) (stream later left_later) (λ xs ys. Step room room_new xs here.1 ys later.1 r)
-    → OnFault r (Grows here later left_here left_later × (room_new ≡ room)) → TellsFinal r
-    → Told (stream start left) (stream later left_later) (λ xs ys. TellsHeadRead (ReadsFinalHead most xs) xs start.1 ys later.1 r × OnFault r (IsPassing most room_new xs start.1 ys later.1))
-passing_ends most room room_new start here later left left_here left_later r passing step kept final = λ xs told.
+    → Told (stream here left_here) (stream later left_later) (λ xs ys. Step room room_new xs here.1 ys later.1 r) → TellsFinal r
+    → Told (stream start left) (stream later left_later) (λ xs ys. TellsHeadRead (ReadsFinalHead most xs) xs start.1 ys later.1 r)
+passing_ends most room room_new start here later left left_here left_later r passing step final = λ xs told.
     let a = passing xs told in
-    let b = step a.0 a.1 in
-    let moves = Moves-trans xs a.0 b.0 start.1 here.1 later.1 a.2.moves b.2.0.moves in (
+    let b = step a.0 a.1 in (
       b.0,
       b.1,
-      (
-        record { moves = moves; found = final_found most room xs a.0 b.0 r a.2.goes b.2.0.found final },
-        fault_map r (Grows here later left_here left_later × (room_new ≡ room)) (IsPassing most room_new xs start.1 b.0 later.1) kept
-            (λ k.
-            let same : a.0 ≡ b.0 = some_is a.0 b.0 (sym a.1 ∙ sym k.0.stream_is ∙ b.1) in
-            record { moves = moves; goes = subst (λ y. GoesOn (ReadsFinalHead most xs) (ReadsFinalHead room_new y)) same (subst (λ n. GoesOn (ReadsFinalHead most xs) (ReadsFinalHead n a.0)) (sym k.1) a.2.goes) }),
-      ),
+      record { moves = Moves-trans xs a.0 b.0 start.1 here.1 later.1 a.2.moves b.2.0.moves; found = final_found most room xs a.0 b.0 r a.2.goes b.2.0.found final },
     )

@@ -2,11 +2,11 @@
 use Rattle.std.proofs.Common.{◌≡◌, ℕ, ◌+◌, ◌-◌, ◌<◌, ◌≤◌, inl, inr, Bool, true, false, not, cond, leb, eqb, List, [], ◌∷◌, ◌++◌, length, take, drop, get_or, Option, Some, None, Ok, refl, sym, ap, ◌∙◌, subst, arith, append_assoc, length-append}
 use Rattle.std.proofs.lemmas.Bool.{cases_lt, le-leb, lt-leb}
 use Rattle.std.proofs.lemmas.Bool.Decides.{nat_tests}
-use Rattle.std.proofs.lemmas.List.{append-nil, get_or-append-add, drop_more, get_or_append_left}
+use Rattle.std.proofs.lemmas.List.{get_or-append-add, drop_more, get_or_append_left}
 use Rattle.std.proofs.Math.Seq.{take-append-add, drop-append-add}
 use Rattle.httparse.specs.Ascii.{crlf_bytes}
 use Rattle.http_message.specs.Bodies.{BodyReading, whole, unended, refused, behind, sized_body, content_stop, ReadsChunked}
-use Rattle.http_message.specs.ResponseMessages.{open_body, ReadsResponseBody}
+use Rattle.http_message.specs.ResponseMessages.{ReadsResponseBody}
 use Rattle.http_message.specs.declared.framing.Form.{Form}
 use Rattle.http_message.specs.declared.framing.Form.TheVariants as form
 use Rattle.http_wire.specs.Rests.{GoesOn, ReadsContent, first_expected, ReadsExpected, ReadsRest}
@@ -56,14 +56,6 @@ sized_more left k more ys sum =
 pub bytes_go : (most left k : ℕ) (c d more ys : List ℕ) → d ≡ c ++ more → k + length more ≡ left
     → GoesOn (ReadsExpected most (expected.Bytes left) c (more ++ ys)) (ReadsExpected most (expected.Bytes k) d ys)
 bytes_go most left k c d more ys grown sum = λ reading is. more_in_front c d more (sized_body k ys) reading grown is ∙ ap (behind c) (sym (sized_more left k more ys sum))
-
-pub bytes_whole : (most left : ℕ) (c xs : List ℕ) → left ≡ 0 → ReadsExpected most (expected.Bytes left) c xs (whole c xs)
-bytes_whole most left c xs none =
-    let e : sized_body left xs ≡ whole [] xs = ap (λ n. sized_body n xs) none ∙ sized_fits 0 xs (omega arith) in
-    ap (λ x. whole x xs) (sym (append-nil c)) ∙ ap (behind c) (sym e)
-
-pub bytes_end : (most left : ℕ) (c : List ℕ) → 0 < left → ReadsExpected most (expected.Bytes left) c [] unended
-bytes_end most left c some = ap (behind c) (sym (sized_short left [] (omega (arith, some))))
 
 -- ---- the content of a chunk
 
@@ -184,16 +176,6 @@ crlf_front u room goes =
     let first : u ≡ 13 ∷ drop 1 u = drop_more u 0 0 (omega arith) ∙ ap (λ x. x ∷ drop 1 u) cr in
     let second : drop 1 u ≡ 10 ∷ drop 2 u = drop_more u 1 0 (omega arith) ∙ ap (λ x. x ∷ drop 2 u) lf in
     first ∙ ap (λ x. 13 ∷ x) second
-
--- ---- all bytes to the end
-
-pub open_goes : (most : ℕ) (c d more ys : List ℕ) → d ≡ c ++ more → GoesOn (ReadsExpected most expected.ToEnd c (more ++ ys)) (ReadsExpected most expected.ToEnd d ys)
-open_goes most c d more ys grown = λ reading is. is ∙ ap (open_body most) (ap (λ x. x ++ ys) grown ∙ append_assoc c more ys)
-
-pub open_whole : (most : ℕ) (c d : List ℕ) → length c ≤ most → d ≡ c → ReadsExpected most expected.ToEnd c [] (whole d [])
-open_whole most c d fits same =
-    ap (λ x. whole x []) same
-    ∙ sym (ap (open_body most) (append-nil c) ∙ ap (λ b. cond b (whole c []) (refused 25)) (le-leb (length c) most fits))
 
 -- ---- a body of which nothing was read
 

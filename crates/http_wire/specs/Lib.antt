@@ -1,5 +1,6 @@
 pub mod Streams
 pub mod Parts
+pub mod Looks
 pub mod Pours
 pub mod Rests
 pub mod Heads

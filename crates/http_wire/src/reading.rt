@@ -112,7 +112,8 @@ fn front<'a>(bytes: &'a [u8], most: usize) -> &'a [u8]
     &bytes[..bytes.len().min(most)]
 }
 
-/// Reads until two bytes are there behind the empty lines in front, within so many bytes. Each empty line is looked at once.
+/// Reads until two bytes are there behind the empty lines in front, within so many bytes. Each empty line is looked at once, over
+/// all calls.
 pub(crate) fn await_start<S: Source>(
     inbox: &mut Inbox,
     source: &mut S,
@@ -122,14 +123,15 @@ pub(crate) fn await_start<S: Source>(
     ensures later { S.faults source.old ≤ S.faults source.new }
     ensures told { TellsBlank most inbox.new.0 (S.left source.new) (S.faults source.old) (S.faults source.new) result }
 {
-    let mut known = 0;
     'turns: loop {
         let front = front(inbox.bytes(), most);
-        known = blank_len_from(front, known);
-        if known + 2 <= front.len() {
+        let size = front.len();
+        let known = blank_len_from(front, inbox.known_blank(most));
+        inbox.keep_blank(most, known);
+        if known + 2 <= size {
             return Ok(Blank::Start(known));
         }
-        if front.len() == most {
+        if size == most {
             return Ok(Blank::TooLarge);
         }
         match inbox.fill(source)? {
@@ -140,7 +142,7 @@ pub(crate) fn await_start<S: Source>(
     }
 }
 
-/// Reads until the first empty line behind a place has ended, within so many bytes. Each byte is looked at once.
+/// Reads until the first empty line behind a place has ended, within so many bytes. Each byte is looked at once, over all calls.
 pub(crate) fn await_end<S: Source>(
     inbox: &mut Inbox,
     source: &mut S,
@@ -153,16 +155,15 @@ pub(crate) fn await_end<S: Source>(
     ensures later { S.faults source.old ≤ S.faults source.new }
     ensures told { TellsEndIn most start inbox.new.0 (S.left source.new) (S.faults source.old) (S.faults source.new) result }
 {
-    let mut searched = start;
     'turns: loop {
         let front = front(inbox.bytes(), most);
-        if let Some(end) = end_after(front, start, searched) {
+        if let Some(end) = end_after(front, start, inbox.known_open(most, start)) {
             return Ok(EndIn::At(end));
         }
         if front.len() == most {
             return Ok(EndIn::TooLarge);
         }
-        searched = front.len();
+        inbox.keep_open(most, start);
         match inbox.fill(source)? {
             Filled::More => {}
             Filled::End => return Ok(EndIn::Ended),
@@ -197,7 +198,8 @@ fn end_behind(bytes: &[u8], searched: usize) -> Option<usize>
     None
 }
 
-/// Reads until the empty line of trailers has ended, behind the line of the last chunk. Each byte is looked at once.
+/// Reads until the empty line of trailers has ended, behind the line of the last chunk. Each byte is looked at once, over all
+/// calls.
 pub(crate) fn await_trailers<S: Source>(
     inbox: &mut Inbox,
     source: &mut S,
@@ -206,16 +208,15 @@ pub(crate) fn await_trailers<S: Source>(
     ensures later { S.faults source.old ≤ S.faults source.new }
     ensures told { TellsTrailersEnd inbox.new.0 (S.left source.new) (S.faults source.old) (S.faults source.new) result }
 {
-    let mut searched = 0;
     'turns: loop {
         let front = front(inbox.bytes(), MOST);
-        if let Some(end) = end_behind(front, searched) {
+        if let Some(end) = end_behind(front, inbox.known_trailers()) {
             return Ok(EndIn::At(end));
         }
         if front.len() == MOST {
             return Ok(EndIn::TooLarge);
         }
-        searched = front.len();
+        inbox.keep_trailers();
         match inbox.fill(source)? {
             Filled::More => {}
             Filled::End => return Ok(EndIn::Ended),
