@@ -1,12 +1,13 @@
 pub mod Streams
 pub mod HeadEnds
 pub mod Windows
+pub mod Looks
 pub mod HeadReads
-pub mod Contents
-pub mod Trailers
-pub mod Chunks
-pub mod Decoding
+pub mod Rests
 pub mod Pouring
+pub mod BodyParts
+pub mod Trailers
+pub mod BodyReads
 pub mod Passing
 pub mod Wires
 pub mod Replies

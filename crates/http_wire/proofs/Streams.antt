@@ -1,8 +1,7 @@
 -- Streams, one step after another.
-use Rattle.std.proofs.Common.{◌≡◌, ℕ, ◌≤◌, List, [], ◌++◌, Option, Some, None, refl, sym, ap, ◌∙◌, arith, append_assoc, length-append}
+use Rattle.std.proofs.Common.{◌≡◌, ℕ, List, [], ◌++◌, Option, Some, None, refl, sym, ap, ◌∙◌, arith, append_assoc, length-append}
 use Rattle.std.proofs.lemmas.List.{append-nil}
 use Rattle.std.specs.Io.KnownBytes.{prepend_known}
-use Rattle.edge_core.specs.Faults.{Rose}
 use Rattle.http_wire.specs.Streams.{Buffer, stream, IsEnd, Grows, Moves, Told}
 
 pub same-grows : (old : Buffer) (left : Option (List ℕ)) → Grows old old left left
@@ -35,9 +34,6 @@ read-grows old new left left_new more took front place =
       more = more;
       front = front;
     }
-
-pub Rose-later : (a b c : ℕ) → a ≤ b → Rose b c → Rose a c
-Rose-later a b c le rose = omega (arith, rose)
 
 -- what is told of a stream, where the source has ended, is what was read
 pub ended_stream : (b : Buffer) (left : Option (List ℕ)) (xs : List ℕ) → stream b left ≡ Some xs → IsEnd left → xs ≡ b.0

@@ -1,17 +1,23 @@
 -- What reading the parts of a body finds.
-use Rattle.std.specs.Prelude.{◌≡◌, ℕ, ◌-◌, ◌≤◌, List, [], ◌++◌, length, drop, Some, Result, Ok, Err, ⊤}
+use Rattle.std.specs.Prelude.{◌≡◌, ℕ, ◌+◌, ◌-◌, ◌*◌, ◌<◌, List, [], length, Some, Result, Ok, Err, ⊤}
+use Rattle.std.specs.declared.alloc.AllocError.{AllocError}
 use Rattle.edge_core.specs.Faults.{Rose}
-use Rattle.httparse.specs.Ascii.{crlf_bytes}
 use Rattle.httparse.specs.Grammar.{ChunkLine}
-use Rattle.http_message.specs.Bodies.{BodyReading, whole, unended, refused, behind, content_stop, ReadsTrailers, ReadsTrailersText, ReadsChunked, Chunk, IsChunk, print_chunk, Stops}
+use Rattle.http_message.specs.Bodies.{whole, unended, refused, content_stop, ReadsTrailersText}
 use Rattle.http_wire.specs.Parts.{IsLineFound}
+use Rattle.http_wire.specs.Rests.{GoesOn, ReadsRest}
 use Rattle.http_wire.specs.Streams.{Moves}
+use Rattle.http_wire.specs.declared.begun.Expected.{Expected}
+use Rattle.http_wire.specs.declared.begun.Expected.TheVariants as expected
+use Rattle.http_wire.specs.declared.begun.BegunBody.{BegunBody}
 use Rattle.http_wire.specs.declared.body.Part.{Part}
 use Rattle.http_wire.specs.declared.body.Part.TheVariants as part
 use Rattle.http_wire.specs.declared.body.BodyRead.{BodyRead}
 use Rattle.http_wire.specs.declared.body.BodyRead.TheVariants as body
 
-abbrev pub RoseWhereFailed : {E : Type 0} → ℕ → ℕ → Result Part E → Type 0
+-- ---- parts
+
+abbrev pub RoseWhereFailed : ℕ → ℕ → Result Part AllocError → Type 0
 RoseWhereFailed n m (Ok part.Failed) = Rose n m
 RoseWhereFailed n m (Ok part.More) = ⊤
 RoseWhereFailed n m (Ok part.Whole) = ⊤
@@ -23,26 +29,13 @@ RoseWhereFailed n m (Err e) = ⊤
 abbrev pub IsLineThere : ℕ → ℕ → List ℕ → Type 0
 IsLineThere len size bytes = (l : ChunkLine) × IsLineFound bytes len size l
 
--- what is there of content and CR LF that the input ended inside
-abbrev pub IsOpenContent : ℕ → List ℕ → Part → Type 0
-IsOpenContent size bytes part.Ended = content_stop size bytes ≡ Some unended
-IsOpenContent size bytes (part.Refused code) = content_stop size bytes ≡ Some (refused code)
-IsOpenContent size bytes part.More = ⊥
-IsOpenContent size bytes part.Whole = ⊥
-IsOpenContent size bytes part.Failed = ⊥
-
--- content and CR LF, put behind the body
-abbrev pub ContentFound : {E : Type 0} → ℕ → (xs ys old new : List ℕ) → Result Part E → Type 0
-ContentFound size xs ys old new (Ok part.More) = (content : List ℕ) × (length content ≡ size) × (xs ≡ content ++ (crlf_bytes ++ ys)) × (new ≡ old ++ content)
-ContentFound size xs ys old new (Ok part.Ended) = content_stop size xs ≡ Some unended
-ContentFound size xs ys old new (Ok (part.Refused code)) = content_stop size xs ≡ Some (refused code)
-ContentFound size xs ys old new (Ok part.Whole) = ⊥
-ContentFound size xs ys old new (Ok part.Failed) = ⊤
-ContentFound size xs ys old new (Err e) = ⊤
-
-pub record TellsContent {E : Type 0} (size : ℕ) (xs : List ℕ) (p : ℕ) (ys : List ℕ) (q : ℕ) (old new : List ℕ) (r : Result Part E) : Type 0 where
-  pub moves : Moves xs p ys q
-  pub found : ContentFound size xs ys old new r
+-- what is there of CR LF that the input ended inside
+abbrev pub IsOpenEnd : List ℕ → Part → Type 0
+IsOpenEnd bytes part.Ended = content_stop 0 bytes ≡ Some unended
+IsOpenEnd bytes (part.Refused code) = content_stop 0 bytes ≡ Some (refused code)
+IsOpenEnd bytes part.More = ⊥
+IsOpenEnd bytes part.Whole = ⊥
+IsOpenEnd bytes part.Failed = ⊥
 
 -- what the text of trailers is read as
 abbrev pub TellsTrailersText : List ℕ → Part → Type 0
@@ -52,61 +45,57 @@ TellsTrailersText text part.More = ⊥
 TellsTrailersText text part.Ended = ⊥
 TellsTrailersText text part.Failed = ⊥
 
-abbrev pub TrailersFound : {E : Type 0} → (zs ys : List ℕ) → Result Part E → Type 0
-TrailersFound zs ys (Ok part.Whole) = ReadsTrailers zs (whole [] ys)
-TrailersFound zs ys (Ok part.Ended) = ReadsTrailers zs unended
-TrailersFound zs ys (Ok (part.Refused code)) = ReadsTrailers zs (refused code)
-TrailersFound zs ys (Ok part.More) = ⊥
-TrailersFound zs ys (Ok part.Failed) = ⊤
-TrailersFound zs ys (Err e) = ⊤
+-- The reading of the begun body, with what stands behind it; or a part was read, or nothing, and the rest goes on.
+abbrev pub PartFound : ℕ → (old new : BegunBody) → (xs ys : List ℕ) → Result Part AllocError → Type 0
+PartFound most old new xs ys (Ok part.More) = GoesOn (ReadsRest most old xs) (ReadsRest most new ys)
+PartFound most old new xs ys (Ok part.Whole) = ReadsRest most old xs (whole new.content.items ys)
+PartFound most old new xs ys (Ok part.Ended) = ReadsRest most old xs unended
+PartFound most old new xs ys (Ok (part.Refused code)) = ReadsRest most old xs (refused code)
+PartFound most old new xs ys (Ok part.Failed) = GoesOn (ReadsRest most old xs) (ReadsRest most new ys)
+PartFound most old new xs ys (Err e) = GoesOn (ReadsRest most old xs) (ReadsRest most new ys)
 
--- the trailers stand behind the first byte of the stream
-pub record TellsTrailers {E : Type 0} (xs : List ℕ) (p : ℕ) (ys : List ℕ) (q : ℕ) (r : Result Part E) : Type 0 where
+pub record TellsPart (most : ℕ) (old new : BegunBody) (xs : List ℕ) (p : ℕ) (ys : List ℕ) (q : ℕ) (r : Result Part AllocError) : Type 0 where
   pub moves : Moves xs p ys q
-  pub found : TrailersFound (drop 1 xs) ys r
+  pub found : PartFound most old new xs ys r
 
--- a chunk whose content was put behind the body, or what stops the chunks
-abbrev pub ChunkFound : {E : Type 0} → ℕ → (xs ys old new : List ℕ) → Result Part E → Type 0
-ChunkFound room xs ys old new (Ok part.More) = (c : Chunk) × IsChunk c × (length c.content ≤ room) × (xs ≡ print_chunk c ++ ys) × (new ≡ old ++ c.content)
-ChunkFound room xs ys old new (Ok part.Whole) = Stops room xs (whole [] ys) × (new ≡ old)
-ChunkFound room xs ys old new (Ok part.Ended) = Stops room xs unended
-ChunkFound room xs ys old new (Ok (part.Refused code)) = Stops room xs (refused code)
-ChunkFound room xs ys old new (Ok part.Failed) = ⊤
-ChunkFound room xs ys old new (Err e) = ⊤
+-- no fewer than the parts that are left, by what is expected next and how many bytes were read
+abbrev pub parts_left : ℕ → Expected → ℕ → ℕ
+parts_left most (expected.Bytes left) len = left
+parts_left most expected.Line len = 3 * (most - len) + 1
+parts_left most (expected.Chunk left) len = 3 * (most - len - left) + left + 2
+parts_left most expected.Trailers len = 0
+parts_left most expected.ToEnd len = most + 1 - len
 
-pub record TellsChunk {E : Type 0} (room : ℕ) (xs : List ℕ) (p : ℕ) (ys : List ℕ) (q : ℕ) (old new : List ℕ) (r : Result Part E) : Type 0 where
-  pub moves : Moves xs p ys q
-  pub found : ChunkFound room xs ys old new r
+abbrev pub HasFewerParts : ℕ → (old new : BegunBody) → Result Part AllocError → Type 0
+HasFewerParts most old new (Ok part.More) = parts_left most new.expected (length new.content.items) < parts_left most old.expected (length old.content.items)
+HasFewerParts most old new (Ok part.Whole) = ⊤
+HasFewerParts most old new (Ok part.Ended) = ⊤
+HasFewerParts most old new (Ok (part.Refused code)) = ⊤
+HasFewerParts most old new (Ok part.Failed) = ⊤
+HasFewerParts most old new (Err e) = ⊤
 
-abbrev pub RoseWhereBodyFailed : {E : Type 0} → ℕ → ℕ → Result BodyRead E → Type 0
+-- ---- bodies
+
+abbrev pub RoseWhereBodyFailed : ℕ → ℕ → Result BodyRead AllocError → Type 0
 RoseWhereBodyFailed n m (Ok body.Failed) = Rose n m
 RoseWhereBodyFailed n m (Ok body.Whole) = ⊤
 RoseWhereBodyFailed n m (Ok body.Ended) = ⊤
 RoseWhereBodyFailed n m (Ok (body.Refused code)) = ⊤
 RoseWhereBodyFailed n m (Err e) = ⊤
 
--- the reading that the answer tells, with the body and what stands behind it
-abbrev pub BodyFound : {E : Type 0} → (BodyReading → Type 0) → (ys content : List ℕ) → Result BodyRead E → Type 0
-BodyFound Reads ys content (Ok body.Whole) = Reads (whole content ys)
-BodyFound Reads ys content (Ok body.Ended) = Reads unended
-BodyFound Reads ys content (Ok (body.Refused code)) = Reads (refused code)
-BodyFound Reads ys content (Ok body.Failed) = ⊤
-BodyFound Reads ys content (Err e) = ⊤
+-- the reading of the begun body, with what stands behind it; after a fault and want of memory the rest goes on
+abbrev pub BodyFound : ℕ → (old new : BegunBody) → (xs ys : List ℕ) → Result BodyRead AllocError → Type 0
+BodyFound most old new xs ys (Ok body.Whole) = ReadsRest most old xs (whole new.content.items ys)
+BodyFound most old new xs ys (Ok body.Ended) = ReadsRest most old xs unended
+BodyFound most old new xs ys (Ok (body.Refused code)) = ReadsRest most old xs (refused code)
+BodyFound most old new xs ys (Ok body.Failed) = GoesOn (ReadsRest most old xs) (ReadsRest most new ys)
+BodyFound most old new xs ys (Err e) = GoesOn (ReadsRest most old xs) (ReadsRest most new ys)
 
-pub record TellsBody {E : Type 0} (Reads : BodyReading → Type 0) (xs : List ℕ) (p : ℕ) (ys : List ℕ) (q : ℕ) (content : List ℕ) (r : Result BodyRead E) : Type 0 where
+pub record TellsBody (most : ℕ) (old new : BegunBody) (xs : List ℕ) (p : ℕ) (ys : List ℕ) (q : ℕ) (r : Result BodyRead AllocError) : Type 0 where
   pub moves : Moves xs p ys q
-  pub found : BodyFound Reads ys content r
+  pub found : BodyFound most old new xs ys r
 
--- P, where the part was a chunk
-abbrev pub OnMore : {E : Type 0} → Result Part E → Type 0 → Type 0
-OnMore (Ok part.More) P = P
-OnMore (Ok part.Whole) P = ⊤
-OnMore (Ok part.Ended) P = ⊤
-OnMore (Ok (part.Refused code)) P = ⊤
-OnMore (Ok part.Failed) P = ⊤
-OnMore (Err e) P = ⊤
-
--- the content of the chunks so far, which stands in front of whatever is read behind them
-pub record IsDecoding (most : ℕ) (xs : List ℕ) (p : ℕ) (ys : List ℕ) (q : ℕ) (content : List ℕ) : Type 0 where
+-- parts were read, and the rest goes on
+pub record IsReading (most : ℕ) (old new : BegunBody) (xs : List ℕ) (p : ℕ) (ys : List ℕ) (q : ℕ) : Type 0 where
   pub moves : Moves xs p ys q
-  pub goes : (reading : BodyReading) → ReadsChunked (most - length content) ys reading → ReadsChunked most xs (behind content reading)
+  pub goes : GoesOn (ReadsRest most old xs) (ReadsRest most new ys)

@@ -71,3 +71,12 @@ OnWhole (Ok read.Cut) P = ⊤
 OnWhole (Ok (read.Refused code)) P = ⊤
 OnWhole (Ok read.Failed) P = ⊤
 OnWhole (Err e) P = ⊤
+
+-- P, where a read failed or memory was wanting
+abbrev pub OnFault : {H E : Type 0} → Result (HeadRead H) E → Type 0 → Type 0
+OnFault (Ok read.Failed) P = P
+OnFault (Err e) P = P
+OnFault (Ok (read.Whole head)) P = ⊤
+OnFault (Ok read.Nothing) P = ⊤
+OnFault (Ok read.Cut) P = ⊤
+OnFault (Ok (read.Refused code)) P = ⊤

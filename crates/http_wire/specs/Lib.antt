@@ -1,8 +1,10 @@
 pub mod Streams
 pub mod Parts
+pub mod Looks
+pub mod Pours
+pub mod Rests
 pub mod Heads
 pub mod Bodies
-pub mod Pours
-pub mod Finals
 pub mod Wires
 pub mod Replies
+pub mod Connections

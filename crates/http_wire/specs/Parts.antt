@@ -1,5 +1,5 @@
 -- What reading as far as a part of a message needs finds.
-use Rattle.std.specs.Prelude.{◌≡◌, ℕ, ◌+◌, ◌<◌, ◌≤◌, List, length, take, drop, Option, Result, Ok, Err, ⊤}
+use Rattle.std.specs.Prelude.{◌≡◌, ℕ, ◌+◌, ◌<◌, ◌≤◌, List, ◌∷◌, length, take, drop, Option, Result, Ok, Err, ⊤}
 use Rattle.edge_core.specs.Faults.{Rose}
 use Rattle.httparse.specs.Grammar.{ChunkLine, print_chunk_line, chunk_size}
 use Rattle.http_message.specs.Ends.{blank_len, IsFirstEnd, HasNoEnd}
@@ -48,3 +48,11 @@ TellsEndIn most start bytes left n m (Ok end.TooLarge) = HasNoEnd (take most byt
 TellsEndIn most start bytes left n m (Ok end.Ended) = IsEnd left × HasNoEnd bytes start × (length bytes < most)
 TellsEndIn most start bytes left n m (Ok end.Failed) = Rose n m
 TellsEndIn most start bytes left n m (Err e) = ⊤
+
+-- where the first empty line of trailers ends, in front of which the line feed of the last chunk's line stood
+abbrev pub TellsTrailersEnd : {E : Type 0} → List ℕ → Option (List ℕ) → ℕ → ℕ → Result EndIn E → Type 0
+TellsTrailersEnd bytes left n m (Ok (end.At place)) = IsFirstEnd (10 ∷ take 16384 bytes) 1 (place + 1)
+TellsTrailersEnd bytes left n m (Ok end.TooLarge) = HasNoEnd (10 ∷ take 16384 bytes) 1 × (16384 ≤ length bytes)
+TellsTrailersEnd bytes left n m (Ok end.Ended) = IsEnd left × HasNoEnd (10 ∷ bytes) 1 × (length bytes < 16384)
+TellsTrailersEnd bytes left n m (Ok end.Failed) = Rose n m
+TellsTrailersEnd bytes left n m (Err e) = ⊤

@@ -1,15 +1,16 @@
-// Reading the body of a message.
-ghost use Rattle.std.specs.Prelude.{◌≡◌, ◌≤◌, ◌<◌, ◌+◌, ◌^◌, ◌-◌, ◌∷◌, [], List, ℕ, MatchBool, Ok, None, Some, drop, length, take};
-ghost use Rattle.http_message.specs.Bodies.{content_stop, refused, sized_body, ReadsBody, ReadsChunked};
+// Reading the body of a message, part by part. A part that a fault or want of memory comes before is left as it was.
+ghost use Rattle.std.specs.Prelude.{◌≡◌, ◌≤◌, ◌<◌, ◌+◌, ◌∷◌, List, ℕ, MatchBool, None, Option, Ok, Some, drop, length};
+ghost use Rattle.http_message.specs.Bodies.{content_stop, refused};
 ghost use Rattle.http_message.specs.Refusals.{bad_message};
-ghost use Rattle.http_wire.specs.Bodies.{IsLineThere, IsOpenContent, OnMore, RoseWhereBodyFailed, RoseWhereFailed, TellsBody, TellsChunk, TellsContent, TellsTrailers, TellsTrailersText};
+ghost use Rattle.http_wire.specs.Bodies.{HasFewerParts, IsLineThere, IsOpenEnd, RoseWhereBodyFailed, RoseWhereFailed, TellsBody, TellsPart, TellsTrailersText};
 ghost use Rattle.http_wire.specs.Streams.{stream, Told};
+ghost use Rattle.http_wire.specs.declared.begun.Expected.TheVariants as expected;
 
+use crate::begun::{BegunBody, Expected};
 use crate::inbox::{Filled, Inbox};
-use crate::reading::{EndIn, Line, MOST, Need, await_bytes, await_end, await_line};
+use crate::reading::{EndIn, Line, Need, await_bytes, await_line, await_trailers};
 use edge_core::Source;
 use http_message::ends::line_count;
-use http_message::framing::Form;
 use http_message::head::is_trailers;
 use http_message::refusal::{BAD_MESSAGE, BODY_TOO_LARGE, HEAD_TOO_LARGE};
 use std::alloc::AllocError;
@@ -17,13 +18,13 @@ use std::alloc::AllocError;
 /// What reading a part of a body came to.
 #[derive(Clone, Copy, Debug, PartialEq, Eq)]
 pub(crate) enum Part {
-    /// A chunk, which was used.
+    /// It was used, and the body goes on.
     More,
-    /// The last part, which was used.
+    /// It was used, and the body is whole.
     Whole,
-    /// The input ended inside it.
+    /// The input ended inside the body.
     Ended,
-    /// It is refused, with that code.
+    /// The body is refused, with that code.
     Refused(u16),
     /// A read failed.
     Failed,
@@ -42,52 +43,168 @@ pub(crate) enum BodyRead {
     Failed,
 }
 
-// Whether CR LF stands behind so many bytes.
-fn is_crlf_at(bytes: &[u8], size: usize) -> bool
-    requires { size + 2 ≤ length bytes.now }
-    ensures { MatchBool result (content_stop size bytes.now ≡ None) (content_stop size bytes.now ≡ Some (refused bad_message)) }
+// Reads some of the last bytes of a body, of which so many are left.
+fn last_bytes<S: Source>(
+    inbox: &mut Inbox,
+    source: &mut S,
+    left: usize,
+    body: &mut BegunBody,
+) -> Result<Part, AllocError>
+    requires { body.old.expected ≡ expected.Bytes left }
+    ensures later { S.faults source.old ≤ S.faults source.new }
+    ensures cause { RoseWhereFailed (S.faults source.old) (S.faults source.new) result }
+    ensures told { (most : ℕ) → Told (stream inbox.old (S.left source.old)) (stream inbox.new (S.left source.new)) (λ xs ys. TellsPart most body.old body.new xs inbox.old.1 ys inbox.new.1 result) }
+    ensures fewer { (most : ℕ) → HasFewerParts most body.old body.new result }
 {
-    bytes[size] == b'\r' && bytes[size + 1] == b'\n'
+    if left == 0 {
+        return Ok(Part::Whole);
+    }
+    let before = body.content.len();
+    match inbox.move_some(source, left, &mut body.content)? {
+        Filled::More => {}
+        Filled::End => return Ok(Part::Ended),
+        Filled::Failed => return Ok(Part::Failed),
+    }
+    body.expected = Expected::Bytes(left - (body.content.len() - before));
+    Ok(Part::More)
 }
 
-// What is there of content and CR LF that the input ended inside.
-fn open_content(bytes: &[u8], size: usize) -> Part
-    requires { length bytes.now < size + 2 }
-    ensures { IsOpenContent size bytes.now result }
+// Reads all bytes to the end of the input, some of them at a time.
+fn bytes_to_end<S: Source>(
+    inbox: &mut Inbox,
+    source: &mut S,
+    most: usize,
+    body: &mut BegunBody,
+) -> Result<Part, AllocError>
+    requires { body.old.expected ≡ expected.ToEnd }
+    ensures later { S.faults source.old ≤ S.faults source.new }
+    ensures cause { RoseWhereFailed (S.faults source.old) (S.faults source.new) result }
+    ensures told { Told (stream inbox.old (S.left source.old)) (stream inbox.new (S.left source.new)) (λ xs ys. TellsPart most body.old body.new xs inbox.old.1 ys inbox.new.1 result) }
+    ensures fewer { HasFewerParts most body.old body.new result }
 {
-    if bytes.len() > size && bytes[size] != b'\r' {
+    let there = body.content.len();
+    if there > most {
+        return Ok(Part::Refused(BODY_TOO_LARGE));
+    }
+    match inbox.move_some(source, (most - there).saturating_add(1), &mut body.content)? {
+        Filled::More => Ok(Part::More),
+        Filled::End => Ok(Part::Whole),
+        Filled::Failed => Ok(Part::Failed),
+    }
+}
+
+// Uses the line of a chunk, which is there.
+fn use_line(inbox: &mut Inbox, len: usize, size: u64, most: usize, body: &mut BegunBody) -> Part
+    requires line { IsLineThere len size inbox.old.0 }
+    requires expected { body.old.expected ≡ expected.Line }
+    ensures told { (left : Option (List ℕ)) → Told (stream inbox.old left) (stream inbox.new left) (λ xs ys. TellsPart most body.old body.new xs inbox.old.1 ys inbox.new.1 (Ok result)) }
+    ensures fewer { HasFewerParts most body.old body.new (Ok result) }
+    ensures cause { (n m : ℕ) → RoseWhereFailed n m (Ok result) }
+{
+    if size > most.saturating_sub(body.content.len()) as u64 {
+        return Part::Refused(BODY_TOO_LARGE);
+    }
+    inbox.consume(len);
+    if size == 0 {
+        body.expected = Expected::Trailers;
+        return Part::More;
+    }
+    body.expected = Expected::Chunk(size as usize);
+    Part::More
+}
+
+// Reads the line of a chunk.
+fn line<S: Source>(
+    inbox: &mut Inbox,
+    source: &mut S,
+    most: usize,
+    body: &mut BegunBody,
+) -> Result<Part, AllocError>
+    requires { body.old.expected ≡ expected.Line }
+    ensures later { S.faults source.old ≤ S.faults source.new }
+    ensures cause { RoseWhereFailed (S.faults source.old) (S.faults source.new) result }
+    ensures told { Told (stream inbox.old (S.left source.old)) (stream inbox.new (S.left source.new)) (λ xs ys. TellsPart most body.old body.new xs inbox.old.1 ys inbox.new.1 result) }
+    ensures fewer { HasFewerParts most body.old body.new result }
+{
+    match await_line(inbox, source)? {
+        Line::Size(len, size) => Ok(use_line(inbox, len, size, most, body)),
+        Line::Ended => Ok(Part::Ended),
+        Line::Bad => Ok(Part::Refused(BAD_MESSAGE)),
+        Line::Failed => Ok(Part::Failed),
+    }
+}
+
+// Whether CR LF is in front.
+fn begins_crlf(bytes: &[u8]) -> bool
+    requires { 2 ≤ length bytes.now }
+    ensures { MatchBool result (content_stop 0 bytes.now ≡ None) (content_stop 0 bytes.now ≡ Some (refused bad_message)) }
+{
+    bytes[0] == b'\r' && bytes[1] == b'\n'
+}
+
+// What is there of CR LF that the input ended inside.
+fn open_end(bytes: &[u8]) -> Part
+    requires { length bytes.now < 2 }
+    ensures { IsOpenEnd bytes.now result }
+{
+    if !bytes.is_empty() && bytes[0] != b'\r' {
         return Part::Refused(BAD_MESSAGE);
     }
     Part::Ended
 }
 
-// Reads the content of a chunk and the CR LF behind it, and puts it behind the body.
-fn content<S: Source>(
+// Reads the CR LF behind a chunk's content.
+fn content_end<S: Source>(
     inbox: &mut Inbox,
     source: &mut S,
-    size: usize,
-    body: &mut Vec<u8>,
+    body: &mut BegunBody,
 ) -> Result<Part, AllocError>
-    requires { size < 2 ^ 62 }
+    requires { body.old.expected ≡ expected.Chunk 0 }
     ensures later { S.faults source.old ≤ S.faults source.new }
     ensures cause { RoseWhereFailed (S.faults source.old) (S.faults source.new) result }
-    ensures told { Told (stream inbox.old (S.left source.old)) (stream inbox.new (S.left source.new)) (λ xs ys. TellsContent size xs inbox.old.1 ys inbox.new.1 body.old.items body.new.items result) }
-    ensures size { OnMore result (length body.new.items ≡ length body.old.items + size) }
+    ensures told { (most : ℕ) → Told (stream inbox.old (S.left source.old)) (stream inbox.new (S.left source.new)) (λ xs ys. TellsPart most body.old body.new xs inbox.old.1 ys inbox.new.1 result) }
+    ensures fewer { (most : ℕ) → HasFewerParts most body.old body.new result }
 {
-    match await_bytes(inbox, source, size + 2)? {
+    match await_bytes(inbox, source, 2)? {
         Need::Enough => {}
-        Need::Ended => return Ok(open_content(inbox.bytes(), size)),
+        Need::Ended => return Ok(open_end(inbox.bytes())),
         Need::Failed => return Ok(Part::Failed),
     }
-    if !is_crlf_at(inbox.bytes(), size) {
+    if !begins_crlf(inbox.bytes()) {
         return Ok(Part::Refused(BAD_MESSAGE));
     }
-    body.extend_from_slice(&inbox.bytes()[..size])?;
-    inbox.consume(size + 2);
+    inbox.consume(2);
+    body.expected = Expected::Line;
     Ok(Part::More)
 }
 
-// The first bytes as trailers, from behind the line feed in front of them up to that end.
+// Reads some bytes of a chunk's content, of which so many are left, or the CR LF behind it.
+fn content<S: Source>(
+    inbox: &mut Inbox,
+    source: &mut S,
+    left: usize,
+    body: &mut BegunBody,
+) -> Result<Part, AllocError>
+    requires { body.old.expected ≡ expected.Chunk left }
+    ensures later { S.faults source.old ≤ S.faults source.new }
+    ensures cause { RoseWhereFailed (S.faults source.old) (S.faults source.new) result }
+    ensures told { (most : ℕ) → Told (stream inbox.old (S.left source.old)) (stream inbox.new (S.left source.new)) (λ xs ys. TellsPart most body.old body.new xs inbox.old.1 ys inbox.new.1 result) }
+    ensures fewer { (most : ℕ) → HasFewerParts most body.old body.new result }
+{
+    if left == 0 {
+        return content_end(inbox, source, body);
+    }
+    let before = body.content.len();
+    match inbox.move_some(source, left, &mut body.content)? {
+        Filled::More => {}
+        Filled::End => return Ok(Part::Ended),
+        Filled::Failed => return Ok(Part::Failed),
+    }
+    body.expected = Expected::Chunk(left - (body.content.len() - before));
+    Ok(Part::More)
+}
+
+// The text as trailers.
 fn read_trailers_text(text: &[u8]) -> Part
     ensures { TellsTrailersText text.now result }
 {
@@ -101,26 +218,21 @@ fn read_trailers_text(text: &[u8]) -> Part
     }
 }
 
-// The bytes behind the first, up to that end.
-fn behind_first(bytes: &[u8], end: usize) -> &[u8]
-    requires some { 1 ≤ end }
-    requires within { end ≤ length bytes.now }
-    ensures { result.now ≡ take (end - 1) (drop 1 bytes.now) }
-{
-    &bytes[1..end]
-}
-
-// Reads the trailers behind the last chunk's line, whose line feed is the first byte.
-fn trailers<S: Source>(inbox: &mut Inbox, source: &mut S) -> Result<Part, AllocError>
-    requires { (rest : List ℕ) × (inbox.old.0 ≡ 10 ∷ rest) }
+// Reads the trailers behind the last chunk's line.
+fn trailers<S: Source>(
+    inbox: &mut Inbox,
+    source: &mut S,
+    body: &BegunBody,
+) -> Result<Part, AllocError>
+    requires { body.now.expected ≡ expected.Trailers }
     ensures later { S.faults source.old ≤ S.faults source.new }
     ensures cause { RoseWhereFailed (S.faults source.old) (S.faults source.new) result }
-    ensures told { Told (stream inbox.old (S.left source.old)) (stream inbox.new (S.left source.new)) (λ xs ys. TellsTrailers xs inbox.old.1 ys inbox.new.1 result) }
-    ensures last { OnMore result ⊥ }
+    ensures told { (most : ℕ) → Told (stream inbox.old (S.left source.old)) (stream inbox.new (S.left source.new)) (λ xs ys. TellsPart most body.now body.now xs inbox.old.1 ys inbox.new.1 result) }
+    ensures fewer { (most : ℕ) → HasFewerParts most body.now body.now result }
 {
-    match await_end(inbox, source, MOST + 1, 1)? {
+    match await_trailers(inbox, source)? {
         EndIn::At(end) => {
-            let found = read_trailers_text(behind_first(inbox.bytes(), end));
+            let found = read_trailers_text(&inbox.bytes()[..end]);
             inbox.consume(end);
             Ok(found)
         }
@@ -130,119 +242,45 @@ fn trailers<S: Source>(inbox: &mut Inbox, source: &mut S) -> Result<Part, AllocE
     }
 }
 
-// Reads what stands behind the line of a chunk, which is there and not yet used.
-fn behind_line<S: Source>(
-    inbox: &mut Inbox,
-    source: &mut S,
-    len: usize,
-    size: u64,
-    room: usize,
-    body: &mut Vec<u8>,
-) -> Result<Part, AllocError>
-    requires line { IsLineThere len size inbox.old.0 }
-    requires room { room < 2 ^ 62 }
-    ensures later { S.faults source.old ≤ S.faults source.new }
-    ensures cause { RoseWhereFailed (S.faults source.old) (S.faults source.new) result }
-    ensures told { Told (stream inbox.old (S.left source.old)) (stream inbox.new (S.left source.new)) (λ xs ys. TellsChunk room xs inbox.old.1 ys inbox.new.1 body.old.items body.new.items result) }
-    ensures grows { OnMore result (length body.old.items < length body.new.items) }
-    ensures room { OnMore result (length body.new.items ≤ length body.old.items + room) }
-{
-    if size > room as u64 {
-        return Ok(Part::Refused(BODY_TOO_LARGE));
-    }
-    if size == 0 {
-        inbox.consume(len - 1);
-        return trailers(inbox, source);
-    }
-    inbox.consume(len);
-    content(inbox, source, size as usize, body)
-}
-
-// Reads the next chunk and puts its content behind the body, or the last chunk and the trailers.
-fn chunk<S: Source>(
-    inbox: &mut Inbox,
-    source: &mut S,
-    room: usize,
-    body: &mut Vec<u8>,
-) -> Result<Part, AllocError>
-    requires { room < 2 ^ 62 }
-    ensures later { S.faults source.old ≤ S.faults source.new }
-    ensures cause { RoseWhereFailed (S.faults source.old) (S.faults source.new) result }
-    ensures told { Told (stream inbox.old (S.left source.old)) (stream inbox.new (S.left source.new)) (λ xs ys. TellsChunk room xs inbox.old.1 ys inbox.new.1 body.old.items body.new.items result) }
-    ensures grows { OnMore result (length body.old.items < length body.new.items) }
-    ensures room { OnMore result (length body.new.items ≤ length body.old.items + room) }
-{
-    match await_line(inbox, source)? {
-        Line::Size(len, size) => behind_line(inbox, source, len, size, room, body),
-        Line::Ended => Ok(Part::Ended),
-        Line::Bad => Ok(Part::Refused(BAD_MESSAGE)),
-        Line::Failed => Ok(Part::Failed),
-    }
-}
-
-// Reads the chunks of a body of at most so many bytes, and the trailers. The body is empty before.
-fn chunked<S: Source>(
+// Reads what comes next of a body of at most so many bytes.
+fn next_part<S: Source>(
     inbox: &mut Inbox,
     source: &mut S,
     most: usize,
-    body: &mut Vec<u8>,
+    body: &mut BegunBody,
+) -> Result<Part, AllocError>
+    ensures later { S.faults source.old ≤ S.faults source.new }
+    ensures cause { RoseWhereFailed (S.faults source.old) (S.faults source.new) result }
+    ensures told { Told (stream inbox.old (S.left source.old)) (stream inbox.new (S.left source.new)) (λ xs ys. TellsPart most body.old body.new xs inbox.old.1 ys inbox.new.1 result) }
+    ensures fewer { HasFewerParts most body.old body.new result }
+{
+    match body.expected {
+        Expected::Bytes(left) => last_bytes(inbox, source, left, body),
+        Expected::Line => line(inbox, source, most, body),
+        Expected::Chunk(left) => content(inbox, source, left, body),
+        Expected::Trailers => trailers(inbox, source, body),
+        Expected::ToEnd => bytes_to_end(inbox, source, most, body),
+    }
+}
+
+/// Reads the rest of a body of at most so many bytes.
+pub(crate) fn read_body<S: Source>(
+    inbox: &mut Inbox,
+    source: &mut S,
+    most: usize,
+    body: &mut BegunBody,
 ) -> Result<BodyRead, AllocError>
-    requires most { most < 2 ^ 62 }
-    requires empty { body.old.items ≡ [] }
     ensures later { S.faults source.old ≤ S.faults source.new }
     ensures cause { RoseWhereBodyFailed (S.faults source.old) (S.faults source.new) result }
-    ensures told { Told (stream inbox.old (S.left source.old)) (stream inbox.new (S.left source.new)) (λ xs ys. TellsBody (ReadsChunked most xs) xs inbox.old.1 ys inbox.new.1 body.new.items result) }
+    ensures told { Told (stream inbox.old (S.left source.old)) (stream inbox.new (S.left source.new)) (λ xs ys. TellsBody most body.old body.new xs inbox.old.1 ys inbox.new.1 result) }
 {
-    'chunks: loop {
-        match chunk(inbox, source, most - body.len(), body)? {
+    'parts: loop {
+        match next_part(inbox, source, most, body)? {
             Part::More => {}
             Part::Whole => return Ok(BodyRead::Whole),
             Part::Ended => return Ok(BodyRead::Ended),
             Part::Refused(code) => return Ok(BodyRead::Refused(code)),
             Part::Failed => return Ok(BodyRead::Failed),
         }
-    }
-}
-
-// Reads a body of so many bytes. The body is empty before.
-fn sized<S: Source>(
-    inbox: &mut Inbox,
-    source: &mut S,
-    size: usize,
-    body: &mut Vec<u8>,
-) -> Result<BodyRead, AllocError>
-    requires { body.old.items ≡ [] }
-    ensures later { S.faults source.old ≤ S.faults source.new }
-    ensures cause { RoseWhereBodyFailed (S.faults source.old) (S.faults source.new) result }
-    ensures told { Told (stream inbox.old (S.left source.old)) (stream inbox.new (S.left source.new)) (λ xs ys. TellsBody (λ reading. reading ≡ sized_body size xs) xs inbox.old.1 ys inbox.new.1 body.new.items result) }
-{
-    inbox.drain(size, body)?;
-    'pieces: while body.len() < size {
-        match inbox.pour(source, size - body.len(), body)? {
-            Filled::More => {}
-            Filled::End => return Ok(BodyRead::Ended),
-            Filled::Failed => return Ok(BodyRead::Failed),
-        }
-    }
-    Ok(BodyRead::Whole)
-}
-
-/// Reads a body of that form, of at most so many bytes, into an empty one.
-pub(crate) fn read_body<S: Source>(
-    inbox: &mut Inbox,
-    source: &mut S,
-    most: usize,
-    form: Form,
-    body: &mut Vec<u8>,
-) -> Result<BodyRead, AllocError>
-    requires most { most < 2 ^ 62 }
-    requires empty { body.old.items ≡ [] }
-    ensures later { S.faults source.old ≤ S.faults source.new }
-    ensures cause { RoseWhereBodyFailed (S.faults source.old) (S.faults source.new) result }
-    ensures told { Told (stream inbox.old (S.left source.old)) (stream inbox.new (S.left source.new)) (λ xs ys. TellsBody (ReadsBody most (Ok form) xs) xs inbox.old.1 ys inbox.new.1 body.new.items result) }
-{
-    match form {
-        Form::Length(size) => sized(inbox, source, size as usize, body),
-        Form::Chunked => chunked(inbox, source, most, body),
     }
 }

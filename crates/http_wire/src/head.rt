@@ -4,7 +4,7 @@ ghost use Rattle.http_message.specs.Ends.{blank_len};
 ghost use Rattle.http_message.specs.HeadReadings.{has_many_lines, ReadsHead};
 ghost use Rattle.http_message.specs.Heads.{IsHeadText};
 ghost use Rattle.http_wire.specs.Streams.{stream, Grows, Told};
-ghost use Rattle.http_wire.specs.Heads.{TellsHeadEnd, TellsHeadRead, TellsText, RoseWhereHeadFailed};
+ghost use Rattle.http_wire.specs.Heads.{OnFault, TellsHeadEnd, TellsHeadRead, TellsText, RoseWhereHeadFailed};
 
 use crate::inbox::Inbox;
 use crate::reading::{Blank, EndIn, MOST, await_end, await_start};
@@ -100,7 +100,7 @@ fn head_of_text(alloc: Global, text: &[u8]) -> Result<HeadRead<Head>, AllocError
     }
 }
 
-/// Reads the head of a request at the front, and uses it.
+/// Reads the head of a request at the front, and uses it. At a fault and want of memory nothing is used.
 pub(crate) fn read_head<S: Source>(
     alloc: Global,
     inbox: &mut Inbox,
@@ -109,6 +109,7 @@ pub(crate) fn read_head<S: Source>(
     ensures later { S.faults source.old ≤ S.faults source.new }
     ensures cause { RoseWhereHeadFailed (S.faults source.old) (S.faults source.new) result }
     ensures told { Told (stream inbox.old (S.left source.old)) (stream inbox.new (S.left source.new)) (λ xs ys. TellsHeadRead (ReadsHead IsHeadText 16384 xs) xs inbox.old.1 ys inbox.new.1 result) }
+    ensures kept { OnFault result (Grows inbox.old inbox.new (S.left source.old) (S.left source.new)) }
 {
     match head_end(inbox, source, MOST)? {
         HeadEnd::At(end) => {

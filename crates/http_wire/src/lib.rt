@@ -1,10 +1,11 @@
 //! The messages of a connection (RFC 9112), read from a source however its pieces are cut.
 #![tactic(auto)]
 
+mod begun;
 mod body;
 mod head;
 mod inbox;
-mod open_body;
+pub mod law;
 mod reading;
 mod reply;
 mod response_head;

@@ -1,7 +1,8 @@
 // Reading as far as a part of a message needs. Nothing is used here.
-ghost use Rattle.std.specs.Prelude.{◌≡◌, ◌≤◌, length, take};
+ghost use Rattle.std.specs.Prelude.{◌≡◌, ◌≤◌, ◌+◌, ◌∷◌, MatchOption, length, take};
+ghost use Rattle.http_message.specs.Ends.{ends_empty, HasNoEnd, HasNoEndTo, IsFirstEnd};
 ghost use Rattle.http_wire.specs.Streams.{Grows};
-ghost use Rattle.http_wire.specs.Parts.{TellsBlank, TellsEndIn, TellsLine, TellsNeed};
+ghost use Rattle.http_wire.specs.Parts.{TellsBlank, TellsEndIn, TellsLine, TellsNeed, TellsTrailersEnd};
 
 use crate::inbox::{Filled, Inbox};
 use edge_core::Source;
@@ -111,7 +112,8 @@ fn front<'a>(bytes: &'a [u8], most: usize) -> &'a [u8]
     &bytes[..bytes.len().min(most)]
 }
 
-/// Reads until two bytes are there behind the empty lines in front, within so many bytes. Each empty line is looked at once.
+/// Reads until two bytes are there behind the empty lines in front, within so many bytes. Each empty line is looked at once, over
+/// all calls.
 pub(crate) fn await_start<S: Source>(
     inbox: &mut Inbox,
     source: &mut S,
@@ -121,14 +123,15 @@ pub(crate) fn await_start<S: Source>(
     ensures later { S.faults source.old ≤ S.faults source.new }
     ensures told { TellsBlank most inbox.new.0 (S.left source.new) (S.faults source.old) (S.faults source.new) result }
 {
-    let mut known = 0;
     'turns: loop {
         let front = front(inbox.bytes(), most);
-        known = blank_len_from(front, known);
-        if known + 2 <= front.len() {
+        let size = front.len();
+        let known = blank_len_from(front, inbox.known_blank(most));
+        inbox.keep_blank(most, known);
+        if known + 2 <= size {
             return Ok(Blank::Start(known));
         }
-        if front.len() == most {
+        if size == most {
             return Ok(Blank::TooLarge);
         }
         match inbox.fill(source)? {
@@ -139,7 +142,7 @@ pub(crate) fn await_start<S: Source>(
     }
 }
 
-/// Reads until the first empty line behind a place has ended, within so many bytes. Each byte is looked at once.
+/// Reads until the first empty line behind a place has ended, within so many bytes. Each byte is looked at once, over all calls.
 pub(crate) fn await_end<S: Source>(
     inbox: &mut Inbox,
     source: &mut S,
@@ -152,16 +155,68 @@ pub(crate) fn await_end<S: Source>(
     ensures later { S.faults source.old ≤ S.faults source.new }
     ensures told { TellsEndIn most start inbox.new.0 (S.left source.new) (S.faults source.old) (S.faults source.new) result }
 {
-    let mut searched = start;
     'turns: loop {
         let front = front(inbox.bytes(), most);
-        if let Some(end) = end_after(front, start, searched) {
+        if let Some(end) = end_after(front, start, inbox.known_open(most, start)) {
             return Ok(EndIn::At(end));
         }
         if front.len() == most {
             return Ok(EndIn::TooLarge);
         }
-        searched = front.len();
+        inbox.keep_open(most, start);
+        match inbox.fill(source)? {
+            Filled::More => {}
+            Filled::End => return Ok(EndIn::Ended),
+            Filled::Failed => return Ok(EndIn::Failed),
+        }
+    }
+}
+
+// Whether an empty line ends at place n, where a line feed stands in front of the bytes.
+fn ends_empty_behind(bytes: &[u8], n: usize) -> bool
+    requires some { 1 ≤ n }
+    requires within { n ≤ length bytes.now }
+    ensures { result ≡ ends_empty (10 ∷ bytes.now) (n + 1) }
+{
+    bytes[n - 1] == b'\n'
+        && (n == 1
+            || bytes[n - 2] == b'\n'
+            || (bytes[n - 2] == b'\r' && (n == 2 || bytes[n - 3] == b'\n')))
+}
+
+// Where the first empty line ends, where a line feed stands in front of the bytes, and none ends up to place `searched`.
+fn end_behind(bytes: &[u8], searched: usize) -> Option<usize>
+    requires within { searched ≤ length bytes.now }
+    requires none { HasNoEndTo (10 ∷ bytes.now) 1 (searched + 1) }
+    ensures { MatchOption result (HasNoEnd (10 ∷ bytes.now) 1) (λ end. IsFirstEnd (10 ∷ bytes.now) 1 (end + 1)) }
+{
+    for i in searched..bytes.len() {
+        if ends_empty_behind(bytes, i + 1) {
+            return Some(i + 1);
+        }
+    }
+    None
+}
+
+/// Reads until the empty line of trailers has ended, behind the line of the last chunk. Each byte is looked at once, over all
+/// calls.
+pub(crate) fn await_trailers<S: Source>(
+    inbox: &mut Inbox,
+    source: &mut S,
+) -> Result<EndIn, AllocError>
+    ensures grows { Grows inbox.old inbox.new (S.left source.old) (S.left source.new) }
+    ensures later { S.faults source.old ≤ S.faults source.new }
+    ensures told { TellsTrailersEnd inbox.new.0 (S.left source.new) (S.faults source.old) (S.faults source.new) result }
+{
+    'turns: loop {
+        let front = front(inbox.bytes(), MOST);
+        if let Some(end) = end_behind(front, inbox.known_trailers()) {
+            return Ok(EndIn::At(end));
+        }
+        if front.len() == MOST {
+            return Ok(EndIn::TooLarge);
+        }
+        inbox.keep_trailers();
         match inbox.fill(source)? {
             Filled::More => {}
             Filled::End => return Ok(EndIn::Ended),

@@ -1,13 +1,14 @@
 // Reading a response.
-ghost use Rattle.std.specs.Prelude.{◌≡◌, ◌≤◌};
-ghost use Rattle.http_message.specs.Responses.{response_form};
+ghost use Rattle.std.specs.Prelude.{◌≡◌, ◌≤◌, None, Some};
 ghost use Rattle.http_wire.specs.Streams.{stream, Told};
-ghost use Rattle.http_wire.specs.Replies.{RoseAtReplyFault, TellsReply, TellsResponse};
+ghost use Rattle.http_wire.specs.Replies.{response_place, IsReplyAfter, RoseAtReplyFault, TellsReply, TellsResponse};
+ghost use Rattle.http_wire.specs.declared.begun.BegunResponse.TheVariants as was;
 
-use crate::body::BodyRead;
+use crate::begun::{BegunBody, BegunResponse};
+use crate::body::{BodyRead, read_body};
 use crate::head::HeadRead;
 use crate::inbox::Inbox;
-use crate::open_body::read_response_body;
+use crate::reading::MOST;
 use crate::response_head::read_final_head;
 use edge_core::Source;
 use http_message::field::Fields;
@@ -36,47 +37,115 @@ pub enum Reply {
     ReadFault,
 }
 
-/// Reads the next response.
+/// Reads the next response, or the rest of the one that was begun.
 pub(crate) fn next_reply<S: Source>(
     alloc: Global,
     inbox: &mut Inbox,
+    begun: &mut Option<BegunResponse>,
     source: &mut S,
 ) -> Result<Reply, AllocError>
     ensures later { S.faults source.old ≤ S.faults source.new }
     ensures cause { RoseAtReplyFault (S.faults source.old) (S.faults source.new) result }
-    ensures told { Told (stream inbox.old (S.left source.old)) (stream inbox.new (S.left source.new)) (λ xs ys. TellsReply xs inbox.old.1 ys inbox.new.1 result) }
+    ensures told { Told (stream inbox.old (S.left source.old)) (stream inbox.new (S.left source.new)) (λ xs ys. TellsReply begun.old begun.new xs inbox.old.1 ys inbox.new.1 result) }
+    ensures after { IsReplyAfter (response_place begun.old inbox.old.1) begun.new inbox.new.1 result }
 {
-    let at = inbox.place();
-    match read_final_head(alloc, inbox, source)? {
-        HeadRead::Whole(head) => read_response(alloc, inbox, source, at, head),
-        HeadRead::Nothing => Ok(Reply::Truncated { at }),
-        HeadRead::Cut => Ok(Reply::Truncated { at }),
-        HeadRead::Refused(_) => Ok(Reply::Bad { at }),
-        HeadRead::Failed => Ok(Reply::ReadFault),
+    match begun.take() {
+        None => {
+            let at = inbox.place();
+            read_heads(alloc, inbox, begun, source, at, MOST)
+        }
+        Some(BegunResponse::Heads { at, room }) => read_heads(
+            alloc, inbox, begun, source, at, room,
+        ),
+        Some(BegunResponse::Body { at, head, body }) => {
+            read_response(inbox, begun, source, at, head, body)
+        }
+    }
+}
+
+// Reads the heads of the response that begins at that place, of at most so many bytes, and what stands behind them.
+fn read_heads<S: Source>(
+    alloc: Global,
+    inbox: &mut Inbox,
+    begun: &mut Option<BegunResponse>,
+    source: &mut S,
+    at: u64,
+    most: usize,
+) -> Result<Reply, AllocError>
+    requires { begun.old ≡ None }
+    ensures later { S.faults source.old ≤ S.faults source.new }
+    ensures cause { RoseAtReplyFault (S.faults source.old) (S.faults source.new) result }
+    ensures told { Told (stream inbox.old (S.left source.old)) (stream inbox.new (S.left source.new)) (λ xs ys. TellsReply (Some (was.Heads at most)) begun.new xs inbox.old.1 ys inbox.new.1 result) }
+    ensures after { IsReplyAfter at begun.new inbox.new.1 result }
+{
+    let mut room = most;
+    match read_final_head(alloc, inbox, source, &mut room) {
+        Ok(HeadRead::Whole(head)) => read_behind_head(alloc, inbox, begun, source, at, head),
+        Ok(HeadRead::Nothing) => Ok(Reply::Truncated { at }),
+        Ok(HeadRead::Cut) => Ok(Reply::Truncated { at }),
+        Ok(HeadRead::Refused(_)) => Ok(Reply::Bad { at }),
+        Ok(HeadRead::Failed) => {
+            *begun = Some(BegunResponse::Heads { at, room });
+            Ok(Reply::ReadFault)
+        }
+        Err(error) => {
+            *begun = Some(BegunResponse::Heads { at, room });
+            Err(error)
+        }
     }
 }
 
 // Reads what stands behind the last head of the response that begins at that place.
-fn read_response<S: Source>(
+fn read_behind_head<S: Source>(
     alloc: Global,
     inbox: &mut Inbox,
+    begun: &mut Option<BegunResponse>,
     source: &mut S,
     at: u64,
     head: ResponseHead,
 ) -> Result<Reply, AllocError>
+    requires { begun.old ≡ None }
     ensures later { S.faults source.old ≤ S.faults source.new }
     ensures cause { RoseAtReplyFault (S.faults source.old) (S.faults source.new) result }
-    ensures told { Told (stream inbox.old (S.left source.old)) (stream inbox.new (S.left source.new)) (λ xs ys. TellsResponse head at xs inbox.old.1 ys inbox.new.1 result) }
+    ensures told { Told (stream inbox.old (S.left source.old)) (stream inbox.new (S.left source.new)) (λ xs ys. TellsResponse head at begun.new xs inbox.old.1 ys inbox.new.1 result) }
+    ensures after { IsReplyAfter at begun.new inbox.new.1 result }
 {
-    let form = match response_form(MOST_RESPONSE as u64, &head) {
-        Ok(form) => form,
-        Err(_) => return Ok(Reply::Bad { at }),
-    };
-    let mut body = Vec::new(alloc);
-    match read_response_body(inbox, source, MOST_RESPONSE, form, &mut body)? {
-        BodyRead::Whole => Ok(Reply::Response(head.status, head.fields, body)),
-        BodyRead::Ended => Ok(Reply::Truncated { at }),
-        BodyRead::Refused(_) => Ok(Reply::Bad { at }),
-        BodyRead::Failed => Ok(Reply::ReadFault),
+    match response_form(MOST_RESPONSE as u64, &head) {
+        Ok(form) => {
+            let body = BegunBody::new(alloc, form);
+            read_response(inbox, begun, source, at, head, body)
+        }
+        Err(_) => Ok(Reply::Bad { at }),
+    }
+}
+
+// Reads the rest of the body of the response that begins at that place.
+fn read_response<S: Source>(
+    inbox: &mut Inbox,
+    begun: &mut Option<BegunResponse>,
+    source: &mut S,
+    at: u64,
+    head: ResponseHead,
+    body: BegunBody,
+) -> Result<Reply, AllocError>
+    requires { begun.old ≡ None }
+    ensures later { S.faults source.old ≤ S.faults source.new }
+    ensures cause { RoseAtReplyFault (S.faults source.old) (S.faults source.new) result }
+    ensures told { Told (stream inbox.old (S.left source.old)) (stream inbox.new (S.left source.new)) (λ xs ys. TellsReply (Some (was.Body at head body)) begun.new xs inbox.old.1 ys inbox.new.1 result) }
+    ensures after { IsReplyAfter at begun.new inbox.new.1 result }
+{
+    let mut body = body;
+    match read_body(inbox, source, MOST_RESPONSE, &mut body) {
+        Ok(BodyRead::Whole) => Ok(Reply::Response(head.status, head.fields, body.content)),
+        Ok(BodyRead::Ended) => Ok(Reply::Truncated { at }),
+        Ok(BodyRead::Refused(_)) => Ok(Reply::Bad { at }),
+        Ok(BodyRead::Failed) => {
+            *begun = Some(BegunResponse::Body { at, head, body });
+            Ok(Reply::ReadFault)
+        }
+        Err(error) => {
+            *begun = Some(BegunResponse::Body { at, head, body });
+            Err(error)
+        }
     }
 }

@@ -3,12 +3,12 @@ ghost use Rattle.std.specs.Prelude.{◌≡◌, ◌≤◌, ◌<◌, ◌+◌, IfOk
 ghost use Rattle.http_message.specs.HeadReadings.{ReadsHead};
 ghost use Rattle.http_message.specs.Responses.{IsResponseText};
 ghost use Rattle.http_message.specs.ResponseMessages.{ReadsFinalHead};
-ghost use Rattle.http_wire.specs.Streams.{stream, Told};
-ghost use Rattle.http_wire.specs.Heads.{OnWhole, TellsHeadRead, TellsText, RoseWhereHeadFailed};
+ghost use Rattle.http_wire.specs.Replies.{IsPassing};
+ghost use Rattle.http_wire.specs.Streams.{stream, Grows, Told};
+ghost use Rattle.http_wire.specs.Heads.{OnFault, OnWhole, TellsHeadRead, TellsText, RoseWhereHeadFailed};
 
 use crate::head::{HeadEnd, HeadRead, has_many_lines, head_end};
 use crate::inbox::Inbox;
-use crate::reading::MOST;
 use edge_core::Source;
 use http_message::refusal::{BAD_MESSAGE, HEAD_TOO_LARGE};
 use http_message::response::{ResponseHead, is_interim, response_in};
@@ -27,7 +27,8 @@ fn response_of_text(alloc: Global, text: &[u8]) -> Result<HeadRead<ResponseHead>
     }
 }
 
-// Reads the head of a response at the front, of at most `room` bytes, and uses it. Its bytes are taken from `room`.
+// Reads the head of a response at the front, of at most `room` bytes, and uses it. Its bytes are taken from `room`. At a fault
+// and want of memory nothing is used.
 fn read_response_head<S: Source>(
     alloc: Global,
     inbox: &mut Inbox,
@@ -38,6 +39,7 @@ fn read_response_head<S: Source>(
     ensures cause { RoseWhereHeadFailed (S.faults source.old) (S.faults source.new) result }
     ensures told { Told (stream inbox.old (S.left source.old)) (stream inbox.new (S.left source.new)) (λ xs ys. TellsHeadRead (ReadsHead IsResponseText room.old xs) xs inbox.old.1 ys inbox.new.1 result × OnWhole result (room.old + length ys ≡ room.new + length xs)) }
     ensures less { OnWhole result (room.new < room.old) }
+    ensures kept { OnFault result (Grows inbox.old inbox.new (S.left source.old) (S.left source.new) × (room.new ≡ room.old)) }
 {
     match head_end(inbox, source, *room)? {
         HeadEnd::At(end) => {
@@ -53,19 +55,20 @@ fn read_response_head<S: Source>(
     }
 }
 
-/// Reads the interim heads at the front and the head behind them, and uses them. All together have at most 16,384 bytes.
+/// Reads the interim heads at the front and the head behind them, of at most `room` bytes all together, and uses them. At a fault
+/// and want of memory the interim heads were passed over, and their bytes taken from `room`.
 pub(crate) fn read_final_head<S: Source>(
     alloc: Global,
     inbox: &mut Inbox,
     source: &mut S,
+    room: &mut usize,
 ) -> Result<HeadRead<ResponseHead>, AllocError>
     ensures later { S.faults source.old ≤ S.faults source.new }
     ensures cause { RoseWhereHeadFailed (S.faults source.old) (S.faults source.new) result }
-    ensures told { Told (stream inbox.old (S.left source.old)) (stream inbox.new (S.left source.new)) (λ xs ys. TellsHeadRead (ReadsFinalHead 16384 xs) xs inbox.old.1 ys inbox.new.1 result) }
+    ensures told { Told (stream inbox.old (S.left source.old)) (stream inbox.new (S.left source.new)) (λ xs ys. TellsHeadRead (ReadsFinalHead room.old xs) xs inbox.old.1 ys inbox.new.1 result × OnFault result (IsPassing room.old room.new xs inbox.old.1 ys inbox.new.1)) }
 {
-    let mut room = MOST;
     'heads: loop {
-        match read_response_head(alloc, inbox, source, &mut room)? {
+        match read_response_head(alloc, inbox, source, room)? {
             HeadRead::Whole(head) => {
                 if !is_interim(&head) {
                     return Ok(HeadRead::Whole(head));

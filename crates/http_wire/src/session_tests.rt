@@ -61,50 +61,111 @@ fn a_session_is_the_same_however_it_is_cut(rt: HostRuntime) -> Result<(), AllocE
     Ok(())
 }
 
-// Whether the session's messages come up to a fault, over single bytes, where the read of that number fails.
-fn is_session_to_fault(alloc: Global, fails: u64) -> Result<bool, AllocError> {
+// The next message, where each call that ends in a fault is made again. The faults are counted.
+fn next_at_last(
+    alloc: Global,
+    wire: &mut Wire,
+    source: &mut MemSource,
+    faults: &mut u64,
+) -> Result<Message, AllocError> {
+    for _ in 0..10_000u64 {
+        let message = wire.next(alloc, source)?;
+        if !is_fault(&message) {
+            return Ok(message);
+        }
+        *faults = faults.saturating_add(1);
+    }
+    Ok(Message::ReadFault)
+}
+
+// How many faults are told while the session's four messages come, over single bytes, where those reads fail; none where other
+// messages come.
+fn faults_of_session(alloc: Global, fails: Vec<u64>) -> Result<Option<u64>, AllocError> {
     let bytes = Vec::from_slice(alloc, SESSION)?;
     let mut source = MemSource::new(alloc, bytes)
-        .with_sizes(vec![in alloc; 1usize; SESSION.len()]?)
-        .with_fails(Vec::from_slice(alloc, &[fails])?);
+        .with_sizes(vec![in alloc; 1usize; 1000]?)
+        .with_fails(fails);
     let mut wire = Wire::new(alloc);
+    let mut faults = 0;
     for number in 0..4u8 {
-        let message = wire.next(alloc, &mut source)?;
-        if is_fault(&message) {
-            return Ok(true);
-        }
+        let message = next_at_last(alloc, &mut wire, &mut source, &mut faults)?;
         if !is_of_session(number, &message) {
-            return Ok(false);
+            return Ok(None);
         }
     }
-    Ok(false)
+    Ok(Some(faults))
+}
+
+// The numbers of as many reads, every second one from the first.
+fn every_second(alloc: Global, count: u64) -> Result<Vec<u64>, AllocError> {
+    let mut numbers = Vec::new(alloc);
+    for number in 0..count {
+        numbers.push(number.saturating_mul(2))?;
+    }
+    Ok(numbers)
 }
 
 #[test]
-fn a_read_that_fails_is_a_fault_wherever_it_is(rt: HostRuntime) -> Result<(), AllocError> {
-    for fails in 0..SESSION.len() as u64 {
-        assert!(&rt; is_session_to_fault(rt.alloc(), fails)?);
+fn a_session_goes_on_after_faults(rt: HostRuntime) -> Result<(), AllocError> {
+    let a = rt.alloc();
+    // a read for each byte, and one that finds the end
+    let reads = SESSION.len() as u64 + 1;
+    for number in 0..reads {
+        let fails = Vec::from_slice(a, &[number])?;
+        assert!(&rt; faults_of_session(a, fails)? == Some(1));
     }
-    assert!(&rt; !is_session_to_fault(rt.alloc(), 10_000)?);
+    assert!(&rt; faults_of_session(a, every_second(a, reads)?)? == Some(reads));
     Ok(())
 }
 
-// Whether a request whose body has 20,000 bytes, which takes several reads, and then another come over pieces of those sizes.
+// Whether the second message is bad, and its place that of its first byte, where the read of that number fails.
+fn is_bad_at_its_place(alloc: Global, fails: u64) -> Result<bool, AllocError> {
+    let text =
+        b"GET /a HTTP/1.1\r\nHost: x\r\n\r\nPOST /b HTTP/1.1\r\nHost: x\r\nTransfer-Encoding: chunked\r\n\r\n3\r\nabcde\r\n";
+    let mut source = MemSource::new(alloc, Vec::from_slice(alloc, text)?)
+        .with_sizes(vec![in alloc; 1usize; 1000]?)
+        .with_fails(Vec::from_slice(alloc, &[fails])?);
+    let mut wire = Wire::new(alloc);
+    let mut faults = 0;
+    let _first = next_at_last(alloc, &mut wire, &mut source, &mut faults)?;
+    match next_at_last(alloc, &mut wire, &mut source, &mut faults)? {
+        Message::Bad { at, .. } => Ok(at == 28 && faults == 1),
+        Message::Request(..) => Ok(false),
+        Message::End => Ok(false),
+        Message::Truncated { .. } => Ok(false),
+        Message::ReadFault => Ok(false),
+    }
+}
+
+#[test]
+fn a_message_keeps_its_place_over_a_fault(rt: HostRuntime) -> Result<(), AllocError> {
+    // up to the second of the two bytes that are no CR LF
+    for fails in 0..93 {
+        assert!(&rt; is_bad_at_its_place(rt.alloc(), fails)?);
+    }
+    Ok(())
+}
+
+// Whether a request whose body has 20,000 bytes, which takes several reads, and then another come over pieces of those sizes,
+// where the second read fails.
 fn is_long_session(alloc: Global, sizes: Vec<usize>) -> Result<bool, AllocError> {
     let content = vec![in alloc; b'a'; 20_000]?;
     let mut bytes = Vec::from_slice(alloc, b"PUT / HTTP/1.0\r\nContent-Length: 20000\r\n\r\n")?;
     bytes.extend_from_slice(&content)?;
     bytes.extend_from_slice(b"GET /a HTTP/1.1\r\nHost: x\r\n\r\n")?;
-    let mut source = MemSource::new(alloc, bytes).with_sizes(sizes);
+    let mut source = MemSource::new(alloc, bytes)
+        .with_sizes(sizes)
+        .with_fails(Vec::from_slice(alloc, &[1])?);
     let mut wire = Wire::new(alloc);
-    let whole = match wire.next(alloc, &mut source)? {
+    let mut faults = 0;
+    let whole = match next_at_last(alloc, &mut wire, &mut source, &mut faults)? {
         Message::Request(_, body, _) => body.as_slice() == content.as_slice(),
         Message::End => false,
         Message::Truncated { .. } => false,
         Message::Bad { .. } => false,
         Message::ReadFault => false,
     };
-    Ok(whole && is_of_session(0, &wire.next(alloc, &mut source)?))
+    Ok(whole && faults == 1 && is_of_session(0, &wire.next(alloc, &mut source)?))
 }
 
 #[test]
@@ -255,20 +316,58 @@ fn places_are_those_of_responses(rt: HostRuntime) -> Result<(), AllocError> {
     Ok(())
 }
 
-// The first response over single bytes, where the read of that number fails.
-fn failing(alloc: Global, text: &[u8], fails: u64) -> Result<(&'static str, u64), AllocError> {
+// How many faults are told until the text's first response comes, of that status and body, over single bytes, where those reads
+// fail; none where another answer comes.
+fn faults_of_response(
+    alloc: Global,
+    text: &[u8],
+    fails: Vec<u64>,
+    status: u16,
+    body: &[u8],
+) -> Result<Option<u64>, AllocError> {
     let mut source = MemSource::new(alloc, Vec::from_slice(alloc, text)?)
-        .with_sizes(vec![in alloc; 1usize; text.len()]?)
-        .with_fails(Vec::from_slice(alloc, &[fails])?);
+        .with_sizes(vec![in alloc; 1usize; 1000]?)
+        .with_fails(fails);
     let mut wire = Wire::new(alloc);
-    Ok(told(wire.response_of(alloc, &mut source)?))
+    for faults in 0..10_000u64 {
+        let reply = wire.response_of(alloc, &mut source)?;
+        if is_response(&reply, status, body) {
+            return Ok(Some(faults));
+        }
+        if told(reply) != ("fault", 0) {
+            return Ok(None);
+        }
+    }
+    Ok(None)
+}
+
+// Whether the text's first response, which takes so many reads, comes past a fault of each read, and of all.
+fn comes_past_faults(
+    alloc: Global,
+    text: &[u8],
+    reads: u64,
+    status: u16,
+    body: &[u8],
+) -> Result<bool, AllocError> {
+    for number in 0..reads {
+        let fails = Vec::from_slice(alloc, &[number])?;
+        if faults_of_response(alloc, text, fails, status, body)? != Some(1) {
+            return Ok(false);
+        }
+    }
+    let fails = every_second(alloc, reads)?;
+    Ok(faults_of_response(alloc, text, fails, status, body)? == Some(reads))
 }
 
 #[test]
-fn a_failing_read_of_a_response_is_a_fault(rt: HostRuntime) -> Result<(), AllocError> {
-    for fails in 0..=TO_THE_END.len() as u64 {
-        assert!(&rt; failing(rt.alloc(), TO_THE_END, fails)? == ("fault", 0));
-    }
-    assert!(&rt; failing(rt.alloc(), TO_THE_END, 10_000)? == ("response", 0));
+fn responses_come_past_faults(rt: HostRuntime) -> Result<(), AllocError> {
+    let a = rt.alloc();
+    // without the response of 19 bytes behind it
+    let reads = INTERIM.len() as u64 - 19;
+    assert!(&rt; comes_past_faults(a, INTERIM, reads, 200, b"Wikipedia")?);
+    let reads = TO_THE_END.len() as u64 + 1;
+    assert!(&rt; comes_past_faults(a, TO_THE_END, reads, 404, b"all that is left\r\n\r\n")?);
+    let sized = b"HTTP/1.1 204 No Content\r\nContent-Length: 3\r\n\r\nabc";
+    assert!(&rt; comes_past_faults(a, sized, sized.len() as u64, 204, b"abc")?);
     Ok(())
 }

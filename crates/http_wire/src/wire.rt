@@ -1,10 +1,10 @@
 // The reading side of a connection.
-ghost use Rattle.std.specs.Prelude.{◌≡◌, ◌≤◌, []};
-ghost use Rattle.http_message.specs.Framing.{request_form};
+ghost use Rattle.std.specs.Prelude.{◌≡◌, ◌≤◌, [], None, Some};
 ghost use Rattle.http_wire.specs.Streams.{stream, Told};
-ghost use Rattle.http_wire.specs.Wires.{RoseAtFault, TellsMessage, TellsRequest};
-ghost use Rattle.http_wire.specs.Replies.{RoseAtReplyFault, TellsReply};
+ghost use Rattle.http_wire.specs.Wires.{place_of, IsBegunAfter, RoseAtFault, TellsMessage, TellsRequest};
+ghost use Rattle.http_wire.specs.Replies.{response_place, IsReplyAfter, RoseAtReplyFault, TellsReply};
 
+use crate::begun::{BegunBody, BegunRequest, BegunResponse};
 use crate::body::{BodyRead, read_body};
 use crate::head::{HeadRead, read_head};
 use crate::inbox::Inbox;
@@ -41,28 +41,35 @@ pub enum Message {
     ReadFault,
 }
 
-/// The reading side of a connection: bytes that were read and not yet used, and the place of the first of them, which
-/// stands still at 2^64 - 1. Contracts see both.
+/// The reading side of a connection: bytes that were read and not yet used, the place of the first of them, which stands still at
+/// 2^64 - 1, and what a fault or want of memory left of a message that was begun, one for each of the two readers. Contracts see
+/// all of it.
 #[derive(Drop)]
 pub struct Wire {
     inbox: Inbox,
+    request: Option<BegunRequest>,
+    response: Option<BegunResponse>,
 }
 
 impl Model for Wire {
-    ghost use Rattle.std.specs.Prelude.{List, ℕ};
+    ghost use Rattle.http_wire.specs.Connections.{Connection};
 
-    ghost Value = { List ℕ × ℕ };
+    ghost Value = { Connection };
 
-    ghost view = { λ w. w.inbox };
+    ghost view = { λ w. record { buffer = w.inbox; request = w.request; response = w.response } };
 }
 
 impl Wire {
     /// The reading side of a new connection.
     pub fn new(alloc: Global) -> Wire
-        ensures { result ≡ ([], 0) }
+        ensures buffer { result.buffer ≡ ([], 0) }
+        ensures request { result.request ≡ None }
+        ensures response { result.response ≡ None }
     {
         Wire {
             inbox: Inbox::new(alloc),
+            request: None,
+            response: None,
         }
     }
 
@@ -71,13 +78,16 @@ impl Wire {
     /// Of a stream that is told, the bytes that were read and not used and then those that the source has left, the answer
     /// is its reading, and what stands behind a request in the stream is left after it. The places are those of the
     /// stream's first byte. `ReadFault` comes only where the source's count of faults rose in this call. After it, and
-    /// after want of memory, which is the error, what is left is what stood behind the bytes that were used.
+    /// after want of memory, which is the error, nothing is lost: the next call reads on, and its answer is the reading of the
+    /// whole stream, at the message's place, as if there had been none. What `response_of` began stays as it was.
     pub fn next<S: Source>(&mut self, alloc: Global, source: &mut S) -> Result<Message, AllocError>
         ensures later { S.faults source.old ≤ S.faults source.new }
         ensures cause { RoseAtFault (S.faults source.old) (S.faults source.new) result }
-        ensures told { Told (stream self.old (S.left source.old)) (stream self.new (S.left source.new)) (λ xs ys. TellsMessage xs self.old.1 ys self.new.1 result) }
+        ensures told { Told (stream self.old.buffer (S.left source.old)) (stream self.new.buffer (S.left source.new)) (λ xs ys. TellsMessage self.old.request self.new.request xs self.old.buffer.1 ys self.new.buffer.1 result) }
+        ensures after { IsBegunAfter (place_of self.old.request self.old.buffer.1) self.new.request self.new.buffer.1 result }
+        ensures response { self.new.response ≡ self.old.response }
     {
-        next_message(alloc, &mut self.inbox, source)
+        next_message(alloc, &mut self.inbox, &mut self.request, source)
     }
 
     /// Reads the next response from the source (RFC 9112), however its pieces are cut. Interim heads, of status 1xx, are passed
@@ -88,7 +98,8 @@ impl Wire {
     /// Of a stream that is told, the bytes that were read and not used and then those that the source has left, the answer is its
     /// reading as a response, and what stands behind a response in the stream is left after it. The places are those of the
     /// stream's first byte. `ReadFault` comes only where the source's count of faults rose in this call. After it, and after want
-    /// of memory, which is the error, what is left is what stood behind the bytes that were used.
+    /// of memory, which is the error, nothing is lost: the next call reads on, and its answer is the reading of the whole stream,
+    /// at the response's place, as if there had been none. What `next` began stays as it was.
     pub fn response_of<S: Source>(
         &mut self,
         alloc: Global,
@@ -96,25 +107,48 @@ impl Wire {
     ) -> Result<Reply, AllocError>
         ensures later { S.faults source.old ≤ S.faults source.new }
         ensures cause { RoseAtReplyFault (S.faults source.old) (S.faults source.new) result }
-        ensures told { Told (stream self.old (S.left source.old)) (stream self.new (S.left source.new)) (λ xs ys. TellsReply xs self.old.1 ys self.new.1 result) }
+        ensures told { Told (stream self.old.buffer (S.left source.old)) (stream self.new.buffer (S.left source.new)) (λ xs ys. TellsReply self.old.response self.new.response xs self.old.buffer.1 ys self.new.buffer.1 result) }
+        ensures after { IsReplyAfter (response_place self.old.response self.old.buffer.1) self.new.response self.new.buffer.1 result }
+        ensures request { self.new.request ≡ self.old.request }
     {
-        next_reply(alloc, &mut self.inbox, source)
+        next_reply(alloc, &mut self.inbox, &mut self.response, source)
     }
 }
 
-// Reads the next message.
+// Reads the next message, or the rest of the request that was begun.
 fn next_message<S: Source>(
     alloc: Global,
     inbox: &mut Inbox,
+    begun: &mut Option<BegunRequest>,
     source: &mut S,
 ) -> Result<Message, AllocError>
     ensures later { S.faults source.old ≤ S.faults source.new }
     ensures cause { RoseAtFault (S.faults source.old) (S.faults source.new) result }
-    ensures told { Told (stream inbox.old (S.left source.old)) (stream inbox.new (S.left source.new)) (λ xs ys. TellsMessage xs inbox.old.1 ys inbox.new.1 result) }
+    ensures told { Told (stream inbox.old (S.left source.old)) (stream inbox.new (S.left source.new)) (λ xs ys. TellsMessage begun.old begun.new xs inbox.old.1 ys inbox.new.1 result) }
+    ensures after { IsBegunAfter (place_of begun.old inbox.old.1) begun.new inbox.new.1 result }
+{
+    match begun.take() {
+        Some(request) => read_request(inbox, begun, source, request),
+        None => first_message(alloc, inbox, begun, source),
+    }
+}
+
+// Reads the next message, of which nothing was begun.
+fn first_message<S: Source>(
+    alloc: Global,
+    inbox: &mut Inbox,
+    begun: &mut Option<BegunRequest>,
+    source: &mut S,
+) -> Result<Message, AllocError>
+    requires { begun.old ≡ None }
+    ensures later { S.faults source.old ≤ S.faults source.new }
+    ensures cause { RoseAtFault (S.faults source.old) (S.faults source.new) result }
+    ensures told { Told (stream inbox.old (S.left source.old)) (stream inbox.new (S.left source.new)) (λ xs ys. TellsMessage None begun.new xs inbox.old.1 ys inbox.new.1 result) }
+    ensures after { IsBegunAfter inbox.old.1 begun.new inbox.new.1 result }
 {
     let at = inbox.place();
     match read_head(alloc, inbox, source)? {
-        HeadRead::Whole(head) => read_request(alloc, inbox, source, at, head),
+        HeadRead::Whole(head) => read_behind_head(alloc, inbox, begun, source, at, head),
         HeadRead::Nothing => Ok(Message::End),
         HeadRead::Cut => Ok(Message::Truncated { at }),
         HeadRead::Refused(refusal) => Ok(Message::Bad { at, refusal }),
@@ -123,29 +157,58 @@ fn next_message<S: Source>(
 }
 
 // Reads what stands behind the head of the request that begins at that place.
-fn read_request<S: Source>(
+fn read_behind_head<S: Source>(
     alloc: Global,
     inbox: &mut Inbox,
+    begun: &mut Option<BegunRequest>,
     source: &mut S,
     at: u64,
     head: Head,
 ) -> Result<Message, AllocError>
+    requires { begun.old ≡ None }
     ensures later { S.faults source.old ≤ S.faults source.new }
     ensures cause { RoseAtFault (S.faults source.old) (S.faults source.new) result }
-    ensures told { Told (stream inbox.old (S.left source.old)) (stream inbox.new (S.left source.new)) (λ xs ys. TellsRequest head at xs inbox.old.1 ys inbox.new.1 result) }
+    ensures told { Told (stream inbox.old (S.left source.old)) (stream inbox.new (S.left source.new)) (λ xs ys. TellsRequest head at begun.new xs inbox.old.1 ys inbox.new.1 result) }
+    ensures after { IsBegunAfter at begun.new inbox.new.1 result }
 {
-    let form = match request_form(MOST_BODY as u64, &head) {
-        Ok(form) => form,
-        Err(refusal) => return Ok(Message::Bad { at, refusal }),
-    };
-    let mut body = Vec::new(alloc);
-    match read_body(inbox, source, MOST_BODY, form, &mut body)? {
-        BodyRead::Whole => {
-            let close = closes(head.minor, &head.fields);
-            Ok(Message::Request(head, body, close))
+    match request_form(MOST_BODY as u64, &head) {
+        Ok(form) => {
+            let body = BegunBody::new(alloc, Some(form));
+            read_request(inbox, begun, source, BegunRequest { at, head, body })
         }
-        BodyRead::Ended => Ok(Message::Truncated { at }),
-        BodyRead::Refused(refusal) => Ok(Message::Bad { at, refusal }),
-        BodyRead::Failed => Ok(Message::ReadFault),
+        Err(refusal) => Ok(Message::Bad { at, refusal }),
+    }
+}
+
+// Reads the rest of a request.
+fn read_request<S: Source>(
+    inbox: &mut Inbox,
+    begun: &mut Option<BegunRequest>,
+    source: &mut S,
+    request: BegunRequest,
+) -> Result<Message, AllocError>
+    requires { begun.old ≡ None }
+    ensures later { S.faults source.old ≤ S.faults source.new }
+    ensures cause { RoseAtFault (S.faults source.old) (S.faults source.new) result }
+    ensures told { Told (stream inbox.old (S.left source.old)) (stream inbox.new (S.left source.new)) (λ xs ys. TellsMessage (Some request) begun.new xs inbox.old.1 ys inbox.new.1 result) }
+    ensures after { IsBegunAfter request.at begun.new inbox.new.1 result }
+{
+    let mut request = request;
+    let at = request.at;
+    match read_body(inbox, source, MOST_BODY, &mut request.body) {
+        Ok(BodyRead::Whole) => {
+            let close = closes(request.head.minor, &request.head.fields);
+            Ok(Message::Request(request.head, request.body.content, close))
+        }
+        Ok(BodyRead::Ended) => Ok(Message::Truncated { at }),
+        Ok(BodyRead::Refused(refusal)) => Ok(Message::Bad { at, refusal }),
+        Ok(BodyRead::Failed) => {
+            *begun = Some(request);
+            Ok(Message::ReadFault)
+        }
+        Err(error) => {
+            *begun = Some(request);
+            Err(error)
+        }
     }
 }

@@ -1,5 +1,4 @@
-use Rattle.std.proofs.Common.{◌-◌, ◌≤◌, length, take}
-use Rattle.http_message.specs.Ends.{HasNoEndTo}
+use Rattle.std.proofs.Common.{◌-◌, ◌≤◌, length}
 use Rattle.http_wire.specs.Streams.{Grows}
 use Rattle.http_wire.proofs.reading.await_end.Given as goal
 
@@ -7,9 +6,6 @@ abbrev pub invariant-turns : goal.invariant-turns
 invariant-turns g l = record {
   grows : Grows l.initial.inbox l.inbox (g.S.Source.left l.initial.source) (g.S.Source.left l.source);
   later : g.S.Source.faults l.initial.source ≤ g.S.Source.faults l.source;
-  order : l.start ≤ l.searched;
-  within : l.searched ≤ length (take l.most l.inbox.0);
-  none : HasNoEndTo (take l.most l.inbox.0) l.start l.searched;
 }
 
 abbrev pub decreases-turns : goal.decreases-turns
