@@ -1,10 +1,10 @@
 -- The parts of a body in a stream.
-use Rattle.std.proofs.Common.{◌≡◌, ℕ, ◌+◌, ◌-◌, ◌^◌, ◌<◌, ◌≤◌, min, inl, inr, eqb, List, [], ◌∷◌, ◌++◌, length, take, drop, Option, Some, None, Result, Ok, Vec, refl, sym, ap, ◌∙◌, subst, arith, length-append}
+use Rattle.std.proofs.Common.{◌≡◌, ℕ, ◌+◌, ◌-◌, ◌^◌, ◌<◌, ◌≤◌, min, inl, inr, eqb, List, [], ◌∷◌, ◌++◌, length, take, drop, Option, Some, None, Result, Ok, Vec, refl, sym, ap, ◌∙◌, subst, arith, length-append, append_assoc}
 use Rattle.std.specs.Bool.{MatchBool}
 use Rattle.std.specs.declared.alloc.AllocError.{AllocError}
 use Rattle.std.specs.declared.alloc.Global.{Global}
 use Rattle.std.proofs.lemmas.Bool.{lt-ltb, le-ltb, eq-eqb, ne_eqb}
-use Rattle.std.proofs.lemmas.List.{drop-append-le, length-take-le, take-append-drop}
+use Rattle.std.proofs.lemmas.List.{drop-append-le, drop-drop, length-drop, length-take-le, take-append-drop}
 use Rattle.std.specs.Io.KnownBytes.{prepend_known}
 use Rattle.httparse.specs.Grammar.{ChunkLine, print_chunk_line, chunk_size}
 use Rattle.http_message.specs.Bodies.{BodyReading, unended, refused, behind, content_stop, Chunk, StopsBehindLine, Stops, ReadsTrailers, ReadsChunked, ReadsChunks}
@@ -220,3 +220,41 @@ pub chunk_used : (most : ℕ) (old : BegunBody) (a b : Buffer) (left : Option (L
 chunk_used most old a b left len size l is found fits some bytes place =
     part_used most old (body_of old.content (expected.Chunk size)) a a b left left len (Ok part.More) (same-grows a left) (line_fits a.0 len size l found) bytes place
     (λ xs told. line_chunk most old xs (drop len xs) l size is (line_in a left len size l xs told found) found.size_is fits some)
+
+-- ---- a chunk that is there, whole
+
+chunk_goes : (most : ℕ) (old : BegunBody) (xs rest content ys d : List ℕ) (l : ChunkLine) (size : ℕ) → old.expected ≡ expected.Line → IsLineAt xs l rest → size ≡ chunk_size l → size ≤ most - length old.content.items → 0 < size
+    → rest ≡ content ++ (13 ∷ 10 ∷ ys) → length content ≡ size → d ≡ old.content.items ++ content → GoesOn (ReadsRest most old xs) (ReadsExpected most expected.Line d ys)
+chunk_goes most old xs rest content ys d l size is at sized fits some spelled count grown = λ reading reads.
+    let c = old.content.items in
+    let sum : 0 + length content ≡ size = omega (arith, count) in
+    let inside = content_goes most size 0 c d content (13 ∷ 10 ∷ ys) grown sum reading (crlf_goes most d ys reading reads) in
+    line_chunk most old xs rest l size is at sized fits some reading (subst (λ r. ReadsExpected most (expected.Chunk size) c r reading) (sym spelled) inside)
+
+-- what stands behind the line
+chunk_there : (u f : List ℕ) (len count : ℕ) → len + count + 2 ≤ length u → content_stop 0 (drop (len + count) u) ≡ None
+    → drop len (u ++ f) ≡ take count (drop len u) ++ (13 ∷ 10 ∷ drop (len + count + 2) (u ++ f))
+chunk_there u f len count within goes =
+    let v = drop (len + count) u in
+    let room : 2 ≤ length v = omega (arith, length-drop (len + count) u) in
+    let front : v ≡ 13 ∷ 10 ∷ drop 2 v = crlf_front v room goes in
+    let behind : drop count (drop len u) ≡ v = drop-drop count len u in
+    let last : drop 2 v ≡ drop (len + count + 2) u = drop-drop 2 (len + count) u in
+    let parts : drop len u ≡ take count (drop len u) ++ (13 ∷ 10 ∷ drop (len + count + 2) u) =
+    sym (take-append-drop count (drop len u)) ∙ ap (λ x. take count (drop len u) ++ x) (behind ∙ front ∙ ap (λ x. 13 ∷ 10 ∷ x) last) in
+    drop-append-le len u f (omega (arith, within)) ∙ ap (λ x. x ++ f) parts ∙ append_assoc (take count (drop len u)) (13 ∷ 10 ∷ drop (len + count + 2) u) f
+    ∙ ap (λ x. take count (drop len u) ++ (13 ∷ 10 ∷ x)) (sym (drop-append-le (len + count + 2) u f within))
+
+-- line and chunk were used
+pub whole_used : (most : ℕ) (old : BegunBody) (content : Vec ℕ Global) (a b : Buffer) (left : Option (List ℕ)) (len size : ℕ) (l : ChunkLine) → old.expected ≡ expected.Line → IsLineFound a.0 len size l
+    → size ≤ most - length old.content.items → 0 < size → len + size + 2 ≤ length a.0 → content_stop 0 (drop (len + size) a.0) ≡ None → content.items ≡ old.content.items ++ take size (drop len a.0)
+    → b.0 ≡ drop (len + size + 2) a.0 → b.1 ≡ min (a.1 + (len + size + 2)) (2 ^ 64 - 1) → Told (stream a left) (stream b left) (λ xs ys. TellsPart most old (body_of content old.expected) xs a.1 ys b.1 (Ok part.More))
+whole_used most old content a b left len size l is found fits some within goes grown bytes place =
+    part_used most old (body_of content old.expected) a a b left left (len + size + 2) (Ok part.More) (same-grows a left) within bytes place
+    (λ xs told reading reads.
+    let f = told_front a left xs told in
+    let spelled : drop len xs ≡ take size (drop len a.0) ++ (13 ∷ 10 ∷ drop (len + size + 2) xs) =
+    subst (λ x. drop len x ≡ take size (drop len a.0) ++ (13 ∷ 10 ∷ drop (len + size + 2) x)) (sym f.2) (chunk_there a.0 f.0 len size within goes) in
+    let count : length (take size (drop len a.0)) ≡ size = length-take-le size (drop len a.0) (omega (arith, length-drop len a.0, within)) in
+    chunk_goes most old xs (drop len xs) (take size (drop len a.0)) (drop (len + size + 2) xs) content.items l size is (line_in a left len size l xs told found) found.size_is fits some spelled count grown reading
+    (subst (λ e. ReadsExpected most e content.items (drop (len + size + 2) xs) reading) is reads))

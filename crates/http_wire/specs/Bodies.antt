@@ -1,5 +1,5 @@
 -- What reading the parts of a body finds.
-use Rattle.std.specs.Prelude.{◌≡◌, ℕ, ◌+◌, ◌-◌, ◌*◌, ◌<◌, List, [], length, Some, Result, Ok, Err, ⊤}
+use Rattle.std.specs.Prelude.{◌≡◌, ℕ, ◌+◌, ◌-◌, ◌*◌, ◌<◌, ◌≤◌, List, [], length, drop, Some, None, Result, Ok, Err, ⊤}
 use Rattle.std.specs.declared.alloc.AllocError.{AllocError}
 use Rattle.edge_core.specs.Faults.{Rose}
 use Rattle.httparse.specs.Grammar.{ChunkLine}
@@ -28,6 +28,10 @@ RoseWhereFailed n m (Err e) = ⊤
 -- the line of a chunk is in front, with its length and the size that it announces
 abbrev pub IsLineThere : ℕ → ℕ → List ℕ → Type 0
 IsLineThere len size bytes = (l : ChunkLine) × IsLineFound bytes len size l
+
+-- so many bytes and CR LF stand behind the first len bytes
+abbrev pub IsChunkThere : ℕ → ℕ → List ℕ → Type 0
+IsChunkThere len count bytes = (len + count + 2 ≤ length bytes) × (content_stop 0 (drop (len + count) bytes) ≡ None)
 
 -- what is there of CR LF that the input ended inside
 abbrev pub IsOpenEnd : List ℕ → Part → Type 0

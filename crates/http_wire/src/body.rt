@@ -1,8 +1,8 @@
 // Reading the body of a message, part by part. A part that a fault or want of memory comes before is left as it was.
-ghost use Rattle.std.specs.Prelude.{◌≡◌, ◌≤◌, ◌<◌, ◌+◌, ◌∷◌, List, ℕ, MatchBool, None, Option, Ok, Some, drop, length};
+ghost use Rattle.std.specs.Prelude.{◌≡◌, ◌≤◌, ◌<◌, ◌+◌, ◌∷◌, List, ℕ, MatchBool, None, Option, Ok, Some, drop, length, ⊤};
 ghost use Rattle.http_message.specs.Bodies.{content_stop, refused};
 ghost use Rattle.http_message.specs.Refusals.{bad_message};
-ghost use Rattle.http_wire.specs.Bodies.{HasFewerParts, IsLineThere, IsOpenEnd, RoseWhereBodyFailed, RoseWhereFailed, TellsBody, TellsPart, TellsTrailersText};
+ghost use Rattle.http_wire.specs.Bodies.{HasFewerParts, IsChunkThere, IsLineThere, IsOpenEnd, RoseWhereBodyFailed, RoseWhereFailed, TellsBody, TellsPart, TellsTrailersText};
 ghost use Rattle.http_wire.specs.Streams.{stream, Told};
 ghost use Rattle.http_wire.specs.declared.begun.Expected.TheVariants as expected;
 
@@ -93,27 +93,58 @@ fn bytes_to_end<S: Source>(
     }
 }
 
-// Uses the line of a chunk, which is there.
-fn use_line(inbox: &mut Inbox, len: usize, size: u64, most: usize, body: &mut BegunBody) -> Part
-    requires line { IsLineThere len size inbox.old.0 }
-    requires expected { body.old.expected ≡ expected.Line }
-    ensures told { (left : Option (List ℕ)) → Told (stream inbox.old left) (stream inbox.new left) (λ xs ys. TellsPart most body.old body.new xs inbox.old.1 ys inbox.new.1 (Ok result)) }
-    ensures fewer { HasFewerParts most body.old body.new (Ok result) }
-    ensures cause { (n m : ℕ) → RoseWhereFailed n m (Ok result) }
+// Whether CR LF is in front.
+fn begins_crlf(bytes: &[u8]) -> bool
+    requires { 2 ≤ length bytes.now }
+    ensures { MatchBool result (content_stop 0 bytes.now ≡ None) (content_stop 0 bytes.now ≡ Some (refused bad_message)) }
 {
-    if size > most.saturating_sub(body.content.len()) as u64 {
-        return Part::Refused(BODY_TOO_LARGE);
-    }
-    inbox.consume(len);
-    if size == 0 {
-        body.expected = Expected::Trailers;
-        return Part::More;
-    }
-    body.expected = Expected::Chunk(size as usize);
-    Part::More
+    bytes[0] == b'\r' && bytes[1] == b'\n'
 }
 
-// Reads the line of a chunk.
+// Whether so many bytes and CR LF stand behind the first `len` bytes.
+fn has_chunk(bytes: &[u8], len: usize, count: usize) -> bool
+    requires { len ≤ length bytes.now }
+    ensures { MatchBool result (IsChunkThere len count bytes.now) ⊤ }
+{
+    let there = bytes.len() - len;
+    there >= 2 && there - 2 >= count && begins_crlf(&bytes[len + count..])
+}
+
+// Uses the line of a chunk, which is there, and the chunk with it where it is there too.
+fn use_line(
+    inbox: &mut Inbox,
+    len: usize,
+    size: u64,
+    most: usize,
+    body: &mut BegunBody,
+) -> Result<Part, AllocError>
+    requires line { IsLineThere len size inbox.old.0 }
+    requires expected { body.old.expected ≡ expected.Line }
+    ensures told { (left : Option (List ℕ)) → Told (stream inbox.old left) (stream inbox.new left) (λ xs ys. TellsPart most body.old body.new xs inbox.old.1 ys inbox.new.1 result) }
+    ensures fewer { HasFewerParts most body.old body.new result }
+    ensures cause { (n m : ℕ) → RoseWhereFailed n m result }
+{
+    if size > most.saturating_sub(body.content.len()) as u64 {
+        return Ok(Part::Refused(BODY_TOO_LARGE));
+    }
+    if size == 0 {
+        inbox.consume(len);
+        body.expected = Expected::Trailers;
+        return Ok(Part::More);
+    }
+    let count = size as usize;
+    if has_chunk(inbox.bytes(), len, count) {
+        body.content
+            .extend_from_slice(&inbox.bytes()[len..len + count])?;
+        inbox.consume(len + count + 2);
+        return Ok(Part::More);
+    }
+    inbox.consume(len);
+    body.expected = Expected::Chunk(count);
+    Ok(Part::More)
+}
+
+// Reads the line of a chunk, and the chunk with it where it is there.
 fn line<S: Source>(
     inbox: &mut Inbox,
     source: &mut S,
@@ -127,19 +158,11 @@ fn line<S: Source>(
     ensures fewer { HasFewerParts most body.old body.new result }
 {
     match await_line(inbox, source)? {
-        Line::Size(len, size) => Ok(use_line(inbox, len, size, most, body)),
+        Line::Size(len, size) => use_line(inbox, len, size, most, body),
         Line::Ended => Ok(Part::Ended),
         Line::Bad => Ok(Part::Refused(BAD_MESSAGE)),
         Line::Failed => Ok(Part::Failed),
     }
-}
-
-// Whether CR LF is in front.
-fn begins_crlf(bytes: &[u8]) -> bool
-    requires { 2 ≤ length bytes.now }
-    ensures { MatchBool result (content_stop 0 bytes.now ≡ None) (content_stop 0 bytes.now ≡ Some (refused bad_message)) }
-{
-    bytes[0] == b'\r' && bytes[1] == b'\n'
 }
 
 // What is there of CR LF that the input ended inside.

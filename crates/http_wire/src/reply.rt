@@ -33,7 +33,7 @@ pub enum Reply {
         /// The place of the response's first byte, the number of the bytes before it.
         at: u64,
     },
-    /// A read failed.
+    /// A read failed. Nothing is lost: the next call reads on.
     ReadFault,
 }
 

@@ -37,7 +37,7 @@ pub enum Message {
         /// The code of the refusal, of `http_message::refusal`.
         refusal: u16,
     },
-    /// A read failed.
+    /// A read failed. Nothing is lost: the next call reads on.
     ReadFault,
 }
 
