@@ -16,6 +16,8 @@ pub use reply::Reply;
 pub use wire::{Message, Wire};
 
 #[cfg(test)]
+mod limit_tests;
+#[cfg(test)]
 mod session_tests;
 #[cfg(test)]
 mod tests;
