@@ -48,14 +48,13 @@ fn has_the_refusals(rt: HostRuntime) {
     for (code, word, status, message, has_detail) in rows {
         match refusals.next() {
             Some(refusal) => {
-                assert_eq!(rt; refusal.code(), code, "{word}");
-                assert_eq!(rt; refusal.word(), word);
-                assert_eq!(rt; refusal.status(), status, "{word}");
-                assert_eq!(rt; refusal.message(), message, "{word}");
-                assert_eq!(rt; refusal.has_detail(), has_detail, "{word}");
-                assert!(rt; Refusal::of_word(word) == Some(refusal), "{word}");
+                let found = (refusal.code(), refusal.status(), refusal.has_detail());
+                assert!(rt; found == (code, status, has_detail), "{code}");
+                assert!(rt; refusal.word() == word, "{code}");
+                assert!(rt; refusal.message() == message, "{code}");
+                assert!(rt; Refusal::of_word(word) == Some(refusal), "{code}");
             }
-            None => assert!(rt; false, "{word}"),
+            None => assert!(rt; false, "{code}"),
         }
     }
     assert!(rt; refusals.next().is_none());
@@ -85,11 +84,10 @@ fn has_the_routes(rt: HostRuntime) {
     for (code, word, method) in rows {
         match routes.next() {
             Some(route) => {
-                assert_eq!(rt; route.code(), code, "{word}");
-                assert_eq!(rt; route.word(), word);
-                assert!(rt; route.method() == method, "{word}");
+                assert!(rt; (route.code(), route.method()) == (code, method), "{code}");
+                assert!(rt; route.word() == word, "{code}");
             }
-            None => assert!(rt; false, "{word}"),
+            None => assert!(rt; false, "{code}"),
         }
     }
     assert!(rt; routes.next().is_none());
@@ -108,7 +106,7 @@ fn has_the_value_types(rt: HostRuntime) {
     for (word, class) in rows {
         match kinds.next() {
             Some(kind) => {
-                assert_eq!(rt; kind.word(), word);
+                assert!(rt; kind.word() == word, "{word}");
                 assert!(rt; kind.class() == class, "{word}");
                 assert!(rt; ValueType::of_word(word) == Some(kind), "{word}");
             }
@@ -159,11 +157,11 @@ fn has_the_fields(rt: HostRuntime) {
     for (code, action, name) in rows {
         match fields.next() {
             Some(field) => {
-                assert_eq!(rt; field.code(), code, "{action}.{name}");
-                assert_eq!(rt; field.kind().word(), action);
-                assert_eq!(rt; field.name(), name);
+                assert!(rt; field.code() == code, "{code}");
+                assert!(rt; field.kind().word() == action, "{code}");
+                assert!(rt; field.name() == name, "{code}");
             }
-            None => assert!(rt; false, "{action}.{name}"),
+            None => assert!(rt; false, "{code}"),
         }
     }
     assert!(rt; fields.next().is_none());
