@@ -1,5 +1,6 @@
 -- Reading with the first fault that is met.
-use Rattle.std.specs.Prelude.{◌≡◌, ℕ, Result, Ok, Err, ⊤}
+use Rattle.std.specs.Prelude.{◌≡◌, Result, Ok, Err, ⊤}
+use Rattle.case_table.specs.declared.action_fields.Field.{Field}
 use Rattle.json_tree.specs.declared.fields.FieldFault.{FieldFault}
 use Rattle.json_tree.specs.declared.fields.FieldFault.TheVariants as field
 use Rattle.log_actions.specs.declared.line_fault.LineFault.{LineFault}
@@ -19,7 +20,7 @@ abbrev pub Gives : {X : Type 0} → Result X LineFault → Result X LineFault �
 Gives (Ok x) read = read ≡ Ok x
 Gives (Err e) read = Fails e read
 
--- the fault of a field of that number
-abbrev pub fault_of : ℕ → FieldFault → LineFault
+-- the fault of that field
+abbrev pub fault_of : Field → FieldFault → LineFault
 fault_of which field.WrongKind = fault.Field which
 fault_of which field.NoMemory = fault.NoMemory

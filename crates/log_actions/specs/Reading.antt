@@ -1,15 +1,15 @@
--- The actions that JSON objects stand for (Delta Lake PROTOCOL.md, "Actions"). The least number of a faulty field is told.
+-- The actions that JSON objects stand for (Delta Lake PROTOCOL.md, "Actions"). The first faulty field is told, in the order of the table of fields.
 use Rattle.std.specs.Prelude.{ℕ, ◌^◌, ℤ, pos, negsuc, [], true, Option, Some, None, Result, Ok, Err, option_map, option_and_then, is_some, if◌then◌else◌, codes}
 use Rattle.serde_json.specs.Data.{Data}
 use Rattle.serde_json.specs.Find.{as_bool, as_str, as_object}
 use Rattle.json_tree.specs.Fields.{field, present, whole, texts, pairs}
 use Rattle.json_tree.specs.declared.fields.FieldFault.{FieldFault}
-use Rattle.case_table.specs.declared.field.TheConstants.{PROTOCOL_MIN_READER_VERSION, PROTOCOL_MIN_WRITER_VERSION, PROTOCOL_READER_FEATURES, PROTOCOL_WRITER_FEATURES, META_DATA_ID, META_DATA_NAME, META_DATA_DESCRIPTION, META_DATA_FORMAT, META_DATA_SCHEMA_STRING, META_DATA_PARTITION_COLUMNS, META_DATA_CONFIGURATION, META_DATA_CREATED_TIME, ADD_PATH, ADD_PARTITION_VALUES, ADD_SIZE, ADD_MODIFICATION_TIME, ADD_DATA_CHANGE, ADD_STATS, ADD_TAGS, REMOVE_PATH, REMOVE_DELETION_TIMESTAMP, REMOVE_DATA_CHANGE, REMOVE_PARTITION_VALUES, REMOVE_SIZE, CDC_PATH, CDC_PARTITION_VALUES, CDC_SIZE, TXN_APP_ID, TXN_VERSION, TXN_LAST_UPDATED}
+use Rattle.case_table.specs.declared.action_fields.Field as table
+use Rattle.case_table.specs.declared.action_fields.Field.TheVariants.{ProtocolMinReaderVersion, ProtocolMinWriterVersion, ProtocolReaderFeatures, ProtocolWriterFeatures, MetaDataId, MetaDataName, MetaDataDescription, MetaDataFormat, MetaDataSchemaString, MetaDataPartitionColumns, MetaDataConfiguration, MetaDataCreatedTime, AddPath, AddPartitionValues, AddSize, AddModificationTime, AddDataChange, AddStats, AddTags, RemovePath, RemoveDeletionTimestamp, RemoveDataChange, RemovePartitionValues, RemoveSize, CdcPath, CdcPartitionValues, CdcSize, TxnAppId, TxnVersion, TxnLastUpdated}
 use Rattle.log_actions.specs.Ranges.{within, times_end}
 use Rattle.log_actions.specs.Faults.{◌>>=◌, fault_of}
 use Rattle.log_actions.specs.declared.line_fault.LineFault.{LineFault}
-use Rattle.log_actions.specs.declared.line_fault.TheConstants.{ACTION_VALUE}
-use Rattle.log_actions.specs.declared.line_fault.LineFault.TheVariants.{Field}
+use Rattle.log_actions.specs.declared.line_fault.LineFault.TheVariants.{Field, NotObject}
 use Rattle.log_actions.specs.declared.actions.AddFile.{AddFile}
 use Rattle.log_actions.specs.declared.actions.RemoveFile.{RemoveFile}
 use Rattle.log_actions.specs.declared.actions.Protocol.{Protocol}
@@ -20,18 +20,18 @@ use Rattle.log_actions.specs.declared.actions.Txn.{Txn}
 use Rattle.log_actions.specs.declared.actions.CommitInfo.{CommitInfo}
 
 -- a field that has to be there
-abbrev pub required : {X : Type 0} → ℕ → Result (Option X) FieldFault → Result X LineFault
+abbrev pub required : {X : Type 0} → table.Field → Result (Option X) FieldFault → Result X LineFault
 required which (Err e) = Err (fault_of which e)
 required which (Ok None) = Err (Field which)
 required which (Ok (Some x)) = Ok x
 
 -- a field that may be absent
-abbrev pub optional : {X : Type 0} → ℕ → Result (Option X) FieldFault → Result (Option X) LineFault
+abbrev pub optional : {X : Type 0} → table.Field → Result (Option X) FieldFault → Result (Option X) LineFault
 optional which (Err e) = Err (fault_of which e)
 optional which (Ok o) = Ok o
 
 -- a field with a default
-abbrev pub default_to : {X : Type 0} → ℕ → X → Result (Option X) FieldFault → Result X LineFault
+abbrev pub default_to : {X : Type 0} → table.Field → X → Result (Option X) FieldFault → Result X LineFault
 default_to which default (Err e) = Err (fault_of which e)
 default_to which default (Ok None) = Ok default
 default_to which default (Ok (Some x)) = Ok x
@@ -46,16 +46,16 @@ count limit d = option_and_then (count_below limit) (whole d)
 
 -- the value of an action has to be an object
 abbrev pub as_action : Data → Result (Unit {0}) LineFault
-as_action d = if is_some (as_object d) then Ok tt else Err (Field ACTION_VALUE)
+as_action d = if is_some (as_object d) then Ok tt else Err NotObject
 
 -- "Protocol Evolution", "Table Features"
 unfoldable pub protocol_of : Data → Result Protocol LineFault
 protocol_of d = do
   o ← as_action d
-  reader ← required PROTOCOL_MIN_READER_VERSION (field (count (2 ^ 31)) (codes "minReaderVersion") d)
-  writer ← required PROTOCOL_MIN_WRITER_VERSION (field (count (2 ^ 31)) (codes "minWriterVersion") d)
-  reader_features ← optional PROTOCOL_READER_FEATURES (field texts (codes "readerFeatures") d)
-  writer_features ← optional PROTOCOL_WRITER_FEATURES (field texts (codes "writerFeatures") d)
+  reader ← required ProtocolMinReaderVersion (field (count (2 ^ 31)) (codes "minReaderVersion") d)
+  writer ← required ProtocolMinWriterVersion (field (count (2 ^ 31)) (codes "minWriterVersion") d)
+  reader_features ← optional ProtocolReaderFeatures (field texts (codes "readerFeatures") d)
+  writer_features ← optional ProtocolWriterFeatures (field texts (codes "writerFeatures") d)
   Ok (record { min_reader = reader; min_writer = writer; reader_features = reader_features; writer_features = writer_features })
 
 -- a field with a default: none where it is of another kind
@@ -81,56 +81,56 @@ parquet = record { provider = codes "parquet"; options = [] }
 unfoldable pub add_of : Data → Result AddFile LineFault
 add_of d = do
   o ← as_action d
-  path ← required ADD_PATH (field as_str (codes "path") d)
-  values ← default_to ADD_PARTITION_VALUES [] (field pairs (codes "partitionValues") d)
-  size ← required ADD_SIZE (field (count (2 ^ 63)) (codes "size") d)
-  modified ← default_to ADD_MODIFICATION_TIME (pos 0) (field whole (codes "modificationTime") d)
-  change ← default_to ADD_DATA_CHANGE true (field as_bool (codes "dataChange") d)
-  stats ← optional ADD_STATS (field as_str (codes "stats") d)
-  tags ← optional ADD_TAGS (field pairs (codes "tags") d)
+  path ← required AddPath (field as_str (codes "path") d)
+  values ← default_to AddPartitionValues [] (field pairs (codes "partitionValues") d)
+  size ← required AddSize (field (count (2 ^ 63)) (codes "size") d)
+  modified ← default_to AddModificationTime (pos 0) (field whole (codes "modificationTime") d)
+  change ← default_to AddDataChange true (field as_bool (codes "dataChange") d)
+  stats ← optional AddStats (field as_str (codes "stats") d)
+  tags ← optional AddTags (field pairs (codes "tags") d)
   Ok (record { path = path; values = values; size = size; modified = modified; data_change = change; stats = stats; tags = tags; vector = is_some (present (codes "deletionVector") d) })
 
 -- "Add File and Remove File"
 unfoldable pub remove_of : Data → Result RemoveFile LineFault
 remove_of d = do
   o ← as_action d
-  path ← required REMOVE_PATH (field as_str (codes "path") d)
-  deleted ← optional REMOVE_DELETION_TIMESTAMP (field whole (codes "deletionTimestamp") d)
-  change ← default_to REMOVE_DATA_CHANGE true (field as_bool (codes "dataChange") d)
-  values ← optional REMOVE_PARTITION_VALUES (field pairs (codes "partitionValues") d)
-  size ← optional REMOVE_SIZE (field (count (2 ^ 63)) (codes "size") d)
+  path ← required RemovePath (field as_str (codes "path") d)
+  deleted ← optional RemoveDeletionTimestamp (field whole (codes "deletionTimestamp") d)
+  change ← default_to RemoveDataChange true (field as_bool (codes "dataChange") d)
+  values ← optional RemovePartitionValues (field pairs (codes "partitionValues") d)
+  size ← optional RemoveSize (field (count (2 ^ 63)) (codes "size") d)
   Ok (record { path = path; deleted = deleted; data_change = change; values = values; size = size; vector = is_some (present (codes "deletionVector") d) })
 
 -- "Change Metadata"
 unfoldable pub meta_data_of : Data → Result MetaData LineFault
 meta_data_of d = do
   o ← as_action d
-  id ← required META_DATA_ID (field as_str (codes "id") d)
-  name ← optional META_DATA_NAME (field as_str (codes "name") d)
-  description ← optional META_DATA_DESCRIPTION (field as_str (codes "description") d)
-  format ← default_to META_DATA_FORMAT parquet (field format_in (codes "format") d)
-  schema ← required META_DATA_SCHEMA_STRING (field as_str (codes "schemaString") d)
-  columns ← default_to META_DATA_PARTITION_COLUMNS [] (field texts (codes "partitionColumns") d)
-  configuration ← default_to META_DATA_CONFIGURATION [] (field pairs (codes "configuration") d)
-  created ← optional META_DATA_CREATED_TIME (field whole (codes "createdTime") d)
+  id ← required MetaDataId (field as_str (codes "id") d)
+  name ← optional MetaDataName (field as_str (codes "name") d)
+  description ← optional MetaDataDescription (field as_str (codes "description") d)
+  format ← default_to MetaDataFormat parquet (field format_in (codes "format") d)
+  schema ← required MetaDataSchemaString (field as_str (codes "schemaString") d)
+  columns ← default_to MetaDataPartitionColumns [] (field texts (codes "partitionColumns") d)
+  configuration ← default_to MetaDataConfiguration [] (field pairs (codes "configuration") d)
+  created ← optional MetaDataCreatedTime (field whole (codes "createdTime") d)
   Ok (record { id = id; name = name; description = description; format = format; schema = schema; columns = columns; configuration = configuration; created = created })
 
 -- "Add CDC File"
 unfoldable pub cdc_of : Data → Result CdcFile LineFault
 cdc_of d = do
   o ← as_action d
-  path ← required CDC_PATH (field as_str (codes "path") d)
-  values ← default_to CDC_PARTITION_VALUES [] (field pairs (codes "partitionValues") d)
-  size ← required CDC_SIZE (field (count (2 ^ 63)) (codes "size") d)
+  path ← required CdcPath (field as_str (codes "path") d)
+  values ← default_to CdcPartitionValues [] (field pairs (codes "partitionValues") d)
+  size ← required CdcSize (field (count (2 ^ 63)) (codes "size") d)
   Ok (record { path = path; values = values; size = size })
 
 -- "Transaction Identifiers"
 unfoldable pub txn_of : Data → Result Txn LineFault
 txn_of d = do
   o ← as_action d
-  app ← required TXN_APP_ID (field as_str (codes "appId") d)
-  version ← required TXN_VERSION (field whole (codes "version") d)
-  updated ← optional TXN_LAST_UPDATED (field whole (codes "lastUpdated") d)
+  app ← required TxnAppId (field as_str (codes "appId") d)
+  version ← required TxnVersion (field whole (codes "version") d)
+  updated ← optional TxnLastUpdated (field whole (codes "lastUpdated") d)
   Ok (record { app = app; version = version; updated = updated })
 
 -- "Commit Provenance Information": any value stands for one; a moment is kept where it is in the bounds

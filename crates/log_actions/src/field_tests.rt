@@ -1,5 +1,5 @@
 use crate::{LineFault, action_of_line};
-use case_table::fields;
+use case_table::Field;
 use std::alloc::{AllocError, Global};
 
 // The fields that an action of that name must have, without which no other is looked at.
@@ -26,12 +26,10 @@ fn fault_at(alloc: Global, action: &str, field: &str) -> Result<Option<LineFault
 }
 
 #[test]
-fn each_field_of_the_table_is_told_by_its_code(rt: HostRuntime) -> Result<(), AllocError> {
-    for row in fields() {
-        let (action, field) = row.word.split_once('.').unwrap_or((row.word, ""));
-        assert!(&rt;
-            fault_at(rt.alloc(), action, field)? == Some(LineFault::Field { which: row.code })
-        );
+fn each_field_of_the_table_is_told_as_itself(rt: HostRuntime) -> Result<(), AllocError> {
+    for field in Field::ALL {
+        let fault = fault_at(rt.alloc(), field.kind().word(), field.name())?;
+        assert!(&rt; fault == Some(LineFault::Field { which: field }));
     }
     Ok(())
 }

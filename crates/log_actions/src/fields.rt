@@ -10,13 +10,13 @@ ghost use Rattle.log_actions.specs.Reading.{as_action, count, count_below, forma
 ghost use Rattle.log_actions.specs.Ranges.{times_end};
 ghost use Rattle.log_actions.specs.Reading as reading;
 
-use crate::line_fault::ACTION_VALUE;
 use crate::{CommitTime, FileSize, Format, LineFault, ProtocolVersion};
+use case_table::Field;
 use json_tree::{FieldFault, Pairs, Text, member_at, pairs_at, text_at, whole_at};
 use serde_json::Value;
 use std::alloc::Global;
 
-fn fault_of(which: u16, fault: FieldFault) -> LineFault
+fn fault_of(which: Field, fault: FieldFault) -> LineFault
     ensures { result ≡ faults.fault_of which fault }
 {
     match fault {
@@ -26,7 +26,7 @@ fn fault_of(which: u16, fault: FieldFault) -> LineFault
 }
 
 /// A field that has to be there.
-pub fn required<X: Drop>(which: u16, read: Result<Option<X>, FieldFault>) -> Result<X, LineFault>
+pub fn required<X: Drop>(which: Field, read: Result<Option<X>, FieldFault>) -> Result<X, LineFault>
     ensures { result ≡ reading.required which read }
 {
     match read {
@@ -38,7 +38,7 @@ pub fn required<X: Drop>(which: u16, read: Result<Option<X>, FieldFault>) -> Res
 
 /// A field that may be absent.
 pub fn optional<X: Drop>(
-    which: u16,
+    which: Field,
     read: Result<Option<X>, FieldFault>,
 ) -> Result<Option<X>, LineFault>
     ensures { result ≡ reading.optional which read }
@@ -51,7 +51,7 @@ pub fn optional<X: Drop>(
 
 /// A field with a default.
 pub fn default_to<X: Drop>(
-    which: u16,
+    which: Field,
     default: X,
     read: Result<Option<X>, FieldFault>,
 ) -> Result<X, LineFault>
@@ -70,7 +70,7 @@ pub fn required_text(
     alloc: Global,
     object: &Value,
     name: &str,
-    which: u16,
+    which: Field,
 ) -> Result<Text, LineFault>
     ensures { Gives result (reading.required which (field as_str name.now (view object.now))) }
 {
@@ -83,7 +83,7 @@ pub fn optional_text(
     alloc: Global,
     object: &Value,
     name: &str,
-    which: u16,
+    which: Field,
 ) -> Result<Option<Text>, LineFault>
     ensures { Gives result (reading.optional which (field as_str name.now (view object.now))) }
 {
@@ -97,9 +97,7 @@ pub fn object_of(value: &Value) -> Result<(), LineFault>
     if value.is_object() {
         Ok(())
     } else {
-        Err(LineFault::Field {
-            which: ACTION_VALUE,
-        })
+        Err(LineFault::NotObject)
     }
 }
 

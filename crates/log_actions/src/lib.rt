@@ -15,8 +15,9 @@ mod reading;
 pub use actions::{
     Action, Actions, AddFile, CdcFile, CommitInfo, Format, MetaData, Protocol, RemoveFile, Txn,
 };
+pub use case_table::Field;
 pub use commit::Commit;
-pub use line_fault::{ACTION_VALUE, LineFault};
+pub use line_fault::LineFault;
 pub use line_length::line_len;
 pub use lines::{action_of, action_of_line};
 pub use paths::{is_good_path, path_name};

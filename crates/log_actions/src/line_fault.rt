@@ -2,10 +2,8 @@
 ghost use Rattle.std.specs.Prelude.{◌≡◌};
 ghost use Rattle.log_actions.specs.declared.line_fault.LineFault.TheVariants.{NoMemory};
 
+use case_table::Field;
 use std::alloc::AllocError;
-
-/// The number by which a fault tells that the action's value is no object. Fields have numbers from 1 on.
-pub const ACTION_VALUE: u16 = 0;
 
 /// Why a line of a commit isn't read. The faults are tested in this order.
 #[derive(Clone, Copy, Debug, PartialEq, Eq)]
@@ -16,9 +14,10 @@ pub enum LineFault {
     NotJson,
     /// The line is no object, or not exactly one member of it is other than null.
     NotOneKey,
-    /// A field of the action is wanting, of another kind or out of its bounds: the least number
-    /// of such a field, as the table `case_table::fields` has them, or [`ACTION_VALUE`].
-    Field { which: u16 },
+    /// The action's value is no object.
+    NotObject,
+    /// A field of the action is wanting, of another kind or out of its bounds: the first such field in the order of the table.
+    Field { which: Field },
     /// Memory is wanting.
     NoMemory,
 }

@@ -1,15 +1,17 @@
 // The actions that JSON objects stand for.
-ghost use Rattle.std.specs.Prelude.{◌≡◌, IfOk};
+ghost use Rattle.std.specs.Prelude.{◌≡◌, IfOk, codes};
 ghost use Rattle.serde_json.specs.View.{view};
+ghost use Rattle.json_tree.specs.Fields.{field as field_in, whole};
+ghost use Rattle.case_table.specs.declared.action_fields.Field.TheVariants.{MetaDataCreatedTime};
 ghost use Rattle.log_actions.specs.Faults.{Gives};
-ghost use Rattle.log_actions.specs.Reading.{add_of, cdc_of, commit_info_of, meta_data_of, parquet, protocol_of, remove_of, txn_of};
+ghost use Rattle.log_actions.specs.Reading.{add_of, cdc_of, commit_info_of, meta_data_of, optional as optional_in, parquet, protocol_of, remove_of, txn_of};
 
 use crate::fields::{
     default_to, format_at, has_member, object_of, optional, optional_text, required, required_text,
     size_at, time_at, version_at,
 };
 use crate::{AddFile, CdcFile, CommitInfo, Format, LineFault, MetaData, Protocol, RemoveFile, Txn};
-use case_table::field;
+use case_table::Field;
 use json_tree::{Pairs, Text, Texts, flag_at, pairs_at, texts_at, whole_at};
 use serde_json::Value;
 use std::alloc::{AllocError, Global};
@@ -20,19 +22,19 @@ pub fn read_protocol(alloc: Global, value: &Value) -> Result<Protocol, LineFault
 {
     object_of(value)?;
     let min_reader = required(
-        field::PROTOCOL_MIN_READER_VERSION,
+        Field::ProtocolMinReaderVersion,
         version_at(value, "minReaderVersion"),
     )?;
     let min_writer = required(
-        field::PROTOCOL_MIN_WRITER_VERSION,
+        Field::ProtocolMinWriterVersion,
         version_at(value, "minWriterVersion"),
     )?;
     let reader_features = optional(
-        field::PROTOCOL_READER_FEATURES,
+        Field::ProtocolReaderFeatures,
         texts_at(alloc, value, "readerFeatures"),
     )?;
     let writer_features = optional(
-        field::PROTOCOL_WRITER_FEATURES,
+        Field::ProtocolWriterFeatures,
         texts_at(alloc, value, "writerFeatures"),
     )?;
     Ok(Protocol {
@@ -52,35 +54,38 @@ fn parquet_format(alloc: Global) -> Result<Format, AllocError>
     })
 }
 
+fn created_at(value: &Value) -> Result<Option<i64>, LineFault>
+    ensures { result ≡ optional_in MetaDataCreatedTime (field_in whole (codes "createdTime") (view value.now)) }
+{
+    optional(Field::MetaDataCreatedTime, whole_at(value, "createdTime"))
+}
+
 #[tactic(auto, using(crate::proofs::FieldReads::Gives_required, crate::proofs::FieldReads::Gives_optional, crate::proofs::FieldReads::Gives_default_to), unfolding(crate::specs::Reading::meta_data_of))]
 pub fn read_meta_data(alloc: Global, value: &Value) -> Result<MetaData, LineFault>
     ensures { Gives result (meta_data_of (view value.now)) }
 {
     object_of(value)?;
-    let id = required_text(alloc, value, "id", field::META_DATA_ID)?;
-    let name = optional_text(alloc, value, "name", field::META_DATA_NAME)?;
-    let description = optional_text(alloc, value, "description", field::META_DATA_DESCRIPTION)?;
+    let id = required_text(alloc, value, "id", Field::MetaDataId)?;
+    let name = optional_text(alloc, value, "name", Field::MetaDataName)?;
+    let description = optional_text(alloc, value, "description", Field::MetaDataDescription)?;
     let parquet = parquet_format(alloc)?;
     let format = default_to(
-        field::META_DATA_FORMAT,
+        Field::MetaDataFormat,
         parquet,
         format_at(alloc, value, "format"),
     )?;
-    let schema = required_text(alloc, value, "schemaString", field::META_DATA_SCHEMA_STRING)?;
+    let schema = required_text(alloc, value, "schemaString", Field::MetaDataSchemaString)?;
     let columns = default_to(
-        field::META_DATA_PARTITION_COLUMNS,
+        Field::MetaDataPartitionColumns,
         Texts::of(Vec::new(alloc)),
         texts_at(alloc, value, "partitionColumns"),
     )?;
     let configuration = default_to(
-        field::META_DATA_CONFIGURATION,
+        Field::MetaDataConfiguration,
         Pairs::new(alloc),
         pairs_at(alloc, value, "configuration"),
     )?;
-    let created = optional(
-        field::META_DATA_CREATED_TIME,
-        whole_at(value, "createdTime"),
-    )?;
+    let created = created_at(value)?;
     Ok(MetaData {
         id,
         name,
@@ -98,21 +103,21 @@ pub fn read_add(alloc: Global, value: &Value) -> Result<AddFile, LineFault>
     ensures { Gives result (add_of (view value.now)) }
 {
     object_of(value)?;
-    let path = required_text(alloc, value, "path", field::ADD_PATH)?;
+    let path = required_text(alloc, value, "path", Field::AddPath)?;
     let values = default_to(
-        field::ADD_PARTITION_VALUES,
+        Field::AddPartitionValues,
         Pairs::new(alloc),
         pairs_at(alloc, value, "partitionValues"),
     )?;
-    let size = required(field::ADD_SIZE, size_at(value, "size"))?;
+    let size = required(Field::AddSize, size_at(value, "size"))?;
     let modified = default_to(
-        field::ADD_MODIFICATION_TIME,
+        Field::AddModificationTime,
         0,
         whole_at(value, "modificationTime"),
     )?;
-    let data_change = default_to(field::ADD_DATA_CHANGE, true, flag_at(value, "dataChange"))?;
-    let stats = optional_text(alloc, value, "stats", field::ADD_STATS)?;
-    let tags = optional(field::ADD_TAGS, pairs_at(alloc, value, "tags"))?;
+    let data_change = default_to(Field::AddDataChange, true, flag_at(value, "dataChange"))?;
+    let stats = optional_text(alloc, value, "stats", Field::AddStats)?;
+    let tags = optional(Field::AddTags, pairs_at(alloc, value, "tags"))?;
     let vector = has_member(value, "deletionVector");
     Ok(AddFile {
         path,
@@ -131,21 +136,17 @@ pub fn read_remove(alloc: Global, value: &Value) -> Result<RemoveFile, LineFault
     ensures { Gives result (remove_of (view value.now)) }
 {
     object_of(value)?;
-    let path = required_text(alloc, value, "path", field::REMOVE_PATH)?;
+    let path = required_text(alloc, value, "path", Field::RemovePath)?;
     let deleted = optional(
-        field::REMOVE_DELETION_TIMESTAMP,
+        Field::RemoveDeletionTimestamp,
         whole_at(value, "deletionTimestamp"),
     )?;
-    let data_change = default_to(
-        field::REMOVE_DATA_CHANGE,
-        true,
-        flag_at(value, "dataChange"),
-    )?;
+    let data_change = default_to(Field::RemoveDataChange, true, flag_at(value, "dataChange"))?;
     let values = optional(
-        field::REMOVE_PARTITION_VALUES,
+        Field::RemovePartitionValues,
         pairs_at(alloc, value, "partitionValues"),
     )?;
-    let size = optional(field::REMOVE_SIZE, size_at(value, "size"))?;
+    let size = optional(Field::RemoveSize, size_at(value, "size"))?;
     let vector = has_member(value, "deletionVector");
     Ok(RemoveFile {
         path,
@@ -162,13 +163,13 @@ pub fn read_cdc(alloc: Global, value: &Value) -> Result<CdcFile, LineFault>
     ensures { Gives result (cdc_of (view value.now)) }
 {
     object_of(value)?;
-    let path = required_text(alloc, value, "path", field::CDC_PATH)?;
+    let path = required_text(alloc, value, "path", Field::CdcPath)?;
     let values = default_to(
-        field::CDC_PARTITION_VALUES,
+        Field::CdcPartitionValues,
         Pairs::new(alloc),
         pairs_at(alloc, value, "partitionValues"),
     )?;
-    let size = required(field::CDC_SIZE, size_at(value, "size"))?;
+    let size = required(Field::CdcSize, size_at(value, "size"))?;
     Ok(CdcFile { path, values, size })
 }
 
@@ -177,9 +178,9 @@ pub fn read_txn(alloc: Global, value: &Value) -> Result<Txn, LineFault>
     ensures { Gives result (txn_of (view value.now)) }
 {
     object_of(value)?;
-    let app = required_text(alloc, value, "appId", field::TXN_APP_ID)?;
-    let version = required(field::TXN_VERSION, whole_at(value, "version"))?;
-    let updated = optional(field::TXN_LAST_UPDATED, whole_at(value, "lastUpdated"))?;
+    let app = required_text(alloc, value, "appId", Field::TxnAppId)?;
+    let version = required(Field::TxnVersion, whole_at(value, "version"))?;
+    let updated = optional(Field::TxnLastUpdated, whole_at(value, "lastUpdated"))?;
     Ok(Txn {
         app,
         version,

@@ -173,10 +173,11 @@ fn fault_of(alloc: Global, line: &[u8]) -> Option<LineFault> {
     action_of_line(alloc, line).err()
 }
 
-// The number of the field at fault, none where there is another fault or none.
+// The number of the field at fault, 0 where the action is no object, none where there is another fault or none.
 fn field_of(alloc: Global, line: &str) -> Option<u16> {
     match fault_of(alloc, line.as_bytes()) {
-        Some(LineFault::Field { which }) => Some(which),
+        Some(LineFault::NotObject) => Some(0),
+        Some(LineFault::Field { which }) => Some(which.code()),
         _ => None,
     }
 }
