@@ -1,7 +1,6 @@
 -- Laws of the truth of predicates.
 use Rattle.std.specs.Prelude.{◌≡◌, ◌↔◌, ◌≤◌, ℕ, suc, max, List, Bool, true, false, ◌||◌, Option, Some, None, option_map, bytes_eq}
-use Rattle.case_table.specs.Tables.{case_of_word, cases_in}
-use Rattle.case_table.specs.declared.tables.TheConstants.{VALUE_TYPES}
+use Rattle.case_table.specs.ValueTypes.{value_row, value_type_of_word}
 use Rattle.json_tree.specs.declared.pairs.Pairs.{Pairs}
 use Rattle.part_values.specs.declared.columns.Columns.{Columns}
 use Rattle.serde_json.specs.Data.{Data}
@@ -49,13 +48,9 @@ JoinedListNoMore = (columns : Columns) (values : Pairs) (s t : Tree)
     → is_listed (Some (all_of (first_tree s (first_tree t no_trees)))) columns values ≡ true
     → (is_listed (Some s) columns values ≡ true) × (is_listed (Some t) columns values ≡ true)
 
-abbrev pub or_no_class : Option ℕ → ℕ
-or_no_class None = 0
-or_no_class (Some number) = number
-
 -- the class of each word is that of the table of value types, where it has the word
 abbrev pub FollowsTable : Type 0
-FollowsTable = (word : List ℕ) → class (value_type word) ≡ or_no_class (option_map (λ case. case.2) (case_of_word (cases_in VALUE_TYPES) word))
+FollowsTable = (word : List ℕ) → class (value_type word) ≡ option_map (λ kind. (value_row kind).class) (value_type_of_word word)
 
 -- how many levels a predicate has, its leaves counted
 abbrev mutual

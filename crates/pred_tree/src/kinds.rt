@@ -2,32 +2,50 @@
 ghost use Rattle.std.specs.Prelude.{◌≡◌};
 ghost use Rattle.pred_tree.specs.Kinds as spec;
 
+use case_table::{Class, ValueType};
 use part_values::PartType;
+
+fn part_type(kind: Option<ValueType>) -> PartType
+    ensures { result ≡ spec.part_type kind }
+{
+    match kind {
+        Some(ValueType::Bool) => PartType::Bool,
+        Some(ValueType::Int) => PartType::Int,
+        Some(ValueType::Long) => PartType::Long,
+        Some(ValueType::String) => PartType::Str,
+        Some(ValueType::Date) => PartType::Date,
+        None => PartType::Other,
+    }
+}
 
 // The type that a `valueType` names.
 pub(crate) fn value_type(word: &str) -> PartType
     ensures { result ≡ spec.value_type word.now }
 {
-    match word {
-        "bool" => PartType::Bool,
-        "int" => PartType::Int,
-        "long" => PartType::Long,
-        "string" => PartType::Str,
-        "date" => PartType::Date,
-        _ => PartType::Other,
-    }
+    part_type(ValueType::of_word(word))
 }
 
-// The number of a type's class: 1 is a truth value, 2 a whole number, 3 a text, 4 a day, 0 none.
-fn class(kind: PartType) -> u8
+fn class(kind: PartType) -> Option<Class>
     ensures { result ≡ spec.class kind }
 {
     match kind {
-        PartType::Bool => 1,
-        PartType::Byte | PartType::Short | PartType::Int | PartType::Long => 2,
-        PartType::Str => 3,
-        PartType::Date => 4,
-        PartType::Other => 0,
+        PartType::Bool => Some(Class::Boolean),
+        PartType::Byte | PartType::Short | PartType::Int | PartType::Long => Some(Class::Whole),
+        PartType::Str => Some(Class::Text),
+        PartType::Date => Some(Class::Day),
+        PartType::Other => None,
+    }
+}
+
+fn is_same(a: Option<Class>, b: Option<Class>) -> bool
+    ensures { result ≡ spec.is_same a b }
+{
+    match (a, b) {
+        (Some(Class::Boolean), Some(Class::Boolean))
+        | (Some(Class::Whole), Some(Class::Whole))
+        | (Some(Class::Text), Some(Class::Text))
+        | (Some(Class::Day), Some(Class::Day)) => true,
+        _ => false,
     }
 }
 
@@ -36,7 +54,7 @@ pub(crate) fn compared_type(leaf: PartType, column: Option<PartType>) -> PartTyp
     ensures { result ≡ spec.compared_type leaf column }
 {
     match column {
-        Some(column) if class(leaf) == class(column) => column,
+        Some(column) if is_same(class(leaf), class(column)) => column,
         _ => PartType::Other,
     }
 }

@@ -18,6 +18,7 @@ mod table_lines;
 mod tests;
 
 pub use bodies::{lines_of, lines_text};
+pub use case_table::Refusal;
 pub use errors::{error_of, error_text, one_error};
 pub use faults::LinesFault;
 pub use kinds::{EndLine, FileLine, Line, Lines, MetaLine};

@@ -3,6 +3,7 @@ use crate::{
     EndLine, FileLine, Line, LinesFault, MetaLine, TableVersion, UrlExpiry, error_of, error_text,
     line_text, lines_of, lines_text, push_line,
 };
+use case_table::Refusal;
 use json_tree::{Pairs, Text, Texts};
 use log_actions::FileSize;
 use std::alloc::{AllocError, Global};
@@ -158,9 +159,9 @@ fn prints_a_body(rt: HostRuntime) -> Result<(), Fail> {
 }
 
 // Whether the text is the body of that refusal.
-fn tells(alloc: Global, body: &str, code: u16, what: &str) -> bool {
+fn tells(alloc: Global, body: &str, refusal: Refusal, detail: &str) -> bool {
     match error_of(alloc, body.as_bytes()) {
-        Ok(Some((told, text))) => told == code && text.as_str() == what,
+        Ok(Some((told, text))) => told == refusal && text.as_str() == detail,
         _ => false,
     }
 }
@@ -173,25 +174,13 @@ fn is_no_error(alloc: Global, body: &str) -> bool {
 fn prints_and_reads_an_error(rt: HostRuntime) -> Result<(), Fail> {
     let alloc = rt.alloc();
     let body = "{\"errorCode\":\"BAD_PARAMETER\",\"message\":\"bad parameter maxFiles\"}";
-    let printed = error_text(alloc, 4, "maxFiles")?;
+    let printed = error_text(alloc, Refusal::BadParameter, "maxFiles")?;
     assert_eq!(rt; printed.as_str(), body);
-    assert!(rt; tells(alloc, body, 4, "maxFiles"));
-    assert!(rt;
-        tells(
-            alloc,
-            "{\"errorCode\":\"CONFLICT\",\"message\":\"Taken\"}",
-            17,
-            "Taken"
-        )
-    );
-    assert!(rt;
-        tells(
-            alloc,
-            "{\"errorCode\":\"NOT_FOUND\",\"message\":\"not found\"}",
-            2,
-            ""
-        )
-    );
+    assert!(rt; tells(alloc, body, Refusal::BadParameter, "maxFiles"));
+    let taken = "{\"errorCode\":\"CONFLICT\",\"message\":\"Taken\"}";
+    assert!(rt; tells(alloc, taken, Refusal::Conflict, "Taken"));
+    let missing = "{\"errorCode\":\"NOT_FOUND\",\"message\":\"not found\"}";
+    assert!(rt; tells(alloc, missing, Refusal::NotFound, ""));
     Ok(())
 }
 
