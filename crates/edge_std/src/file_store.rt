@@ -1,7 +1,6 @@
 // The files below a folder, as a store of objects.
-ghost use Rattle.std.specs.Prelude.{◌≡◌, None, true, false};
+ghost use Rattle.std.specs.Prelude.{◌≡◌, ◌≤◌, IfOk, IfSome, None, length, true, false};
 ghost use Rattle.edge_core.specs.Faults.{Cause};
-ghost use Rattle.std.specs.Io.{ReadsAtMost};
 
 use crate::files;
 use edge_core::{Got, Listed, Measured, Name, Put, Segment, Segments, Store};
@@ -17,14 +16,18 @@ struct Opened {
     file: File,
 }
 
-/// A store whose objects are the files below a root folder, each named by its path from there.
+/// A store whose objects are the regular files below a root folder, each named by its path from there.
 ///
-/// It tells nothing of them, and counts the calls that failed. A folder is no object, whatever its
-/// name. An object is there only once it is whole: it is written and synced under a name of the
-/// store's own (`.share-put-` and a number, which listings and reads pass over), then linked into
-/// its place where none has its name, and its folder is synced. So a program that is stopped at any
-/// moment leaves no part of an object under its name. A file is opened once for the pieces that are
-/// read of it one after another.
+/// It tells nothing of them, and counts the calls that failed. A folder, a FIFO, a device and a link that leads to one, in
+/// a circle or nowhere is no object: to read it answers `Absent`, and never waits. But a listing tells the name of each
+/// thing in a folder, whatever it is, so that who looks for an object by its name sees that something else is there in its
+/// place. A listing asks nothing of what it names, so it fails only where the folder itself can't be read; of what comes
+/// while a folder is read it may tell one name and not another that came earlier.
+///
+/// An object is there only once it is whole: it is written and synced under a name of the store's own (`.share-put-` and a
+/// number, which listings and reads pass over), then linked into its place where nothing has its name, and its folder is
+/// synced. So a program that is stopped at any moment leaves no part of an object under its name. A file is opened once for
+/// the pieces that are read of it one after another, and let go where another is asked for.
 #[derive(Drop)]
 pub struct FileStore {
     rt: HostRuntime,
@@ -61,32 +64,35 @@ impl FileStore {
         }
     }
 
-    fn open(&self, name: &str) -> io::Result<Opened> {
+    fn open(&self, name: &str) -> io::Result<Option<Opened>> {
         if files::leads_beside(name) {
-            return Err(io::Error::from(ErrorKind::NotFound));
+            return Ok(None);
         }
-        let file = fs::open(&self.rt, self.path_of(name)?.as_str())?;
+        let Some(file) = files::open_regular(&self.rt, self.path_of(name)?.as_str())? else {
+            return Ok(None);
+        };
         let name = String::from_str(self.rt.alloc(), name)?;
-        Ok(Opened { name, file })
+        Ok(Some(Opened { name, file }))
     }
 
-    fn read(&mut self, name: &str, from: u64, out: &mut [u8]) -> io::Result<usize>
-        ensures most { ReadsAtMost result out.new }
+    // The bytes of an object from a place on, none where there is no such object.
+    fn read(&mut self, name: &str, from: u64, out: &mut [u8]) -> io::Result<Option<usize>>
+        ensures most { IfOk result (λ o. IfSome o (λ n. n ≤ length out.new)) }
         ensures faults { self.new.faults ≡ self.old.faults }
     {
         if !self.has_open(name) {
             self.opened = None;
-            self.opened = Some(self.open(name)?);
+            self.opened = self.open(name)?;
         }
         match &self.opened {
-            Some(opened) => files::read_at(&opened.file, from, out),
-            None => Err(io::Error::from(ErrorKind::NotFound)),
+            Some(opened) => Ok(Some(files::read_at(&opened.file, from, out)?)),
+            None => Ok(None),
         }
     }
 
-    fn measure(&self, name: &str) -> io::Result<u64> {
+    fn measure(&self, name: &str) -> io::Result<Option<u64>> {
         if files::leads_beside(name) {
-            return Err(io::Error::from(ErrorKind::NotFound));
+            return Ok(None);
         }
         files::size_of(&self.rt, self.path_of(name)?.as_str())
     }
@@ -106,7 +112,7 @@ impl FileStore {
 
     fn segments(&self, alloc: Global, dir: &str) -> io::Result<Vec<Segment>> {
         let mut segments = Vec::new(alloc);
-        for name in files::files_in(&self.rt, alloc, self.path_of(dir)?.as_str())? {
+        for name in files::names_in(&self.rt, alloc, self.path_of(dir)?.as_str())? {
             if let Some(segment) = Segment::of(name) {
                 segments.push(segment)?;
             }
@@ -125,16 +131,14 @@ impl Store for FileStore {
 
     fn get(&mut self, name: &Name, from: u64, out: &mut [u8]) -> Got {
         match self.read(name.as_str(), from, out) {
-            Ok(0) => {
+            Ok(Some(0)) => {
                 self.opened = None;
                 Got::Bytes(0)
             }
-            Ok(n) => Got::Bytes(n),
-            Err(e) => {
+            Ok(Some(n)) => Got::Bytes(n),
+            Ok(None) => Got::Absent,
+            Err(_) => {
                 self.opened = None;
-                if files::is_absence(e.kind()) {
-                    return Got::Absent;
-                }
                 self.count_fault();
                 Got::Failed
             }
@@ -143,8 +147,8 @@ impl Store for FileStore {
 
     fn size(&mut self, name: &Name) -> Measured {
         match self.measure(name.as_str()) {
-            Ok(size) => Measured::Size(size),
-            Err(e) if files::is_absence(e.kind()) => Measured::Absent,
+            Ok(Some(size)) => Measured::Size(size),
+            Ok(None) => Measured::Absent,
             Err(_) => {
                 self.count_fault();
                 Measured::Failed
@@ -163,20 +167,14 @@ impl Store for FileStore {
         }
     }
 
-    // A folder that isn't there holds nothing.
     fn list(&mut self, alloc: Global, dir: &Name) -> Listed {
         match self.segments(alloc, dir.as_str()) {
             Ok(names) => Listed::Names(Segments::of(names)),
-            Err(e) => match e.kind() {
-                ErrorKind::NotFound | ErrorKind::NotADirectory => {
-                    Listed::Names(Segments::of(Vec::new(alloc)))
-                }
-                ErrorKind::OutOfMemory => Listed::NoMemory,
-                _ => {
-                    self.count_fault();
-                    Listed::Failed
-                }
-            },
+            Err(e) if e.kind() == ErrorKind::OutOfMemory => Listed::NoMemory,
+            Err(_) => {
+                self.count_fault();
+                Listed::Failed
+            }
         }
     }
 }

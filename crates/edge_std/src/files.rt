@@ -8,23 +8,20 @@ use std::os::unix::fs::FileExt;
 use std::{fs, io};
 
 /// What a store's own files are called before they have their names: this and a number.
-pub const BESIDE: &str = ".share-put-";
+pub(crate) const BESIDE: &str = ".share-put-";
 
-/// Whether an error says that no file has the path.
-pub fn is_absence(kind: ErrorKind) -> bool {
-    matches!(
-        kind,
-        ErrorKind::NotFound | ErrorKind::NotADirectory | ErrorKind::IsADirectory
-    )
+/// Whether an error says that nothing has the path.
+pub(crate) fn is_absence(kind: ErrorKind) -> bool {
+    matches!(kind, ErrorKind::NotFound | ErrorKind::NotADirectory)
 }
 
 /// Whether a last segment is that of a file which has no name yet.
-pub fn is_beside(segment: &str) -> bool {
+pub(crate) fn is_beside(segment: &str) -> bool {
     segment.starts_with(BESIDE)
 }
 
 /// Whether the last segment of a path is that of a file which has no name yet.
-pub fn leads_beside(path: &str) -> bool {
+pub(crate) fn leads_beside(path: &str) -> bool {
     match path.rsplit_once('/') {
         Some((_, segment)) => is_beside(segment),
         None => is_beside(path),
@@ -32,28 +29,43 @@ pub fn leads_beside(path: &str) -> bool {
 }
 
 /// The bytes from a place on, as many as the file gives at once.
-pub fn read_at(file: &File, from: u64, out: &mut [u8]) -> io::Result<usize>
+pub(crate) fn read_at(file: &File, from: u64, out: &mut [u8]) -> io::Result<usize>
     ensures { ReadsAtMost result out.new }
 {
     file.read_at(out, from)
 }
 
-/// How many bytes the file has. A folder is no file.
-pub fn size_of(rt: &HostRuntime, path: &str) -> io::Result<u64> {
-    let about = fs::metadata(rt, path)?;
-    if about.is_dir() {
-        return Err(io::Error::from(ErrorKind::IsADirectory));
+/// How many bytes the regular file of a path has, none where there is none: nothing has the path, or a folder, a device or
+/// the like, or a link that leads to none. A link that can't be followed, since it leads in a circle or where nobody may
+/// look, leads to none.
+pub(crate) fn size_of(rt: &HostRuntime, path: &str) -> io::Result<Option<u64>> {
+    match fs::metadata(rt, path) {
+        Ok(about) if about.is_file() => Ok(Some(about.len())),
+        Ok(_) => Ok(None),
+        Err(e) if is_absence(e.kind()) => Ok(None),
+        Err(e) => match fs::symlink_metadata(rt, path) {
+            Ok(about) if about.is_symlink() => Ok(None),
+            _ => Err(e),
+        },
     }
-    Ok(about.len())
 }
 
-/// Whether a file has the path.
-pub fn is_there(rt: &HostRuntime, path: &str) -> io::Result<bool> {
-    match size_of(rt, path) {
-        Ok(_) => Ok(true),
-        Err(e) if e.kind() == ErrorKind::NotFound => Ok(false),
-        Err(e) => Err(e),
+/// Opens the regular file of a path, none where there is none. What else has the path isn't opened, since to open a FIFO
+/// waits for who writes it; and the open file is asked once more, since the path may have come to lead elsewhere.
+pub(crate) fn open_regular(rt: &HostRuntime, path: &str) -> io::Result<Option<File>> {
+    if size_of(rt, path)?.is_none() {
+        return Ok(None);
     }
+    let file = match fs::open(rt, path) {
+        Ok(file) => file,
+        Err(e) if is_absence(e.kind()) => return Ok(None),
+        Err(e) => return Err(e),
+    };
+    Ok(if file.metadata()?.is_file() {
+        Some(file)
+    } else {
+        None
+    })
 }
 
 // Makes a folder below the root, and those between; what is made is as lasting as what is written.
@@ -99,11 +111,11 @@ fn write_all(mut file: File, bytes: &[u8]) -> io::Result<()> {
     file.sync_all()
 }
 
-// Gives a file a name, where nothing has it.
+// Gives a file a name, where nothing has it; false where a regular file has it. What else has it is an error.
 fn link(rt: &HostRuntime, from: &str, to: &str) -> io::Result<bool> {
     match fs::hard_link(rt, from, to) {
         Ok(()) => Ok(true),
-        Err(e) if e.kind() == ErrorKind::AlreadyExists => Ok(false),
+        Err(e) if e.kind() == ErrorKind::AlreadyExists && size_of(rt, to)?.is_some() => Ok(false),
         Err(e) => Err(e),
     }
 }
@@ -128,17 +140,17 @@ fn write_and_link(rt: &HostRuntime, alloc: Global, path: &str, bytes: &[u8]) -> 
     linked
 }
 
-/// Stores a file of these bytes below a root folder where none has the path; false where one has
+/// Stores a file of these bytes below a root folder where nothing has the path; false where a file has
 /// it. The file has its name only once it is whole and on the disk, so no reader sees a part of it,
 /// whenever the program is stopped.
-pub fn store(
+pub(crate) fn store(
     rt: &HostRuntime,
     alloc: Global,
     root: &str,
     path: &str,
     bytes: &[u8],
 ) -> io::Result<bool> {
-    if is_there(rt, path)? {
+    if size_of(rt, path)?.is_some() {
         return Ok(false);
     }
     make_folder(rt, root, folder_of(path))?;
@@ -149,46 +161,30 @@ pub fn store(
     Ok(stored)
 }
 
-// The name of an entry of a folder, none where it is no file, or no text.
-fn file_in(
-    rt: &HostRuntime,
-    alloc: Global,
-    folder: &str,
-    entry: io::Result<DirEntry>,
-) -> io::Result<Option<String>> {
+// The name of an entry of a folder, none where it is no text, or a store's own.
+fn name_in(alloc: Global, entry: io::Result<DirEntry>) -> io::Result<Option<String>> {
     let entry = match entry {
         Ok(entry) => entry,
         Err(e) if e.kind() == ErrorKind::InvalidFilename => return Ok(None),
         Err(e) => return Err(e),
     };
-    let name = String::from_str(alloc, entry.file_name())?;
-    let about = entry.file_type()?;
-    if about.is_dir() || is_beside(name.as_str()) {
+    if is_beside(entry.file_name()) {
         return Ok(None);
     }
-    if about.is_symlink() {
-        let path = format!(in alloc; "{folder}/{}", name.as_str())?;
-        if !leads_to_file(rt, path.as_str())? {
-            return Ok(None);
-        }
-    }
-    Ok(Some(name))
+    Ok(Some(String::from_str(alloc, entry.file_name())?))
 }
 
-// Whether a link leads to a file, and not to a folder or nowhere.
-fn leads_to_file(rt: &HostRuntime, path: &str) -> io::Result<bool> {
-    match size_of(rt, path) {
-        Ok(_) => Ok(true),
-        Err(e) if is_absence(e.kind()) => Ok(false),
-        Err(e) => Err(e),
-    }
-}
-
-/// The last segments of the files directly in a folder.
-pub fn files_in(rt: &HostRuntime, alloc: Global, folder: &str) -> io::Result<Vec<String>> {
+/// The last segments of the paths directly in a folder, none where the folder isn't there. Nothing is asked of what has
+/// them, which may be gone meanwhile, or be no file.
+pub(crate) fn names_in(rt: &HostRuntime, alloc: Global, folder: &str) -> io::Result<Vec<String>> {
     let mut names = Vec::new(alloc);
-    for entry in fs::read_dir(rt, folder)? {
-        if let Some(name) = file_in(rt, alloc, folder, entry)? {
+    let entries = match fs::read_dir(rt, folder) {
+        Ok(entries) => entries,
+        Err(e) if is_absence(e.kind()) => return Ok(names),
+        Err(e) => return Err(e),
+    };
+    for entry in entries {
+        if let Some(name) = name_in(alloc, entry)? {
             names.push(name)?;
         }
     }

@@ -8,6 +8,8 @@
 
 mod file_store;
 mod files;
+#[cfg(test)]
+mod stream_tests;
 mod streams;
 #[cfg(test)]
 mod tests;

@@ -4,6 +4,7 @@ use edge_core::{Got, Listed, Measured, Name, Put, Store};
 use std::alloc::{AllocError, Global};
 use std::fs::DirBuilder;
 use std::io::ErrorKind;
+use std::os::unix::fs::symlink;
 use std::process::Abort;
 use std::test::Fail;
 use std::thread::Threads;
@@ -97,11 +98,84 @@ fn folders_are_no_objects(rt: HostRuntime) -> Result<(), Fail> {
     assert!(rt; matches!(store.put_absent(&name(alloc, "a/b/c")?, b"c"), Put::Stored));
     is_absent(&rt, &mut store, &name(alloc, "a/b")?);
     assert!(rt; matches!(store.put_absent(&name(alloc, "a/b")?, b"x"), Put::Failed));
-    lists(&rt, alloc, &mut store, &name(alloc, "a")?, &[]);
+    // The folder's name is told, and nothing is there to be read.
+    lists(&rt, alloc, &mut store, &name(alloc, "a")?, &["b"]);
     // A file in a folder's place: the folder isn't there, and nothing is below it.
     lists(&rt, alloc, &mut store, &name(alloc, "a/b/c")?, &[]);
     is_absent(&rt, &mut store, &name(alloc, "a/b/c/d")?);
     lists(&rt, alloc, &mut store, &name(alloc, "none")?, &[]);
+    fs::remove_dir_all(&rt, folder.as_str())?;
+    Ok(())
+}
+
+#[test]
+fn links_that_lead_to_no_file_are_no_objects(rt: HostRuntime) -> Result<(), Fail> {
+    let alloc = rt.alloc();
+    let folder = fresh_folder(&rt)?;
+    let mut store = store_in(&rt, folder.as_str())?;
+    assert!(rt; matches!(store.put_absent(&name(alloc, "d/file")?, b"f"), Put::Stored));
+    for (target, link) in [
+        ("file", "good"),
+        ("loop", "loop"),
+        ("none", "nowhere"),
+        (".", "up"),
+    ] {
+        let path = format!(in alloc; "{}/d/{link}", folder.as_str())?;
+        symlink(&rt, target, path.as_str())?;
+    }
+    holds(&rt, &mut store, &name(alloc, "d/good")?, b"f");
+    for link in ["d/loop", "d/nowhere", "d/up"] {
+        is_absent(&rt, &mut store, &name(alloc, link)?);
+        assert!(rt;
+            matches!(store.put_absent(&name(alloc, link)?, b"x"), Put::Failed),
+            "{link}"
+        );
+    }
+    // Each name is told, and what a failed put wrote is gone.
+    let folder_names = ["file", "good", "loop", "nowhere", "up"];
+    lists(&rt, alloc, &mut store, &name(alloc, "d")?, &folder_names);
+    let mut count = 0usize;
+    for entry in fs::read_dir(&rt, format!(in alloc; "{}/d", folder.as_str())?.as_str())? {
+        entry?;
+        count = count.saturating_add(1);
+    }
+    assert_eq!(rt; count, folder_names.len());
+    fs::remove_dir_all(&rt, folder.as_str())?;
+    Ok(())
+}
+
+#[test]
+fn pieces_are_those_of_the_named_object(rt: HostRuntime) -> Result<(), Fail> {
+    let alloc = rt.alloc();
+    let folder = fresh_folder(&rt)?;
+    let mut store = store_in(&rt, folder.as_str())?;
+    // Names in another order than their bytes', and names of one length.
+    for (object, bytes) in [
+        ("d/b1", b"first."),
+        ("d/a2", b"second"),
+        ("d/a", b"third."),
+        ("d/10", b"fourth"),
+    ] {
+        assert!(rt;
+            matches!(store.put_absent(&name(alloc, object)?, bytes), Put::Stored),
+            "{object}"
+        );
+    }
+    let mut out = [0u8; 3];
+    assert!(rt; matches!(store.get(&name(alloc, "d/b1")?, 0, &mut out), Got::Bytes(3)));
+    assert!(rt; out == *b"fir");
+    assert!(rt; matches!(store.get(&name(alloc, "d/a2")?, 3, &mut out), Got::Bytes(3)));
+    assert!(rt; out == *b"ond");
+    assert!(rt; matches!(store.get(&name(alloc, "d/b1")?, 3, &mut out), Got::Bytes(3)));
+    assert!(rt; out == *b"st.");
+    assert!(rt; matches!(store.get(&name(alloc, "d/b1")?, 6, &mut out), Got::Bytes(0)));
+    lists(
+        &rt,
+        alloc,
+        &mut store,
+        &name(alloc, "d")?,
+        &["10", "a", "a2", "b1"],
+    );
     fs::remove_dir_all(&rt, folder.as_str())?;
     Ok(())
 }
