@@ -17,7 +17,7 @@ use std::alloc::{AllocError, Global};
 
 // What a store has under a name.
 #[derive(Drop)]
-pub enum Fetched {
+pub(crate) enum Fetched {
     Bytes(Vec<u8>),
     Absent,
     TooLong,
@@ -31,12 +31,7 @@ const MOST_TEXT: usize = 16 << 20;
 fn piece_room(alloc: Global) -> Result<Vec<u8>, AllocError>
     ensures { IfOk result (λ v. 0 < vec_len v) }
 {
-    let mut room = Vec::with_capacity(alloc, PIECE)?;
-    room.push(0)?;
-    for _i in 1..PIECE {
-        room.push(0)?;
-    }
-    Ok(room)
+    vec![in alloc; 0; PIECE]
 }
 
 // An object of at most so many bytes.
@@ -65,7 +60,7 @@ fn fetch<W: Store>(
     Ok(Fetched::TooLong)
 }
 
-fn version_name(alloc: Global, location: &Name, version: u64) -> Result<Name, AllocError>
+pub(crate) fn version_name(alloc: Global, location: &Name, version: u64) -> Result<Name, AllocError>
     requires short { length location.now ≤ 256 }
     requires small { version < 2 ^ 63 }
     ensures { IfOk result (λ n. n ≡ commit_name location.now version) }
@@ -123,7 +118,7 @@ fn keep_version<W: Store>(
 }
 
 // What is kept of the versions below n, whose commits are stored.
-pub fn read_below<W: Store>(
+pub(crate) fn read_below<W: Store>(
     alloc: Global,
     store: &mut W,
     location: &Name,
