@@ -1,6 +1,6 @@
 // The loader over a store in memory.
 use super::*;
-use edge_core::{MemStore, Name, Stored};
+use edge_core::{Foreign, MemStore, Name, Stored};
 use log_actions::LineFault;
 use log_commit::CommitFault;
 use log_replay::{Cause, ReplayRefusal};
@@ -106,6 +106,13 @@ fn name(alloc: Global, text: &str) -> Result<Name, Fail> {
     }
 }
 
+fn stored(alloc: Global, text: &str, content: &[u8]) -> Result<Stored, Fail> {
+    Ok(Stored {
+        name: name(alloc, text)?,
+        bytes: Vec::from_slice(alloc, content)?,
+    })
+}
+
 // The log of the table at `t` where these objects are stored and the call of that number fails.
 fn loaded(
     rt: &impl Abort,
@@ -113,18 +120,25 @@ fn loaded(
     objects: Objects,
     fail: u64,
 ) -> Result<Result<Loaded, LoadRefusal>, Fail> {
+    loaded_beside(rt, alloc, objects, fail, Vec::new(alloc))
+}
+
+// The same where others add these objects meanwhile.
+fn loaded_beside(
+    rt: &impl Abort,
+    alloc: Global,
+    objects: Objects,
+    fail: u64,
+    foreign: Vec<Foreign>,
+) -> Result<Result<Loaded, LoadRefusal>, Fail> {
     let location = name(alloc, "t")?;
     assert!(rt; location.as_str().len() <= 256);
-    let Ok(store) = MemStore::new(alloc, 16, 1024, Vec::new(alloc)) else {
+    let Ok(store) = MemStore::new(alloc, 16, 1024, foreign) else {
         return Err(Fail::from("no store"));
     };
     let mut store = store.with_fails(Vec::from_slice(alloc, &[fail])?, Vec::new(alloc));
     for (text, content) in objects {
-        let object = Stored {
-            name: name(alloc, text)?,
-            bytes: Vec::from_slice(alloc, content)?,
-        };
-        store.stock(object);
+        store.stock(stored(alloc, text, content)?);
     }
     Ok(load(alloc, &mut store, &location))
 }
@@ -186,6 +200,25 @@ fn an_empty_folder_has_no_block(rt: HostRuntime) -> Result<(), Fail> {
 fn the_block_has_its_cause(rt: HostRuntime) -> Result<(), Fail> {
     for (objects, version, cause) in BLOCKED {
         expect_block(&rt, rt.alloc(), objects, version, cause)?;
+    }
+    Ok(())
+}
+
+// The folder is listed, version 0 is read in two calls, and version 1 is there when it is asked for again.
+#[test]
+fn a_version_that_a_listing_lacked_is_found(rt: HostRuntime) -> Result<(), Fail> {
+    let alloc = rt.alloc();
+    let mut foreign = Vec::new(alloc);
+    foreign.push(Foreign {
+        call: 3,
+        object: stored(alloc, V1, ADD)?,
+    })?;
+    match loaded_beside(&rt, alloc, &[(V0, START), (V2, ADD)], 99, foreign)? {
+        Ok(log) => {
+            assert!(rt; log.block.is_none());
+            assert_eq!(rt; log.commits.items().len(), 3);
+        }
+        Err(_) => assert!(rt; false),
     }
     Ok(())
 }
