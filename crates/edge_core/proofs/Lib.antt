@@ -8,3 +8,5 @@ pub mod Shelves
 pub mod Slots
 pub mod Puts
 pub mod Flows
+pub mod Gatherings
+pub mod Limits

@@ -40,6 +40,13 @@ impl Calls {
         self.made
     }
 
+    // How many calls failed.
+    pub fn faults(&self) -> u64
+        ensures { result ≡ calls_failed self.now }
+    {
+        self.faults
+    }
+
     // Whether the next call is to fail.
     pub fn is_due(&self) -> bool
         ensures { result ≡ due self.now }
