@@ -20,6 +20,7 @@ enum Held {
 
 /// A gate that holds the first caller which passes until another caller is done, for a number of turns at most, at each of
 /// which it lets other threads run. All that pass later go on at once.
+#[derive(Drop)]
 pub struct HoldGate {
     turns: u32,
     held: Mutex<Held>,

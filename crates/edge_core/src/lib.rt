@@ -60,4 +60,8 @@ pub use store::{Got, Listed, Measured, Put, Store};
 pub use writing::write_all;
 
 #[cfg(test)]
+mod line_tests;
+#[cfg(test)]
 mod tests;
+#[cfg(test)]
+mod thread_tests;

@@ -128,11 +128,13 @@ impl Link for MemLink {
             return Opened::Failed;
         }
         match self.coming.pop_front() {
-            Some(MemPeer {
-                host: _,
-                port: _,
-                line,
-            }) => {
+            Some(
+                MemPeer {
+                    host: _,
+                    port: _,
+                    line,
+                },
+            ) => {
                 self.given.give();
                 let (source, sink) = line.into_parts();
                 Opened::Line(source, sink)

@@ -10,6 +10,6 @@ returns-in-Err-clause-held g c =
     let at = c.args.self.now.handed in
     let ys = c.deref.result.now in
     let whole : take (length ys - at) (drop at ys) ≡ drop at xs =
-        ap (λ l. take (length l - at) (drop at l)) c.deref.ensures.value ∙ take_all (length xs - at) (drop at xs) (omega (arith, length-drop at xs)) in
+    ap (λ l. take (length l - at) (drop at l)) c.deref.ensures.value ∙ take_all (length xs - at) (drop at xs) (omega (arith, length-drop at xs)) in
     let wrote = rw whole at c.in-Err.ensures.wrote in
     ap (λ known. append_known known (drop (at + c.in-Err.written) xs)) wrote.1 ∙ handed_on _ xs at c.in-Err.written
