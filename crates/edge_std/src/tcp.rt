@@ -10,7 +10,7 @@ use std::net::{Shutdown, TcpStream};
 use std::time::{Duration, Instant};
 
 // How long a connection that is closed is read to its end, and for how many bytes.
-const LINGER: Duration = Duration::from_secs(1);
+const LINGER_SECONDS: u64 = 1;
 const LINGER_BYTES: usize = 65_536;
 
 /// How long a connection waits for its peer, each time above 0.
@@ -153,7 +153,7 @@ impl Sink for TcpSink {
 
 // How much longer a connection lingers that began to at a moment, if at all.
 fn linger_left(rt: &HostRuntime, start: Instant) -> io::Result<Option<Duration>> {
-    let left = LINGER.saturating_sub(start.elapsed(rt)?);
+    let left = Duration::from_secs(LINGER_SECONDS).saturating_sub(start.elapsed(rt)?);
     Ok(if left.is_zero() { None } else { Some(left) })
 }
 

@@ -112,16 +112,13 @@ impl Listener for TcpDoor {
                         self.out = true;
                         return Taken::Line(input, output);
                     }
-                    self.faults.note(true);
                 }
-                Err(e) => {
-                    self.faults.note(true);
-                    if e.kind() != ErrorKind::ConnectionAborted {
-                        return Taken::Failed;
-                    }
-                }
+                Err(e) if e.kind() == ErrorKind::ConnectionAborted => {}
+                Err(_) => break,
             }
+            self.faults.note(true);
         }
+        self.faults.note(true);
         Taken::Failed
     }
 
