@@ -10,3 +10,4 @@ pub mod Puts
 pub mod Flows
 pub mod Gatherings
 pub mod Limits
+pub mod Tellings

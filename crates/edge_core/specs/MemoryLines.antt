@@ -3,9 +3,11 @@ use Rattle.std.specs.Prelude.{ℕ, ◌+◌, List, [], ◌∷◌, drop, Some, Boo
 use Rattle.edge_core.specs.Calls.{calls_failed, due}
 use Rattle.edge_core.specs.Memory.{source_left, source_calls, sink_bytes, sink_calls}
 use Rattle.edge_core.specs.Lines.{ClosedLine, closed_line, PeerLine, peer_line}
+use Rattle.edge_core.specs.Handles.{fault_count}
 use Rattle.edge_core.specs.declared.calls.Calls.{Calls}
 use Rattle.edge_core.specs.declared.mem_clock.MemClock.{MemClock}
 use Rattle.edge_core.specs.declared.mem_line.MemLine.{MemLine}
+use Rattle.edge_core.specs.declared.mem_sink.MemSink.{MemSink}
 use Rattle.edge_core.specs.declared.mem_line.MemClosed.{MemClosed}
 use Rattle.edge_core.specs.declared.mem_line.GivenLines.{GivenLines}
 use Rattle.edge_core.specs.declared.mem_listener.MemListener.{MemListener}
@@ -19,6 +21,10 @@ clock_coming c = drop c.at c.moments.items
 -- the bytes that a line comes with
 abbrev pub line_bytes : MemLine → List ℕ
 line_bytes l = source_left l.source
+
+-- the sink of a closed line
+abbrev pub closed_sink : MemClosed → MemSink
+closed_sink l = l.sink
 
 -- what a closed line says
 abbrev pub closed_of : MemClosed → ClosedLine
@@ -69,10 +75,10 @@ abbrev pub link_calls : MemLink → Calls
 link_calls l = l.calls
 
 abbrev pub link_read_faults : MemLink → ℕ
-link_read_faults l = l.read_faults
+link_read_faults l = fault_count l.read_faults
 
 abbrev pub link_write_faults : MemLink → ℕ
-link_write_faults l = l.write_faults
+link_write_faults l = fault_count l.write_faults
 
 -- whether the next line is to this host and port
 abbrev pub is_next : List ℕ → ℕ → List PeerLine → Bool

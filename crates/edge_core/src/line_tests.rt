@@ -79,6 +79,10 @@ fn a_listener_gives_its_lines_and_keeps_them(rt: HostRuntime) -> Result<(), Allo
         assert!(rt; serve(&mut door) == wanted);
     }
     closed_are(&rt, door.closed(), &[(b"a", 0), (b"bd", 1)]);
+    match door.closed() {
+        [_, second] => assert!(rt; second.sink().pieces() == [1, 1].as_slice()),
+        _ => assert!(rt; false),
+    }
     Ok(())
 }
 

@@ -47,13 +47,20 @@ pub struct MemClosed {
 
 impl MemClosed {
     ghost use Rattle.std.specs.Prelude.{◌≡◌, Some};
-    ghost use Rattle.edge_core.specs.MemoryLines.{closed_of};
+    ghost use Rattle.edge_core.specs.MemoryLines.{closed_of, closed_sink};
 
     /// What was written to it.
     pub fn written(&self) -> &[u8]
         ensures { Some result.now ≡ (closed_of self.now).written }
     {
         self.sink.bytes()
+    }
+
+    /// Its sink, which kept that in pieces, one for each write.
+    pub fn sink(&self) -> &MemSink
+        ensures { result.now ≡ closed_sink self.now }
+    {
+        &self.sink
     }
 
     /// How often its source had failed.

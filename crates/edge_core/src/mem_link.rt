@@ -4,7 +4,7 @@ ghost use Rattle.std.specs.VecDeque.{deque_len};
 
 use crate::calls::Calls;
 use crate::mem_line::GivenLines;
-use crate::{Link, MemClosed, MemLine, MemSink, MemSource, Opened};
+use crate::{FaultCount, Link, MemClosed, MemLine, MemSink, MemSource, Opened};
 use std::alloc::{AllocError, Global};
 use std::collections::VecDeque;
 
@@ -27,8 +27,8 @@ pub struct MemLink {
     coming: VecDeque<MemPeer>,
     given: GivenLines,
     calls: Calls,
-    read_faults: u64,
-    write_faults: u64,
+    read_faults: FaultCount,
+    write_faults: FaultCount,
     ghost lines: { deque_len coming + given.out ≤ given.room },
 }
 
@@ -50,8 +50,8 @@ impl MemLink {
             coming: VecDeque::from(lines),
             given,
             calls: Calls::new(alloc),
-            read_faults: 0,
-            write_faults: 0,
+            read_faults: FaultCount::new(),
+            write_faults: FaultCount::new(),
         })
     }
 
@@ -153,12 +153,8 @@ impl Link for MemLink {
         ensures calls { link_calls self.new ≡ link_calls self.old }
         ensures fewer { link_out self.new ≡ link_out self.old - 1 }
     {
-        if input.faults() > 0 {
-            self.read_faults = self.read_faults.saturating_add(1);
-        }
-        if output.faults() > 0 {
-            self.write_faults = self.write_faults.saturating_add(1);
-        }
+        self.read_faults.note(input.faults() > 0);
+        self.write_faults.note(output.faults() > 0);
         self.given.take_back(input, output);
     }
 }

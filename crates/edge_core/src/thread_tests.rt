@@ -92,7 +92,12 @@ fn two_threads_serve_one_door(rt: HostRuntime) -> Result<(), Fail> {
     let shared = Arc::new(alloc, Mutex::new(SharedDoor::new(inner)))?;
     let mut first = LockedDoor::new(rt.clone()?, Arc::try_clone(&shared)?);
     let mut second = LockedDoor::new(rt.clone()?, shared);
-    let (one, two) = thread::join(&rt, || serve(&mut first), || serve(&mut second));
+    let mut clock = MemClock::new(Vec::new(alloc));
+    let (one, two) = thread::join(
+        &rt,
+        || serve(&mut first).saturating_add(clock.now() as u32),
+        || serve(&mut second),
+    );
     assert_eq!(rt; one.saturating_add(two), 20);
     Ok(())
 }

@@ -12,9 +12,9 @@ mod std_clock;
 mod streams;
 mod tcp;
 mod tcp_door;
-mod tcp_way;
 #[cfg(test)]
 mod tcp_tests;
+mod tcp_way;
 #[cfg(test)]
 mod tests;
 

@@ -28,7 +28,11 @@ impl StdClock {
     {
         let time = SystemTime::now(&self.rt)?;
         match time.duration_since(UNIX_EPOCH) {
-            Ok(since) => Ok(u64::try_from(since.as_millis()).unwrap_or(LAST_MOMENT).min(LAST_MOMENT)),
+            Ok(since) => Ok(
+                u64::try_from(since.as_millis())
+                    .unwrap_or(LAST_MOMENT)
+                    .min(LAST_MOMENT),
+            ),
             Err(_) => Err(io::Error::from(io::ErrorKind::InvalidData)),
         }
     }

@@ -11,6 +11,7 @@ use std::time::{Duration, Instant};
 
 // How long a connection that is closed is read to its end, and for how many bytes.
 const LINGER_SECONDS: u64 = 1;
+
 const LINGER_BYTES: usize = 65_536;
 
 /// How long a connection waits for its peer, each time above 0.

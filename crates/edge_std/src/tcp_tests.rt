@@ -104,15 +104,15 @@ fn send_and_drain(rt: &HostRuntime, port: u16, size: usize) -> Result<usize, Fai
 }
 
 // Reads ten bytes of a body, and refuses it.
-fn refuse(door: &mut TcpDoor) -> bool {
-    match take(door) {
-        Ok((mut input, mut output)) => {
+fn refuse<N: Listener>(door: &mut N) -> bool {
+    match door.accept() {
+        Taken::Line(mut input, mut output) => {
             input.read(&mut [0u8; 10]);
             let whole = write_all(&mut output, &[b'r'; 700]).is_ok();
             door.close(input, output);
             whole
         }
-        Err(_) => false,
+        Taken::End | Taken::Failed => false,
     }
 }
 
@@ -136,9 +136,15 @@ fn what_cannot_be_opened_fails(rt: HostRuntime) -> Result<(), Fail> {
     assert_eq!(rt; second.listen(port), Listening::Failed);
     assert!(rt; matches!(second.accept(), Taken::Failed));
     for host in ["", "localhost", "127.0.0.1:80"] {
-        assert_eq!(rt; TcpDoor::new(rt.clone()?).with_host(host).listen(0), Listening::Failed);
+        assert_eq!(rt;
+            TcpDoor::new(rt.clone()?).with_host(host).listen(0),
+            Listening::Failed
+        );
     }
-    assert_eq!(rt; TcpDoor::new(rt.clone()?).with_host("127.0.0.2").listen(0), Listening::Open);
+    assert_eq!(rt;
+        TcpDoor::new(rt.clone()?).with_host("127.0.0.2").listen(0),
+        Listening::Open
+    );
     drop(first);
     let mut way = TcpWay::new(rt.clone()?);
     assert!(rt; matches!(way.open(HOST, port), Opened::Failed));
