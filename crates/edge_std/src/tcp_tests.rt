@@ -1,4 +1,6 @@
 //! Connections over 127.0.0.1, and the clock.
+ghost use Rattle.std.specs.Prelude.{◌≡◌, IfOk, true};
+
 use crate::{StdClock, TcpDoor, TcpSink, TcpSource, TcpWay, Timeouts};
 use edge_core::{
     Clock, Gave, LAST_MOMENT, Limited, Link, Listener, Listening, LockedDoor, Opened, SharedDoor,
@@ -27,7 +29,9 @@ fn open_door(door: TcpDoor) -> Result<(TcpDoor, u16), Fail> {
     }
 }
 
-fn take<N: Listener>(door: &mut N) -> Result<(N::In, N::Out), Fail> {
+fn take<N: Listener>(door: &mut N) -> Result<(N::In, N::Out), Fail>
+    ensures { IfOk result (λ line. N.out door.new ≡ true) }
+{
     match door.accept() {
         Taken::Line(input, output) => Ok((input, output)),
         Taken::End => Err(Fail::from("no line comes")),
@@ -35,7 +39,9 @@ fn take<N: Listener>(door: &mut N) -> Result<(N::In, N::Out), Fail> {
     }
 }
 
-fn open<P: Link>(way: &mut P, port: u16) -> Result<(P::In, P::Out), Fail> {
+fn open<P: Link>(way: &mut P, port: u16) -> Result<(P::In, P::Out), Fail>
+    ensures { IfOk result (λ line. P.out way.new ≡ true) }
+{
     match way.open(HOST, port) {
         Opened::Line(input, output) => Ok((input, output)),
         Opened::Failed => Err(Fail::from("the way failed")),
@@ -161,7 +167,7 @@ fn serve<N: Listener>(door: &mut N) -> u32 {
         match door.accept() {
             Taken::Line(mut input, mut output) => {
                 let (total, _) = drain(&mut input);
-                let answer = [(total / 1_048_576) as u8];
+                let answer = [u8::try_from(total / 1_048_576).unwrap_or(u8::MAX)];
                 if write_all(&mut output, &answer).is_ok() {
                     served = served.saturating_add(1);
                 }
