@@ -8,3 +8,6 @@ pub mod Shelves
 pub mod Slots
 pub mod Puts
 pub mod Flows
+pub mod Gatherings
+pub mod Limits
+pub mod Tellings

@@ -1,8 +1,14 @@
 pub mod Arrivals
 pub mod Calls
+pub mod Clocks
+pub mod Doors
 pub mod Faults
 pub mod Flow
+pub mod Fresh
+pub mod Handles
+pub mod Lines
 pub mod Memory
+pub mod MemoryLines
 pub mod Names
 pub mod Objects
 pub mod Stored

@@ -7,7 +7,7 @@ use std::alloc::Global;
 // How many calls were made, how many of them failed, and the numbers of those that are to fail, counted from 0.
 // No more calls failed than were made, so the count of faults stands at its end only after 2^64 - 1 calls.
 #[derive(Drop)]
-pub struct Calls {
+pub(crate) struct Calls {
     fails: Vec<u64>,
     made: u64,
     faults: u64,
@@ -17,7 +17,7 @@ pub struct Calls {
 impl Calls {
     ghost use Rattle.edge_core.specs.Calls.{due, calls_made, calls_failed, IsFresh, Plans, Counts};
 
-    pub fn new(alloc: Global) -> Calls
+    pub(crate) fn new(alloc: Global) -> Calls
         ensures { IsFresh result }
     {
         Calls {
@@ -27,28 +27,35 @@ impl Calls {
         }
     }
 
-    pub fn set_fails(&mut self, fails: Vec<u64>)
+    pub(crate) fn set_fails(&mut self, fails: Vec<u64>)
         ensures { Plans self.old self.new fails.items }
     {
         self.fails = fails;
     }
 
     // The number of the next call.
-    pub fn number(&self) -> u64
+    pub(crate) fn number(&self) -> u64
         ensures { result ≡ calls_made self.now }
     {
         self.made
     }
 
+    // How many calls failed.
+    pub(crate) fn faults(&self) -> u64
+        ensures { result ≡ calls_failed self.now }
+    {
+        self.faults
+    }
+
     // Whether the next call is to fail.
-    pub fn is_due(&self) -> bool
+    pub(crate) fn is_due(&self) -> bool
         ensures { result ≡ due self.now }
     {
         self.fails.contains(&self.made)
     }
 
     // Counts a call.
-    pub fn count(&mut self, failed: bool)
+    pub(crate) fn count(&mut self, failed: bool)
         ensures counts { Counts self.old self.new failed }
         ensures cause { Cause (calls_failed self.old) (calls_failed self.new) failed }
     {
@@ -59,7 +66,7 @@ impl Calls {
     }
 
     // Counts a call that fails where it is to fail.
-    pub fn next(&mut self) -> bool
+    pub(crate) fn next(&mut self) -> bool
         ensures due { result ≡ due self.old }
         ensures counts { Counts self.old self.new result }
         ensures cause { Cause (calls_failed self.old) (calls_failed self.new) result }

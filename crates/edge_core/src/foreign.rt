@@ -29,7 +29,7 @@ fn appear(shelf: &mut Shelf, next: &Foreign)
 }
 
 // Puts the objects of others that come by the call of that number, and says how many they are.
-pub fn arrive(shelf: &mut Shelf, coming: &[Foreign], call: u64) -> usize
+pub(crate) fn arrive(shelf: &mut Shelf, coming: &[Foreign], call: u64) -> usize
     ensures shelf { shelf.new ≡ arrived call shelf.old coming.now }
     ensures waiting { drop result coming.now ≡ waiting call coming.now }
     ensures within { result ≤ length coming.now }

@@ -4,7 +4,7 @@ ghost use Rattle.std.specs.Vec.{vec_capacity};
 
 use crate::calls::Calls;
 use crate::pieces::piece;
-use crate::{Gave, Sink};
+use crate::{Flushing, Gave, Sink};
 use std::alloc::{AllocError, Global};
 
 /// A sink that keeps what is written, with room for a number of bytes and of pieces, one for each write. It takes its room
@@ -25,7 +25,7 @@ pub struct MemSink {
 }
 
 impl MemSink {
-    ghost use Rattle.edge_core.specs.Calls.{IsFresh, Plans};
+    ghost use Rattle.edge_core.specs.Calls.{calls_failed, IsFresh, Plans};
     ghost use Rattle.edge_core.specs.Memory.{sink_bytes, sink_pieces, sink_bytes_left, sink_pieces_left, sink_sizes, sink_calls};
 
     /// An empty sink with room for so many bytes, in so many pieces. The error is want of memory.
@@ -75,6 +75,13 @@ impl MemSink {
         &self.bytes
     }
 
+    /// How often it has failed.
+    pub fn faults(&self) -> u64
+        ensures { result ≡ calls_failed (sink_calls self.now) }
+    {
+        self.calls.faults()
+    }
+
     /// How many bytes each write that didn't fail wrote.
     pub fn pieces(&self) -> &[usize]
         ensures { result.now ≡ sink_pieces self.now }
@@ -102,7 +109,7 @@ fn append_piece(bytes: &mut Vec<u8>, pieces: &mut Vec<usize>, from: &[u8], size:
 impl Sink for MemSink {
     ghost use Rattle.std.specs.Prelude.{◌≡◌, ◌<◌, Some, length};
     ghost use Rattle.edge_core.specs.Faults.{Cause};
-    ghost use Rattle.edge_core.specs.Flow.{Writes, failed_write};
+    ghost use Rattle.edge_core.specs.Flow.{Writes, failed_flush, failed_write};
     ghost use Rattle.edge_core.specs.Calls.{calls_failed, Counts};
     ghost use Rattle.edge_core.specs.Memory.{sink_bytes, sink_sizes, sink_calls, sink_fails, IsKept};
 
@@ -129,5 +136,15 @@ impl Sink for MemSink {
         let size = piece(&self.sizes, call, room.min(bytes.len()));
         append_piece(&mut self.bytes, &mut self.pieces, bytes, size);
         Gave::Bytes(size)
+    }
+
+    // Nothing is kept back: this does nothing.
+    fn flush(&mut self) -> Flushing
+        ensures held { Some (sink_bytes self.new) ≡ Some (sink_bytes self.old) }
+        ensures cause { Cause (calls_failed (sink_calls self.old)) (calls_failed (sink_calls self.new)) (failed_flush result) }
+        ensures answer { result ≡ Flushing.Flushed }
+        ensures same { self.new ≡ self.old }
+    {
+        Flushing::Flushed
     }
 }

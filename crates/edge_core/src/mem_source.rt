@@ -18,7 +18,7 @@ pub struct MemSource {
 }
 
 impl MemSource {
-    ghost use Rattle.edge_core.specs.Calls.{IsFresh, Plans};
+    ghost use Rattle.edge_core.specs.Calls.{calls_failed, IsFresh, Plans};
     ghost use Rattle.edge_core.specs.Memory.{source_left, source_sizes, source_calls};
 
     /// A source of those bytes.
@@ -54,6 +54,13 @@ impl MemSource {
     {
         self.calls.set_fails(fails);
         self
+    }
+
+    /// How often it has failed.
+    pub fn faults(&self) -> u64
+        ensures { result ≡ calls_failed (source_calls self.now) }
+    {
+        self.calls.faults()
     }
 }
 

@@ -3,7 +3,7 @@ ghost use Rattle.std.specs.Prelude.{◌≡◌, ◌<◌, ◌≤◌, take, length}
 ghost use Rattle.edge_core.specs.Calls.{piece_size};
 
 // How many bytes the call of that number moves: the size given for it, at least 1 and at most what there is.
-pub fn piece(sizes: &[usize], call: u64, most: usize) -> usize
+pub(crate) fn piece(sizes: &[usize], call: u64, most: usize) -> usize
     requires { 0 < most }
     ensures size { result ≡ piece_size sizes.now call most }
     ensures some { 0 < result }
@@ -16,7 +16,7 @@ pub fn piece(sizes: &[usize], call: u64, most: usize) -> usize
 }
 
 // Copies the first bytes.
-pub fn copy_front(bytes: &[u8], size: usize, out: &mut [u8])
+pub(crate) fn copy_front(bytes: &[u8], size: usize, out: &mut [u8])
     requires have { size ≤ length bytes.now }
     requires fits { size ≤ length out.old }
     ensures { take size out.new ≡ take size bytes.now }

@@ -25,7 +25,7 @@ pub struct Stored {
 
 // Where a name and its bytes lie.
 #[derive(Drop)]
-pub struct Slot {
+pub(crate) struct Slot {
     at: usize,
     name: usize,
     from: usize,
@@ -34,7 +34,7 @@ pub struct Slot {
 
 // Objects by name, with room for a number of objects and of bytes of names and objects, which is taken when it is made.
 #[derive(Drop)]
-pub struct Shelf {
+pub(crate) struct Shelf {
     text: Vec<u8>,
     slots: Vec<Slot>,
     objects: usize,
@@ -178,7 +178,7 @@ fn put_slot(slots: &mut Vec<Slot>, place: usize, slot: Slot)
 
 impl Shelf {
     // A shelf with room for so many objects and bytes.
-    pub fn new(alloc: Global, objects: usize, bytes: usize) -> Result<Shelf, AllocError>
+    pub(crate) fn new(alloc: Global, objects: usize, bytes: usize) -> Result<Shelf, AllocError>
         ensures { IfOk result (λ s. s ≡ (finmap.empty, (objects, bytes))) }
     {
         Ok(Shelf {
@@ -189,14 +189,14 @@ impl Shelf {
         })
     }
 
-    pub fn get(&self, name: &Name) -> Option<&[u8]>
+    pub(crate) fn get(&self, name: &Name) -> Option<&[u8]>
         ensures { option_map (λ b. b.now) result ≡ finmap.get self.now.0 name.now }
     {
         found(&self.text, &self.slots, name.as_str())
     }
 
     // Puts an object of a new name, exactly where there is room.
-    pub fn add(&mut self, name: &Name, bytes: &[u8]) -> bool
+    pub(crate) fn add(&mut self, name: &Name, bytes: &[u8]) -> bool
         requires new { finmap.get self.old.0 name.now ≡ None }
         ensures room { result ≡ has_room self.old name.now bytes.now }
         ensures gives { self.new ≡ (if result then with_one self.old name.now bytes.now else self.old) }
@@ -219,7 +219,7 @@ impl Shelf {
         true
     }
 
-    pub fn list(&self, alloc: Global, dir: &Name) -> Result<Segments, AllocError>
+    pub(crate) fn list(&self, alloc: Global, dir: &Name) -> Result<Segments, AllocError>
         ensures { IfOk result (λ names. names ≡ listing dir.now self.now.0) }
     {
         Ok(Segments::of(segments_of(alloc, &self.text, &self.slots, dir.as_str())?))

@@ -1,7 +1,7 @@
 // Where bytes go.
-ghost use Rattle.std.specs.Prelude.{ℕ, ◌<◌, List, Option, length};
+ghost use Rattle.std.specs.Prelude.{◌≡◌, ℕ, ◌<◌, List, Option, length};
 ghost use Rattle.edge_core.specs.Faults.{Cause};
-ghost use Rattle.edge_core.specs.Flow.{Writes, failed_write};
+ghost use Rattle.edge_core.specs.Flow.{Writes, failed_flush, failed_write};
 
 /// The answer of a write.
 #[derive(Clone, Copy, Debug, PartialEq, Eq)]
@@ -9,6 +9,15 @@ pub enum Gave {
     /// So many bytes were written, at least one.
     Bytes(usize),
     /// The write failed, and wrote nothing. A sink that can take nothing more fails.
+    Failed,
+}
+
+/// The answer of a flush.
+#[derive(Clone, Copy, Debug, PartialEq, Eq)]
+pub enum Flushing {
+    /// What was written is handed on as far as the sink can.
+    Flushed,
+    /// The flush failed.
     Failed,
 }
 
@@ -27,4 +36,10 @@ pub trait Sink {
         requires { 0 < length bytes.now }
         ensures bytes { Writes (holds self.old) (holds self.new) result bytes.now }
         ensures cause { Cause (faults self.old) (faults self.new) (failed_write result) };
+
+    /// Hands on what the sink keeps back of what was written. It changes nothing of what the sink holds. `Failed` comes only
+    /// where the count of faults rose in this call.
+    fn flush(&mut self) -> Flushing
+        ensures held { holds self.new ≡ holds self.old }
+        ensures cause { Cause (faults self.old) (faults self.new) (failed_flush result) };
 }

@@ -1,5 +1,5 @@
-//! The real outside of a program: its standard streams, and a folder whose files are a store's
-//! objects.
+//! The real outside of a program: its standard streams, a folder whose files are a store's
+//! objects, the system's clock, and connections of TCP that others open or it opens.
 //!
 //! What these read, write and hold is told to nobody, so contracts say no more of them than the
 //! traits ask: how much moves at most, and that a call which fails raises the count of faults. What
@@ -8,11 +8,21 @@
 
 mod file_store;
 mod files;
+mod std_clock;
 #[cfg(test)]
 mod stream_tests;
 mod streams;
+mod tcp;
+mod tcp_door;
+#[cfg(test)]
+mod tcp_tests;
+mod tcp_way;
 #[cfg(test)]
 mod tests;
 
 pub use file_store::FileStore;
+pub use std_clock::StdClock;
 pub use streams::{StdSink, StdSource};
+pub use tcp::{TcpSink, TcpSource, Timeouts};
+pub use tcp_door::TcpDoor;
+pub use tcp_way::TcpWay;

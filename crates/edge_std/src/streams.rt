@@ -1,7 +1,7 @@
 // The standard streams, as a source and sinks. They tell nothing of their bytes.
 ghost use Rattle.std.specs.Prelude.{None};
 
-use edge_core::{Gave, Sink, Source, Took};
+use edge_core::{Flushing, Gave, Sink, Source, Took};
 use std::io::{Read, Write};
 
 /// A stream that is read, and how often a read of it failed.
@@ -61,6 +61,16 @@ impl<T: Write + Drop> Sink for StdSink<T> {
             _ => {
                 self.faults = self.faults.saturating_add(1);
                 Gave::Failed
+            }
+        }
+    }
+
+    fn flush(&mut self) -> Flushing {
+        match self.inner.flush() {
+            Ok(()) => Flushing::Flushed,
+            Err(_) => {
+                self.faults = self.faults.saturating_add(1);
+                Flushing::Failed
             }
         }
     }
