@@ -1,10 +1,12 @@
 // Keys, of which what each tag begins with is hashed once.
-ghost use Rattle.std.specs.Prelude.{◌≡◌, ◌↔◌, ℕ, List, IsTrue, ◌≤◌, ◌++◌, length, drop};
+ghost use Rattle.std.specs.Prelude.{◌≡◌, ◌↔◌, ℕ, List, IsTrue, OnOk, ◌≤◌, ◌++◌, length, drop, string_bytes};
+ghost use Rattle.std.specs.List.{list_all};
 ghost use Rattle.hex.specs.Hex.{encode_lower};
-ghost use Rattle.hmac_core.specs.Hmac.{block_key, hmac, padded_with};
+ghost use Rattle.hmac_core.specs.Hmac.{are_tag_digits as are_digits_of_tag, block_key, hmac, is_tag_digit as is_digit_of_tag, padded_with};
 
 use crate::equal::is_equal;
 use sha2::{Digest, Sha256};
+use std::alloc::AllocError;
 use std::marker::Model;
 use std::snapshot::Snapshot;
 
@@ -34,6 +36,26 @@ impl Model for HmacKey {
     ghost view = { λ k. k.block.value };
 
     ghost invariant = { λ k. IsPrepared k.inner k.outer k.block.value };
+}
+
+fn is_tag_digit(byte: u8) -> bool
+    ensures { result ≡ is_digit_of_tag byte }
+{
+    matches!(byte, b'0'..=b'9' | b'a'..=b'f')
+}
+
+fn are_digits(text: &[u8]) -> bool
+    ensures { result ≡ list_all is_digit_of_tag text.now }
+{
+    text.iter().all(|byte| is_tag_digit(*byte))
+}
+
+/// Whether a text has the form of a tag's digits: 64 hexadecimal digits in lower case. No other text is one, so it
+/// is tested before anything is hashed.
+pub fn are_tag_digits(text: &[u8]) -> bool
+    ensures { result ≡ are_digits_of_tag text.now }
+{
+    text.len() == 64 && are_digits(text)
 }
 
 // The key in front of the block, and past it what stood there.
@@ -120,6 +142,17 @@ impl HmacKey {
         let mut digits = [0u8; 64];
         let _ = hex::encode_to_slice(self.tag(text), &mut digits);
         digits
+    }
+
+    /// Writes the digits of the text's tag at the end, as `tag_digits` gives them. The error is want of memory.
+    pub fn push_digits(&self, out: &mut String, text: &[u8]) -> Result<(), AllocError>
+        ensures { OnOk result (string_bytes out.new ≡ string_bytes out.old ++ encode_lower (hmac self.now text.now)) }
+    {
+        let digits = self.tag_digits(text);
+        let Ok(digits) = str::from_utf8(&digits) else {
+            unreachable!();
+        };
+        out.push_str(digits)
     }
 
     /// Whether these are the digits of the text's tag, as `tag_digits` writes them. All 64 are compared, whatever

@@ -1,4 +1,5 @@
-//! HMAC (RFC 2104) over SHA-256: a tag of 32 bytes that only who has the key can make. No function takes memory.
+//! HMAC (RFC 2104) over SHA-256: a tag of 32 bytes that only who has the key can make. But for `push_digits` no
+//! function takes memory.
 #![tactic(auto)]
 
 ghost use Rattle.std.specs.Prelude.{◌≡◌, ◌↔◌, IsTrue};
@@ -7,7 +8,7 @@ ghost use Rattle.hmac_core.specs.Hmac as spec;
 mod equal;
 mod key;
 
-pub use key::HmacKey;
+pub use key::{HmacKey, are_tag_digits};
 
 #[cfg(test)]
 mod tests;
