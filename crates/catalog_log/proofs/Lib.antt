@@ -1,2 +1,2 @@
-mod NameLemmas
-mod ReadBack
+pub mod NameLemmas
+pub mod ReadBack

@@ -10,7 +10,8 @@ ghost use Rattle.catalog_log.specs.Records.{record_in};
 
 use json::Writer;
 use json_print::{begin_object, count_field, end_object, flag_field, new_writer, printed};
-use share_catalog::{Binding, CatalogName, Credential, Edit, Expiry, Location, TableName};
+use json_tree::Millis;
+use share_catalog::{Binding, CatalogName, Credential, Edit, Location, TableName};
 use std::alloc::{AllocError, Global};
 
 // Room for most records.
@@ -46,13 +47,13 @@ fn digest_field(alloc: Global, line: &mut Writer, digest: &[u8; 32]) -> Result<(
     string_field(line, "digest", &digits)
 }
 
-fn expiry_field(line: &mut Writer, expires: Option<Expiry>) -> Result<(), AllocError>
+fn expiry_field(line: &mut Writer, expires: Option<Millis>) -> Result<(), AllocError>
     ensures written { OnOk result (Adds line.old line.new (field_tokens (codes "expires", Some (expiry_value expires)))) }
     ensures bound { IfSome expires (λ n. n < 2 ^ 63) }
 {
     line.key("expires")?;
     match expires {
-        Some(expires) => line.u64(expires.millis()),
+        Some(expires) => line.u64(expires.get()),
         None => line.null(),
     }
 }

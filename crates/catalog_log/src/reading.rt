@@ -10,10 +10,10 @@ ghost use Rattle.catalog_log.specs.Records.{Gives, GivesRecord, edit_of_record, 
 use crate::RecordFault;
 use edge_core::{Name, is_name_text};
 use hex::FromHex;
-use json_tree::{TreeFault, member_at, tree_of};
+use json_tree::{Millis, TreeFault, member_at, tree_of};
 use serde_json::Value;
 use share_catalog::{
-    Binding, CatalogName, Credential, Edit, Expiry, Location, TableName, is_catalog_name_text,
+    Binding, CatalogName, Credential, Edit, Location, TableName, is_catalog_name_text,
 };
 use std::alloc::Global;
 
@@ -94,14 +94,14 @@ fn digest_at(object: &Value) -> Option<[u8; 32]>
 
 // When a credential ends: `Some(None)` where it has no end, and `None` where the field is of another
 // kind.
-fn expiry_at(object: &Value) -> Option<Option<Expiry>>
+fn expiry_at(object: &Value) -> Option<Option<Millis>>
     ensures { result ≡ expiry_of (present (codes "expires") (view object.now)) }
 {
     let Some(value) = member_at(object, "expires") else {
         return Some(None);
     };
     match u64::try_from(value.as_i64()?) {
-        Ok(moment) => Some(Some(Expiry::of(moment)?)),
+        Ok(moment) => Some(Some(Millis::of(moment)?)),
         Err(_) => None,
     }
 }

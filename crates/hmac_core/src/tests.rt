@@ -1,114 +1,110 @@
-// RFC 4231's test cases but the fifth, whose tag is cut short, and a key of just a block.
-use crate::{agrees, hmac};
+// RFC 4231's test cases but the fifth, whose tag is cut short, and some of Python's `hmac`.
+use crate::{HmacKey, agrees, hmac};
+use std::test::Fail;
 
-#[test]
-fn gives_the_tag_of_case_1(rt: HostRuntime) {
-    assert_eq!(rt;
-        hmac(&[0x0b; 20], b"Hi There"),
-        [
-            0xb0, 0x34, 0x4c, 0x61, 0xd8, 0xdb, 0x38, 0x53, 0x5c, 0xa8, 0xaf, 0xce, 0xaf, 0x0b,
-            0xf1, 0x2b, 0x88, 0x1d, 0xc2, 0x00, 0xc9, 0x83, 0x3d, 0xa7, 0x26, 0xe9, 0x37, 0x6c,
-            0x2e, 0x32, 0xcf, 0xf7,
-        ]
-    );
+// A text under a key, and the digits of its tag.
+#[derive(Drop)]
+struct Case<'a> {
+    key: &'a [u8],
+    text: &'a [u8],
+    digits: &'a str,
 }
 
 #[test]
-fn gives_the_tag_of_case_2(rt: HostRuntime) {
-    assert_eq!(rt;
-        hmac(b"Jefe", b"what do ya want for nothing?"),
-        [
-            0x5b, 0xdc, 0xc1, 0x46, 0xbf, 0x60, 0x75, 0x4e, 0x6a, 0x04, 0x24, 0x26, 0x08, 0x95,
-            0x75, 0xc7, 0x5a, 0x00, 0x3f, 0x08, 0x9d, 0x27, 0x39, 0x83, 0x9d, 0xec, 0x58, 0xb9,
-            0x64, 0xec, 0x38, 0x43,
-        ]
-    );
-}
-
-#[test]
-fn gives_the_tag_of_case_3(rt: HostRuntime) {
-    assert_eq!(rt;
-        hmac(&[0xaa; 20], &[0xdd; 50]),
-        [
-            0x77, 0x3e, 0xa9, 0x1e, 0x36, 0x80, 0x0e, 0x46, 0x85, 0x4d, 0xb8, 0xeb, 0xd0, 0x91,
-            0x81, 0xa7, 0x29, 0x59, 0x09, 0x8b, 0x3e, 0xf8, 0xc1, 0x22, 0xd9, 0x63, 0x55, 0x14,
-            0xce, 0xd5, 0x65, 0xfe,
-        ]
-    );
-}
-
-#[test]
-fn gives_the_tag_of_case_4(rt: HostRuntime) {
-    assert_eq!(rt;
-        hmac(
-            &[
+fn tags_are_those_of_the_standard(rt: HostRuntime) {
+    let cases = [
+        Case {
+            key: &[0x0b; 20],
+            text: b"Hi There",
+            digits: "b0344c61d8db38535ca8afceaf0bf12b881dc200c9833da726e9376c2e32cff7",
+        },
+        Case {
+            key: b"Jefe",
+            text: b"what do ya want for nothing?",
+            digits: "5bdcc146bf60754e6a042426089575c75a003f089d2739839dec58b964ec3843",
+        },
+        Case {
+            key: &[0xaa; 20],
+            text: &[0xdd; 50],
+            digits: "773ea91e36800e46854db8ebd09181a72959098b3ef8c122d9635514ced565fe",
+        },
+        Case {
+            key: &[
                 1, 2, 3, 4, 5, 6, 7, 8, 9, 10, 11, 12, 13, 14, 15, 16, 17, 18, 19, 20, 21, 22, 23,
                 24, 25,
             ],
-            &[0xcd; 50]
-        ),
-        [
-            0x82, 0x55, 0x8a, 0x38, 0x9a, 0x44, 0x3c, 0x0e, 0xa4, 0xcc, 0x81, 0x98, 0x99, 0xf2,
-            0x08, 0x3a, 0x85, 0xf0, 0xfa, 0xa3, 0xe5, 0x78, 0xf8, 0x07, 0x7a, 0x2e, 0x3f, 0xf4,
-            0x67, 0x29, 0x66, 0x5b,
-        ]
-    );
+            text: &[0xcd; 50],
+            digits: "82558a389a443c0ea4cc819899f2083a85f0faa3e578f8077a2e3ff46729665b",
+        },
+        Case {
+            key: &[0xaa; 131],
+            text: b"Test Using Larger Than Block-Size Key - Hash Key First",
+            digits: "60e431591ee0b67f0d8a26aacbf5b77f8e0bc6213728c5140546040f0ee37f54",
+        },
+        Case {
+            key: &[0xaa; 131],
+            text: b"This is a test using a larger than block-size key and a larger than block-size data. The key needs to be hashed before being used by the HMAC algorithm.",
+            digits: "9b09ffa71b942fcb27635fbcd5b0e944bfdc63644f0713938a7f51535c3a35e2",
+        },
+        // A key of just a block, and none.
+        Case {
+            key: &[b'k'; 64],
+            text: b"x",
+            digits: "f91c4c403625fb06910ef93999265bbd2d62baeaec6ff36455498cc124fe3e66",
+        },
+        Case {
+            key: b"",
+            text: b"",
+            digits: "b613679a0814d9ec772f95d778c35fc5ff1697c493715653c6c712144292c5ad",
+        },
+    ];
+    for case in &cases {
+        let key = HmacKey::of(case.key);
+        assert!(rt; key.tag_digits(case.text).as_slice() == case.digits.as_bytes());
+        assert!(rt; key.agrees_with_digits(case.text, case.digits.as_bytes()));
+        assert!(rt; key.agrees(case.text, &hmac(case.key, case.text)));
+    }
 }
 
-#[test]
-fn gives_the_tag_of_case_6(rt: HostRuntime) {
-    assert_eq!(rt;
-        hmac(
-            &[0xaa; 131],
-            b"Test Using Larger Than Block-Size Key - Hash Key First"
-        ),
-        [
-            0x60, 0xe4, 0x31, 0x59, 0x1e, 0xe0, 0xb6, 0x7f, 0x0d, 0x8a, 0x26, 0xaa, 0xcb, 0xf5,
-            0xb7, 0x7f, 0x8e, 0x0b, 0xc6, 0x21, 0x37, 0x28, 0xc5, 0x14, 0x05, 0x46, 0x04, 0x0f,
-            0x0e, 0xe3, 0x7f, 0x54,
-        ]
-    );
-}
+const TEXT: &[u8] = b"what do ya want for nothing?";
 
 #[test]
-fn gives_the_tag_of_case_7(rt: HostRuntime) {
-    assert_eq!(rt;
-        hmac(
-            &[0xaa; 131],
-            b"This is a test using a larger than block-size key and a larger than block-size data. The key needs to be hashed before being used by the HMAC algorithm."
-        ),
-        [
-            0x9b, 0x09, 0xff, 0xa7, 0x1b, 0x94, 0x2f, 0xcb, 0x27, 0x63, 0x5f, 0xbc, 0xd5, 0xb0,
-            0xe9, 0x44, 0xbf, 0xdc, 0x63, 0x64, 0x4f, 0x07, 0x13, 0x93, 0x8a, 0x7f, 0x51, 0x53,
-            0x5c, 0x3a, 0x35, 0xe2,
-        ]
-    );
-}
-
-// The value is from Python's `hmac`.
-#[test]
-fn takes_a_key_of_a_block_as_it_is(rt: HostRuntime) {
-    assert_eq!(rt;
-        hmac(&[b'k'; 64], b"x"),
-        [
-            0xf9, 0x1c, 0x4c, 0x40, 0x36, 0x25, 0xfb, 0x06, 0x91, 0x0e, 0xf9, 0x39, 0x99, 0x26,
-            0x5b, 0xbd, 0x2d, 0x62, 0xba, 0xea, 0xec, 0x6f, 0xf3, 0x64, 0x55, 0x49, 0x8c, 0xc1,
-            0x24, 0xfe, 0x3e, 0x66,
-        ]
-    );
-}
-
-#[test]
-fn tells_the_tag_from_others(rt: HostRuntime) {
+fn other_tags_are_told_apart(rt: HostRuntime) {
     let tag = [
         0x5b, 0xdc, 0xc1, 0x46, 0xbf, 0x60, 0x75, 0x4e, 0x6a, 0x04, 0x24, 0x26, 0x08, 0x95, 0x75,
         0xc7, 0x5a, 0x00, 0x3f, 0x08, 0x9d, 0x27, 0x39, 0x83, 0x9d, 0xec, 0x58, 0xb9, 0x64, 0xec,
         0x38, 0x43,
     ];
-    let text = b"what do ya want for nothing?";
-    assert!(rt; agrees(b"Jefe", text, &tag));
-    assert!(rt; !agrees(b"Jefe", text, &tag[..31]));
-    assert!(rt; !agrees(b"Jefe", text, b""));
-    assert!(rt; !agrees(b"jefe", text, &tag));
-    assert!(rt; !agrees(b"Jefe", b"what do ya want for nothing!", &tag));
+    let key = HmacKey::of(b"Jefe");
+    assert!(rt; key.tag(TEXT) == tag && agrees(b"Jefe", TEXT, &tag));
+    assert!(rt; !agrees(b"jefe", TEXT, &tag) && !key.agrees(b"", &tag));
+    // Cut short, too long, and with another first or last byte.
+    let mut long = [0u8; 33];
+    long[..32].copy_from_slice(&tag);
+    let mut first = tag;
+    first[0] = 0;
+    let mut last = tag;
+    last[31] = 0x42;
+    let others: [&[u8]; 5] = [b"", &tag[..31], &long, &first, &last];
+    for other in others {
+        assert!(rt; !key.agrees(TEXT, other));
+    }
+    // Digits in upper case.
+    assert!(rt;
+        !key.agrees_with_digits(
+            TEXT,
+            b"5BDCC146BF60754E6A042426089575C75A003F089D2739839DEC58B964EC3843"
+        )
+    );
+}
+
+// The value is from Python's `hmac`.
+#[test]
+fn a_mebibyte_has_a_tag(rt: HostRuntime) -> Result<(), Fail> {
+    let text = vec![in rt.alloc(); 0u8; 1 << 20]?;
+    assert!(rt;
+        HmacKey::of(&[1; 32]).tag_digits(&text)
+            == *b"6d098917d7ec4a6a5a0d531a59669e1b3a3b47eba4baea2bbf413e05795b1143"
+    );
+    Ok(())
 }

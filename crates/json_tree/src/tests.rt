@@ -1,6 +1,6 @@
 use crate::{
-    FieldFault, Pair, Pairs, Text, TreeFault, flag_at, member_at, pairs_at, text_at, texts_at,
-    tree_of, whole_at,
+    Edition, FieldFault, Millis, Pair, Pairs, Place, Text, TreeFault, Version, flag_at, member_at,
+    pairs_at, text_at, texts_at, tree_of, whole_at,
 };
 use std::alloc::{AllocError, Global};
 use std::test::Fail;
@@ -134,4 +134,16 @@ fn makes_pairs_in_byte_order(rt: HostRuntime) -> Result<(), Fail> {
     assert!(rt; Pairs::of(fallen).is_none());
     assert!(rt; Pairs::new(alloc).items().is_empty());
     Ok(())
+}
+
+#[test]
+fn small_numbers_end_below_2_to_63(rt: HostRuntime) {
+    let last = (1 << 63) - 1;
+    assert!(rt; Millis::of(last).is_some_and(|millis| millis.get() == last));
+    assert!(rt; Version::of(last).is_some_and(|version| version.get() == last));
+    assert!(rt; Edition::of(last).is_some_and(|edition| edition.get() == last));
+    assert!(rt; Place::of(last).is_some_and(|place| place.get() == last));
+    assert!(rt; Millis::of(1 << 63).is_none() && Version::of(1 << 63).is_none());
+    assert!(rt; Edition::of(1 << 63).is_none() && Place::of(1 << 63).is_none());
+    assert!(rt; Edition::never().next().get() == 1);
 }

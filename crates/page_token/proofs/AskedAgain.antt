@@ -1,5 +1,5 @@
 -- What a query asked for, a hint and a text are read from their fields.
-use Rattle.std.proofs.Common.{◌≡◌, ℕ, suc, ◌+◌, ◌-◌, ◌^◌, ◌<◌, ◌≤◌, List, [], ◌∷◌, ◌++◌, length, false, eqb, Option, Some, None, refl, arith}
+use Rattle.std.proofs.Common.{◌≡◌, ℕ, suc, ◌+◌, ◌-◌, ◌^◌, ◌<◌, ◌≤◌, List, [], ◌∷◌, length, false, eqb, Option, Some, None, refl, arith}
 use Rattle.std.specs.Prelude.{ℤ, pos, negsuc, FitsSigned, IfSome}
 use Rattle.std.specs.Int.{w128}
 use Rattle.std.specs.Str.{IsUtf8}
@@ -11,10 +11,9 @@ use Rattle.std.proofs.lemmas.Str.Parse.{digit_from_value}
 use Rattle.std.proofs.lemmas.Fmt.{decimal_is_IsNumeral_wide}
 use Rattle.page_token.specs.declared.cursor.Asked.{Asked}
 use Rattle.page_token.specs.declared.cursor.Asked.TheVariants as asked
-use Rattle.page_token.specs.Payload.{field, asked_field, hint_field, IsAskedInRange, IsAskedValue}
-use Rattle.page_token.specs.Reading.{digits_in, moment_of, asked_of, asked_in, text_of, hint_of}
+use Rattle.page_token.specs.Payload.{asked_field, hint_field, IsAskedInRange, IsAskedValue}
+use Rattle.page_token.specs.Reading.{digits_in, moment_of, asked_of, text_of, hint_of}
 use Rattle.page_token.proofs.Digits.{digits_again}
-use Rattle.page_token.proofs.Fields.{field_again}
 
 no_minus : (c : ℕ) → 48 ≤ c → eqb c 45 ≡ false
 no_minus c low = grind (arith, nat_tests)
@@ -42,16 +41,11 @@ moment_again (negsuc n) fits =
     let digits = digits_again (2 ^ 127 + 1) (suc n) (omega (arith, fits.sfits)) (omega (arith, fits.sfits)) in
     rw (digits, not_zero n, one_less n) refl
 
-asked_of_again : (a : Asked) → IsAskedInRange a → IsAskedValue a → asked_of (asked_field a) ≡ Some a
+pub asked_of_again : (a : Asked) → IsAskedInRange a → IsAskedValue a → asked_of (asked_field a) ≡ Some a
 unfolding asked_of
 asked_of_again asked.Latest range value = refl
 asked_of_again (asked.Version v) range value = rw (digits_again (2 ^ 63) v (omega arith) range) refl
 asked_of_again (asked.Moment z) range value = rw (moment_again z value) refl
-
-pub asked_again : (a : Asked) (rest : List ℕ) → IsAskedInRange a → IsAskedValue a → length (field (asked_field a) ++ rest) < 2 ^ 64
-    → asked_in (field (asked_field a) ++ rest) ≡ Some (a, rest)
-unfolding asked_in
-asked_again a rest range value short = rw (field_again (asked_field a) rest short, asked_of_again a range value) refl
 
 pub text_again : (t : List ℕ) → IsUtf8 t → text_of t ≡ Some t
 text_again t utf8 = rw (is_utf8-from_IsUtf8 t utf8) refl

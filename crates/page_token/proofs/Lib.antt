@@ -5,4 +5,6 @@ pub mod Fields
 pub mod AskedAgain
 pub mod Again
 pub mod PayloadBytes
+pub mod ReadTyped
 pub mod Signed
+pub mod CursorOf

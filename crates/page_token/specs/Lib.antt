@@ -1,3 +1,5 @@
+pub mod Cursors
+pub mod Laws
 pub mod Payload
 pub mod Reading
 pub mod Token

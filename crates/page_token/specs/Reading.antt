@@ -1,5 +1,5 @@
 -- How payloads are read, from left to right. What is read is spelt again and compared, so this may take more than
--- payloads: leading zeros, and any byte in a comma's place. No public clause speaks of it.
+-- payloads: leading zeros, and any byte in a comma's place.
 use Rattle.std.specs.Prelude.{◌≡◌, ℕ, ◌+◌, ◌-◌, ◌*◌, ◌^◌, ◌&&◌, ◌==◌, ℤ, pos, negsuc, List, [], ◌∷◌, length, take, drop, Option, Some, None, Result, Ok, Err, ⊤, nat_lt, if◌then◌else◌, position}
 use Rattle.std.specs.Char.{is_ascii_digit}
 use Rattle.std.specs.Str.{is_utf8}
@@ -68,12 +68,6 @@ asked_of (b ∷ bs) =
     else if b == 109 then (moment_of bs >>= λ z. Some (asked.Moment z))
     else None
 
-unfoldable pub asked_in : List ℕ → Option (Asked × List ℕ)
-asked_in bytes = do
-  f ← field_in bytes
-  a ← asked_of f.0
-  Some (a, f.1)
-
 abbrev pub text_of : List ℕ → Option (List ℕ)
 text_of bytes = if is_utf8 bytes then Some bytes else None
 
@@ -104,7 +98,7 @@ files_in bytes = do
   table ← field_in schema.1
   grant ← number_in table.1
   binding ← number_in grant.1
-  asked ← asked_in binding.1
+  asked ← field_in binding.1
   version ← number_in asked.1
   hint ← field_in version.1
   place ← number_in hint.1
@@ -113,6 +107,7 @@ files_in bytes = do
   schema_text ← text_of schema.0
   table_text ← text_of table.0
   hint_text ← hint_of hint.0
+  asked_state ← asked_of asked.0
   Some (record {
     recipient = recipient_text;
     share = share_text;
@@ -120,7 +115,7 @@ files_in bytes = do
     table = table_text;
     grant = grant.0;
     binding = binding.0;
-    asked = asked.0;
+    asked = asked_state;
     version = version.0;
     hint = hint_text;
     place = place.0;
@@ -134,8 +129,8 @@ feed_in bytes = do
   table ← field_in schema.1
   grant ← number_in table.1
   binding ← number_in grant.1
-  asked_from ← asked_in binding.1
-  asked_to ← asked_in asked_from.1
+  asked_from ← field_in binding.1
+  asked_to ← field_in asked_from.1
   from ← number_in asked_to.1
   to ← number_in from.1
   place ← number_in to.1
@@ -143,6 +138,8 @@ feed_in bytes = do
   share_text ← text_of share.0
   schema_text ← text_of schema.0
   table_text ← text_of table.0
+  first_state ← asked_of asked_from.0
+  last_state ← asked_of asked_to.0
   Some (record {
     recipient = recipient_text;
     share = share_text;
@@ -150,21 +147,24 @@ feed_in bytes = do
     table = table_text;
     grant = grant.0;
     binding = binding.0;
-    asked_from = asked_from.0;
-    asked_to = asked_to.0;
+    asked_from = first_state;
+    asked_to = last_state;
     from = from.0;
     to = to.0;
     place = place.0;
   })
 
+abbrev pub listing_in : ListKind → List ℕ → Option Cursor
+listing_in k bytes = list_in k bytes >>= λ c. Some (cursor.List c)
+
 -- by the first field
 unfoldable pub by_first : List ℕ → List ℕ → Option Cursor
 by_first [] rest = None
 by_first (b ∷ bs) rest =
-    if b == 115 then (list_in kind.Shares rest >>= λ c. Some (cursor.List c))
-    else if b == 99 then (list_in kind.Schemas rest >>= λ c. Some (cursor.List c))
-    else if b == 116 then (list_in kind.Tables rest >>= λ c. Some (cursor.List c))
-    else if b == 97 then (list_in kind.AllTables rest >>= λ c. Some (cursor.List c))
+    if b == 115 then listing_in kind.Shares rest
+    else if b == 99 then listing_in kind.Schemas rest
+    else if b == 116 then listing_in kind.Tables rest
+    else if b == 97 then listing_in kind.AllTables rest
     else if b == 113 then (files_in rest >>= λ c. Some (cursor.Files c))
     else if b == 102 then (feed_in rest >>= λ c. Some (cursor.Feed c))
     else None

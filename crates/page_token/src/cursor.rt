@@ -1,5 +1,5 @@
 // What a page token stands for.
-use json_tree::Text;
+use json_tree::{Edition, Place, Text, Version};
 
 /// Which listing a page is of.
 #[derive(Clone, Copy, Debug, PartialEq, Eq)]
@@ -19,8 +19,8 @@ pub enum ListKind {
 pub enum Asked {
     /// The latest version.
     Latest,
-    /// A version, below 2^63.
-    Version(u64),
+    /// A version.
+    Version(Version),
     /// The version of a moment, in nanoseconds since 1970-01-01T00:00:00Z.
     Moment(i128),
 }
@@ -51,7 +51,7 @@ pub struct ListCursor {
     pub after: Text,
 }
 
-/// Where the files of a table go on. Editions, versions and places are below 2^63 in each cursor that has a token.
+/// Where the files of a table go on.
 #[derive(Drop)]
 pub struct FilesCursor {
     /// The name of the recipient that asked.
@@ -63,20 +63,20 @@ pub struct FilesCursor {
     /// The table's name.
     pub table: Text,
     /// The edition of the recipient's grant.
-    pub grant: u64,
+    pub grant: Edition,
     /// The edition of the table's binding.
-    pub binding: u64,
+    pub binding: Edition,
     /// The state that was asked for.
     pub asked: Asked,
     /// The version that is answered.
-    pub version: u64,
+    pub version: Version,
     /// The text that was used as the predicate.
     pub hint: Option<Text>,
     /// How many files were given.
-    pub place: u64,
+    pub place: Place,
 }
 
-/// Where the changes of a table go on. Editions, versions and places are below 2^63 in each cursor that has a token.
+/// Where the changes of a table go on.
 #[derive(Drop)]
 pub struct FeedCursor {
     /// The name of the recipient that asked.
@@ -88,17 +88,17 @@ pub struct FeedCursor {
     /// The table's name.
     pub table: Text,
     /// The edition of the recipient's grant.
-    pub grant: u64,
+    pub grant: Edition,
     /// The edition of the table's binding.
-    pub binding: u64,
+    pub binding: Edition,
     /// The first state that was asked for.
     pub asked_from: Asked,
     /// The last state that was asked for.
     pub asked_to: Asked,
     /// The first version that is answered.
-    pub from: u64,
+    pub from: Version,
     /// The last version that is answered.
-    pub to: u64,
+    pub to: Version,
     /// How many lines were given.
-    pub place: u64,
+    pub place: Place,
 }

@@ -8,7 +8,7 @@ mod reading;
 mod token;
 
 pub use cursor::{Asked, Cursor, FeedCursor, FilesCursor, ListCursor, ListKind};
-pub use token::{cursor_of, one_cursor, spell};
+pub use token::{cursor_of, cursors_are_spelt, one_cursor, spell};
 
 #[cfg(test)]
 mod tests;

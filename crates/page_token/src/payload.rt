@@ -1,12 +1,12 @@
 // Cursors spelt as payloads.
-ghost use Rattle.std.specs.Prelude.{◌≡◌, ◌++◌, [], ◌∷◌, IfOk, OnOk, IfSome, string_bytes};
+ghost use Rattle.std.specs.Prelude.{◌≡◌, ◌<◌, ◌^◌, ◌++◌, [], ◌∷◌, IfOk, OnOk, IfSome, string_bytes};
 ghost use Rattle.std.specs.List.{flat_map};
 ghost use Rattle.std.specs.Str.{IsUtf8};
 ghost use Rattle.std.specs.Fmt.{decimal};
-ghost use Rattle.page_token.specs.Payload.{field, kind_field, asked_field, hint_field, list_fields, files_fields, feed_fields, payload, IsAskedValue, IsListValue, IsFilesValue, IsFeedValue, IsValue};
+ghost use Rattle.page_token.specs.Payload.{field, kind_field, asked_field, hint_field, list_fields, files_fields, feed_fields, payload, IsAskedInRange, IsFilesInRange, IsFeedInRange, IsInRange, IsAskedValue, IsListValue, IsFilesValue, IsFeedValue, IsValue};
 
 use crate::cursor::{Asked, Cursor, FeedCursor, FilesCursor, ListCursor, ListKind};
-use json_tree::Text;
+use json_tree::{Edition, Place, Text, Version};
 use std::alloc::{AllocError, Global};
 
 // The first field of a listing.
@@ -25,10 +25,14 @@ fn kind_text(kind: ListKind) -> &'static str
 fn asked_text(alloc: Global, asked: &Asked) -> Result<String, AllocError>
     ensures text { IfOk result (λ t. string_bytes t ≡ asked_field asked.now) }
     ensures value { IsAskedValue asked.now }
+    ensures in_range { IsAskedInRange asked.now }
 {
     match *asked {
         Asked::Latest => String::from_str(alloc, "l"),
-        Asked::Version(version) => format!(in alloc; "v{version}"),
+        Asked::Version(version) => {
+            let version = version.get();
+            format!(in alloc; "v{version}")
+        }
         Asked::Moment(moment) => format!(in alloc; "m{moment}"),
     }
 }
@@ -63,9 +67,31 @@ fn push_number(alloc: Global, payload: &mut String, number: u64) -> Result<(), A
     push_field(alloc, payload, &text)
 }
 
+fn push_edition(alloc: Global, payload: &mut String, edition: Edition) -> Result<(), AllocError>
+    ensures text { OnOk result (string_bytes payload.new ≡ string_bytes payload.old ++ field (decimal edition)) }
+    ensures in_range { edition < 2 ^ 63 }
+{
+    push_number(alloc, payload, edition.get())
+}
+
+fn push_version(alloc: Global, payload: &mut String, version: Version) -> Result<(), AllocError>
+    ensures text { OnOk result (string_bytes payload.new ≡ string_bytes payload.old ++ field (decimal version)) }
+    ensures in_range { version < 2 ^ 63 }
+{
+    push_number(alloc, payload, version.get())
+}
+
+fn push_place(alloc: Global, payload: &mut String, place: Place) -> Result<(), AllocError>
+    ensures text { OnOk result (string_bytes payload.new ≡ string_bytes payload.old ++ field (decimal place)) }
+    ensures in_range { place < 2 ^ 63 }
+{
+    push_number(alloc, payload, place.get())
+}
+
 fn push_asked(alloc: Global, payload: &mut String, asked: &Asked) -> Result<(), AllocError>
     ensures text { OnOk result (string_bytes payload.new ≡ string_bytes payload.old ++ field (asked_field asked.now)) }
     ensures value { IsAskedValue asked.now }
+    ensures in_range { IsAskedInRange asked.now }
 {
     let text = asked_text(alloc, asked)?;
     push_field(alloc, payload, &text)
@@ -121,6 +147,7 @@ fn list_payload(alloc: Global, list: &ListCursor) -> Result<String, AllocError>
 fn files_payload(alloc: Global, files: &FilesCursor) -> Result<String, AllocError>
     ensures text { IfOk result (λ p. string_bytes p ≡ flat_map field (files_fields files.now)) }
     ensures value { IfOk result (λ _. IsFilesValue files.now) }
+    ensures in_range { IfOk result (λ _. IsFilesInRange files.now) }
 {
     let mut payload = front_of(
         alloc,
@@ -130,18 +157,19 @@ fn files_payload(alloc: Global, files: &FilesCursor) -> Result<String, AllocErro
         &files.schema,
         &files.table,
     )?;
-    push_number(alloc, &mut payload, files.grant)?;
-    push_number(alloc, &mut payload, files.binding)?;
+    push_edition(alloc, &mut payload, files.grant)?;
+    push_edition(alloc, &mut payload, files.binding)?;
     push_asked(alloc, &mut payload, &files.asked)?;
-    push_number(alloc, &mut payload, files.version)?;
+    push_version(alloc, &mut payload, files.version)?;
     push_hint(alloc, &mut payload, &files.hint)?;
-    push_number(alloc, &mut payload, files.place)?;
+    push_place(alloc, &mut payload, files.place)?;
     Ok(payload)
 }
 
 fn feed_payload(alloc: Global, feed: &FeedCursor) -> Result<String, AllocError>
     ensures text { IfOk result (λ p. string_bytes p ≡ flat_map field (feed_fields feed.now)) }
     ensures value { IfOk result (λ _. IsFeedValue feed.now) }
+    ensures in_range { IfOk result (λ _. IsFeedInRange feed.now) }
 {
     let mut payload = front_of(
         alloc,
@@ -151,13 +179,13 @@ fn feed_payload(alloc: Global, feed: &FeedCursor) -> Result<String, AllocError>
         &feed.schema,
         &feed.table,
     )?;
-    push_number(alloc, &mut payload, feed.grant)?;
-    push_number(alloc, &mut payload, feed.binding)?;
+    push_edition(alloc, &mut payload, feed.grant)?;
+    push_edition(alloc, &mut payload, feed.binding)?;
     push_asked(alloc, &mut payload, &feed.asked_from)?;
     push_asked(alloc, &mut payload, &feed.asked_to)?;
-    push_number(alloc, &mut payload, feed.from)?;
-    push_number(alloc, &mut payload, feed.to)?;
-    push_number(alloc, &mut payload, feed.place)?;
+    push_version(alloc, &mut payload, feed.from)?;
+    push_version(alloc, &mut payload, feed.to)?;
+    push_place(alloc, &mut payload, feed.place)?;
     Ok(payload)
 }
 
@@ -165,6 +193,7 @@ fn feed_payload(alloc: Global, feed: &FeedCursor) -> Result<String, AllocError>
 pub(crate) fn payload_of(alloc: Global, cursor: &Cursor) -> Result<String, AllocError>
     ensures text { IfOk result (λ p. string_bytes p ≡ payload cursor.now) }
     ensures value { IfOk result (λ _. IsValue cursor.now) }
+    ensures in_range { IfOk result (λ _. IsInRange cursor.now) }
 {
     match cursor {
         Cursor::List(list) => list_payload(alloc, list),

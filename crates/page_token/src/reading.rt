@@ -1,13 +1,13 @@
 // Payloads read. What is read is no more than a guess: the caller spells it again and compares.
 ghost use Rattle.std.specs.Prelude.{◌≡◌, ◌^◌, ◌<◌, ◌==◌, Some, position, IfOk, IfSome};
-ghost use Rattle.page_token.specs.Payload.{IsAskedInRange, IsFilesInRange, IsFeedInRange, IsInRange, IsPayload};
+ghost use Rattle.page_token.specs.Payload.{IsPayload};
 ghost use Rattle.page_token.specs.declared.cursor.Cursor.{Cursor};
-ghost use Rattle.page_token.specs.Reading.{Gives, digits_in, field_in, number_in, moment_of, asked_of, asked_in, text_of, hint_of, list_in, files_in, feed_in, by_first, cursor_in};
+ghost use Rattle.page_token.specs.Reading.{Gives, digits_in, field_in, number_in, moment_of, asked_of, text_of, hint_of, list_in, files_in, feed_in, listing_in, by_first, cursor_in};
 
 use crate::cursor::{Asked, Cursor, FeedCursor, FilesCursor, ListCursor, ListKind};
 use crate::fault::Fault;
 use crate::payload::payload_of;
-use json_tree::Text;
+use json_tree::{Edition, Place, Text, Version};
 use std::alloc::{AllocError, Global};
 
 // The number that the digits write, below the limit. Of no digits it is 0.
@@ -71,6 +71,36 @@ fn number_in(bytes: &[u8]) -> Result<(u64, &[u8]), Fault>
     Ok((number as u64, rest))
 }
 
+fn edition_of(number: u64) -> Edition
+    requires { number < 2 ^ 63 }
+    ensures { result ≡ number }
+{
+    match Edition::of(number) {
+        Some(edition) => edition,
+        None => unreachable!(),
+    }
+}
+
+fn version_of(number: u64) -> Version
+    requires { number < 2 ^ 63 }
+    ensures { result ≡ number }
+{
+    match Version::of(number) {
+        Some(version) => version,
+        None => unreachable!(),
+    }
+}
+
+fn place_of(number: u64) -> Place
+    requires { number < 2 ^ 63 }
+    ensures { result ≡ number }
+{
+    match Place::of(number) {
+        Some(place) => place,
+        None => unreachable!(),
+    }
+}
+
 #[tactic(auto, unfolding(crate::specs::Reading::moment_of))]
 fn moment_of(field: &[u8]) -> Result<i128, Fault>
     ensures { Gives (λ z. z) result (moment_of field.now) }
@@ -90,24 +120,14 @@ fn moment_of(field: &[u8]) -> Result<i128, Fault>
 
 #[tactic(auto, unfolding(crate::specs::Reading::asked_of))]
 fn asked_of(field: &[u8]) -> Result<Asked, Fault>
-    ensures value { Gives (λ a. a) result (asked_of field.now) }
-    ensures in_range { IfOk result IsAskedInRange }
+    ensures { Gives (λ a. a) result (asked_of field.now) }
 {
     match field {
         [b'l', ..] => Ok(Asked::Latest),
-        [b'v', digits @ ..] => Ok(Asked::Version(digits_in(digits, 1 << 63)? as u64)),
+        [b'v', digits @ ..] => Ok(Asked::Version(version_of(digits_in(digits, 1 << 63)? as u64))),
         [b'm', moment @ ..] => Ok(Asked::Moment(moment_of(moment)?)),
         _ => Err(Fault::NotSpelt),
     }
-}
-
-#[tactic(auto, unfolding(crate::specs::Reading::asked_in))]
-fn asked_in(bytes: &[u8]) -> Result<(Asked, &[u8]), Fault>
-    ensures value { Gives (λ x. (x.0, x.1.now)) result (asked_in bytes.now) }
-    ensures in_range { IfOk result (λ x. IsAskedInRange x.0) }
-{
-    let (field, rest) = field_in(bytes)?;
-    Ok((asked_of(field)?, rest))
 }
 
 fn text_of(alloc: Global, field: &[u8]) -> Result<Text, Fault>
@@ -153,8 +173,7 @@ fn list_in(alloc: Global, kind: ListKind, bytes: &[u8]) -> Result<ListCursor, Fa
 
 #[tactic(auto, unfolding(crate::specs::Reading::files_in))]
 fn files_in(alloc: Global, bytes: &[u8]) -> Result<FilesCursor, Fault>
-    ensures value { Gives (λ c. c) result (files_in bytes.now) }
-    ensures in_range { IfOk result IsFilesInRange }
+    ensures { Gives (λ c. c) result (files_in bytes.now) }
 {
     let (recipient, rest) = field_in(bytes)?;
     let (share, rest) = field_in(rest)?;
@@ -162,7 +181,7 @@ fn files_in(alloc: Global, bytes: &[u8]) -> Result<FilesCursor, Fault>
     let (table, rest) = field_in(rest)?;
     let (grant, rest) = number_in(rest)?;
     let (binding, rest) = number_in(rest)?;
-    let (asked, rest) = asked_in(rest)?;
+    let (asked, rest) = field_in(rest)?;
     let (version, rest) = number_in(rest)?;
     let (hint, rest) = field_in(rest)?;
     let (place, _) = number_in(rest)?;
@@ -171,24 +190,24 @@ fn files_in(alloc: Global, bytes: &[u8]) -> Result<FilesCursor, Fault>
     let schema = text_of(alloc, schema)?;
     let table = text_of(alloc, table)?;
     let hint = hint_of(alloc, hint)?;
+    let asked = asked_of(asked)?;
     Ok(FilesCursor {
         recipient,
         share,
         schema,
         table,
-        grant,
-        binding,
+        grant: edition_of(grant),
+        binding: edition_of(binding),
         asked,
-        version,
+        version: version_of(version),
         hint,
-        place,
+        place: place_of(place),
     })
 }
 
 #[tactic(auto, unfolding(crate::specs::Reading::feed_in))]
 fn feed_in(alloc: Global, bytes: &[u8]) -> Result<FeedCursor, Fault>
-    ensures value { Gives (λ c. c) result (feed_in bytes.now) }
-    ensures in_range { IfOk result IsFeedInRange }
+    ensures { Gives (λ c. c) result (feed_in bytes.now) }
 {
     let (recipient, rest) = field_in(bytes)?;
     let (share, rest) = field_in(rest)?;
@@ -196,8 +215,8 @@ fn feed_in(alloc: Global, bytes: &[u8]) -> Result<FeedCursor, Fault>
     let (table, rest) = field_in(rest)?;
     let (grant, rest) = number_in(rest)?;
     let (binding, rest) = number_in(rest)?;
-    let (asked_from, rest) = asked_in(rest)?;
-    let (asked_to, rest) = asked_in(rest)?;
+    let (asked_from, rest) = field_in(rest)?;
+    let (asked_to, rest) = field_in(rest)?;
     let (from, rest) = number_in(rest)?;
     let (to, rest) = number_in(rest)?;
     let (place, _) = number_in(rest)?;
@@ -205,31 +224,39 @@ fn feed_in(alloc: Global, bytes: &[u8]) -> Result<FeedCursor, Fault>
     let share = text_of(alloc, share)?;
     let schema = text_of(alloc, schema)?;
     let table = text_of(alloc, table)?;
+    let asked_from = asked_of(asked_from)?;
+    let asked_to = asked_of(asked_to)?;
     Ok(FeedCursor {
         recipient,
         share,
         schema,
         table,
-        grant,
-        binding,
+        grant: edition_of(grant),
+        binding: edition_of(binding),
         asked_from,
         asked_to,
-        from,
-        to,
-        place,
+        from: version_of(from),
+        to: version_of(to),
+        place: place_of(place),
     })
+}
+
+// A listing of that kind.
+fn listing_in(alloc: Global, kind: ListKind, rest: &[u8]) -> Result<Cursor, Fault>
+    ensures { Gives (λ c. c) result (listing_in kind rest.now) }
+{
+    Ok(Cursor::List(list_in(alloc, kind, rest)?))
 }
 
 #[tactic(auto, unfolding(crate::specs::Reading::by_first))]
 fn by_first(alloc: Global, first: &[u8], rest: &[u8]) -> Result<Cursor, Fault>
-    ensures value { Gives (λ c. c) result (by_first first.now rest.now) }
-    ensures in_range { IfOk result IsInRange }
+    ensures { Gives (λ c. c) result (by_first first.now rest.now) }
 {
     match first {
-        [b's', ..] => Ok(Cursor::List(list_in(alloc, ListKind::Shares, rest)?)),
-        [b'c', ..] => Ok(Cursor::List(list_in(alloc, ListKind::Schemas, rest)?)),
-        [b't', ..] => Ok(Cursor::List(list_in(alloc, ListKind::Tables, rest)?)),
-        [b'a', ..] => Ok(Cursor::List(list_in(alloc, ListKind::AllTables, rest)?)),
+        [b's', ..] => listing_in(alloc, ListKind::Shares, rest),
+        [b'c', ..] => listing_in(alloc, ListKind::Schemas, rest),
+        [b't', ..] => listing_in(alloc, ListKind::Tables, rest),
+        [b'a', ..] => listing_in(alloc, ListKind::AllTables, rest),
         [b'q', ..] => Ok(Cursor::Files(files_in(alloc, rest)?)),
         [b'f', ..] => Ok(Cursor::Feed(feed_in(alloc, rest)?)),
         _ => Err(Fault::NotSpelt),
@@ -239,8 +266,7 @@ fn by_first(alloc: Global, first: &[u8], rest: &[u8]) -> Result<Cursor, Fault>
 // The cursor whose payload the bytes are, if they are one.
 #[tactic(auto, unfolding(crate::specs::Reading::cursor_in))]
 pub(crate) fn cursor_in(alloc: Global, payload: &[u8]) -> Result<Cursor, Fault>
-    ensures value { Gives (λ c. c) result (cursor_in payload.now) }
-    ensures in_range { IfOk result IsInRange }
+    ensures { Gives (λ c. c) result (cursor_in payload.now) }
 {
     let (first, rest) = field_in(payload)?;
     by_first(alloc, first, rest)

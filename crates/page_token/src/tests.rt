@@ -1,9 +1,7 @@
 // Tokens under a key of 32 bytes 0x01. The tags are from Python's `hmac`, and the base64 text from its `base64`.
-ghost use Rattle.std.specs.Prelude.{◌<◌, ◌^◌, IfOk};
-ghost use Rattle.page_token.specs.Payload.{IsAskedInRange, IsInRange};
-
 use super::*;
-use json_tree::Text;
+use hmac_core::HmacKey;
+use json_tree::{Edition, Place, Text, Version};
 use std::alloc::{AllocError, Global};
 use std::test::Fail;
 
@@ -29,81 +27,84 @@ fn text(alloc: Global, text: &str) -> Result<Text, AllocError> {
     Ok(Text::of(String::from_str(alloc, text)?))
 }
 
-fn files(alloc: Global, asked: Asked, hint: Option<Text>, place: u64) -> Result<Cursor, AllocError>
-    requires asked { IsAskedInRange asked }
-    requires place { place < 2 ^ 63 }
-    ensures { IfOk result IsInRange }
-{
+fn edition(times: u64) -> Result<Edition, Fail> {
+    Ok(Edition::of(times).ok_or("an edition")?)
+}
+
+fn version(number: u64) -> Result<Version, Fail> {
+    Ok(Version::of(number).ok_or("a version")?)
+}
+
+fn place(before: u64) -> Result<Place, Fail> {
+    Ok(Place::of(before).ok_or("a place")?)
+}
+
+fn files(alloc: Global, asked: Asked, hint: Option<Text>, before: u64) -> Result<Cursor, Fail> {
     Ok(Cursor::Files(FilesCursor {
         recipient: text(alloc, "r1")?,
         share: text(alloc, "s1")?,
         schema: text(alloc, "sc")?,
         table: text(alloc, "t1")?,
-        grant: 1,
-        binding: 1,
+        grant: edition(1)?,
+        binding: edition(1)?,
         asked,
-        version: 4,
+        version: version(4)?,
         hint,
-        place,
+        place: place(before)?,
     }))
 }
 
-#[test]
-fn spells_files(rt: HostRuntime) -> Result<(), Fail> {
-    let alloc = rt.alloc();
-    let cursor = files(alloc, Asked::Latest, None, 2)?;
-    assert!(rt; spell(alloc, &KEY, &cursor)?.as_str() == FILES);
-    Ok(())
-}
-
-#[test]
-fn spells_a_moment_and_a_hint(rt: HostRuntime) -> Result<(), Fail> {
-    let alloc = rt.alloc();
-    let hint = Some(text(alloc, "{\"op\":\"isNull\"}")?);
-    let cursor = files(alloc, Asked::Moment(1_700_000_000_000_000_000), hint, 0)?;
-    assert!(rt; spell(alloc, &KEY, &cursor)?.as_str() == HINTED);
-    Ok(())
-}
-
-#[test]
-fn spells_a_listing(rt: HostRuntime) -> Result<(), Fail> {
-    let alloc = rt.alloc();
-    let cursor = Cursor::List(ListCursor {
+fn all_tables(alloc: Global) -> Result<Cursor, Fail> {
+    Ok(Cursor::List(ListCursor {
         kind: ListKind::AllTables,
         recipient: text(alloc, "r1")?,
         share: text(alloc, "s1")?,
         schema: text(alloc, "")?,
         after: text(alloc, "sc/t1")?,
-    });
-    assert!(rt; spell(alloc, &KEY, &cursor)?.as_str() == ALL_TABLES);
-    Ok(())
+    }))
 }
 
-#[test]
-fn spells_a_feed(rt: HostRuntime) -> Result<(), Fail> {
-    let alloc = rt.alloc();
-    let cursor = Cursor::Feed(FeedCursor {
+fn feed(alloc: Global) -> Result<Cursor, Fail> {
+    Ok(Cursor::Feed(FeedCursor {
         recipient: text(alloc, "r1")?,
         share: text(alloc, "s1")?,
         schema: text(alloc, "sc")?,
         table: text(alloc, "t1")?,
-        grant: 7,
-        binding: 3,
-        asked_from: Asked::Version(0),
+        grant: edition(7)?,
+        binding: edition(3)?,
+        asked_from: Asked::Version(version(0)?),
         asked_to: Asked::Moment(-5),
-        from: 0,
-        to: (1 << 63) - 1,
-        place: 12,
-    });
-    assert!(rt; spell(alloc, &KEY, &cursor)?.as_str() == FEED);
+        from: version(0)?,
+        to: version((1 << 63) - 1)?,
+        place: place(12)?,
+    }))
+}
+
+#[test]
+fn spells_each_kind(rt: HostRuntime) -> Result<(), Fail> {
+    let alloc = rt.alloc();
+    let hint = Some(text(alloc, "{\"op\":\"isNull\"}")?);
+    let cursors = [
+        (files(alloc, Asked::Latest, None, 2)?, FILES),
+        (
+            files(alloc, Asked::Moment(1_700_000_000_000_000_000), hint, 0)?,
+            HINTED,
+        ),
+        (all_tables(alloc)?, ALL_TABLES),
+        (feed(alloc)?, FEED),
+    ];
+    let key = HmacKey::of(&KEY);
+    for (cursor, token) in &cursors {
+        assert!(rt; spell(alloc, &key, cursor)?.as_str() == *token);
+    }
     Ok(())
 }
 
 // The place of the cursor that the token stands for, and 100 for a listing.
 fn place_in(alloc: Global, token: &str) -> Result<Option<u64>, AllocError> {
-    match cursor_of(alloc, &KEY, token)? {
-        Some(Cursor::Files(files)) => Ok(Some(files.place)),
-        Some(Cursor::Feed(feed)) => Ok(Some(feed.place)),
+    match cursor_of(alloc, &HmacKey::of(&KEY), token)? {
+        Some(Cursor::Files(files)) => Ok(Some(files.place.get())),
+        Some(Cursor::Feed(feed)) => Ok(Some(feed.place.get())),
         Some(Cursor::List(_)) => Ok(Some(100)),
         None => Ok(None),
     }
@@ -122,7 +123,8 @@ fn reads_tokens(rt: HostRuntime) -> Result<(), Fail> {
 #[test]
 fn refuses_other_texts(rt: HostRuntime) -> Result<(), Fail> {
     let alloc = rt.alloc();
-    assert!(rt; cursor_of(alloc, &[2; 32], FILES)?.is_none());
+    assert!(rt; cursor_of(alloc, &HmacKey::of(&[2; 32]), FILES)?.is_none());
+    let key = HmacKey::of(&KEY);
     for other in [
         "",
         ".",
@@ -140,7 +142,23 @@ fn refuses_other_texts(rt: HostRuntime) -> Result<(), Fail> {
         "MTpxLDI6cjEsMjpzMSwyOnNjLDI6dDEsMToxLDE6MSwxOmwsMTo0LDE6LSwxOjIseA.41b9dd7ed8a687ef640a17bd29c54d5c89ab8205d4230631f5649fab7cb5eb8f",
         "MTpjLDE6_ywyOnMxLDA6LDA6LA.bde9adf42feaf2013c17b70f6aa9051b5318948f5415266eb13d5479f4401602",
     ] {
-        assert!(rt; cursor_of(alloc, &KEY, other)?.is_none(), "{other}");
+        assert!(rt; cursor_of(alloc, &key, other)?.is_none(), "{other}");
     }
+    Ok(())
+}
+
+// A hint of a mebibyte; the length is that of Python's `base64` of the payload, and of the tag.
+#[test]
+fn a_long_hint_comes_back(rt: HostRuntime) -> Result<(), Fail> {
+    let alloc = rt.alloc();
+    let mut hint = String::new(alloc);
+    for _ in 0..1 << 16 {
+        hint.push_str("0123456789abcdef")?;
+    }
+    let key = HmacKey::of(&KEY);
+    let cursor = files(alloc, Asked::Latest, Some(Text::of(hint)), 2)?;
+    let token = spell(alloc, &key, &cursor)?;
+    assert!(rt; token.as_str().len() == 1_398_174 + 65);
+    assert!(rt; cursor_of(alloc, &key, token.as_str())?.is_some());
     Ok(())
 }

@@ -50,11 +50,11 @@ by_edit m edits (edit.Revoke r s) fits ok = after_revoke m edits r s fits (not_f
 pub fits_after : (m : Maps) (edits : List Edit) (e : Edit) → Fits m edits → refusal_of edits e ≡ None → Fits (after m e) (more edits e)
 fits_after m edits e fits none = by_edit m edits e fits (accepted (is_missing edits e) (is_taken edits e) (is_token_taken edits e) (limit_passed edits e) none)
 
-one_more_fits : (k c n : ℕ) → k ≡ c → c ≤ n → n + 1 < 2 ^ 64 → k + 1 < 2 ^ 64
+one_more_fits : (k c n : ℕ) → k ≡ c → c ≤ n → n + 1 < 2 ^ 63 → k + 1 < 2 ^ 63
 one_more_fits k c n is le below = omega arith
 
 -- no count is above the number of edits
-pub counts_fit : (m : Maps) (edits : List Edit) → Fits m edits → length edits + 1 < 2 ^ 64 → CountsFit m
+pub counts_fit : (m : Maps) (edits : List Edit) → Fits m edits → length edits + 1 < 2 ^ 63 → CountsFit m
 counts_fit m edits fits below = record {
   shares = λ q. one_more_fits _ _ _ (fits.shares q).times (count_by-le-length (makes_share q) edits) below;
   recipients = λ q. one_more_fits _ _ _ (fits.recipients q).times (count_by-le-length (makes_recipient q) edits) below;
@@ -73,24 +73,24 @@ nothing_refuses edits e r u is ok = none_of_ok (refusal_of edits e) u (sym is �
 ready_case : (h : Held) (o : Option Spare) (s : Spare) → o ≡ Some s → IsReady h o → HasRoom h × IsSpare s
 ready_case h o s is ready = subst (IsReady h) is ready
 
-count_case : (count : ℕ) (o : Option Spare) (s : Spare) → o ≡ Some s → count + spare_count o < 2 ^ 64 → count + 1 < 2 ^ 64
-count_case count o s is below = subst (λ p. count + spare_count p < 2 ^ 64) is below
+count_case : (count : ℕ) (o : Option Spare) (s : Spare) → o ≡ Some s → count + spare_count o < 2 ^ 63 → count + 1 < 2 ^ 63
+count_case count o s is below = subst (λ p. count + spare_count p < 2 ^ 63) is below
 
 -- what holds before an edit that is accepted, where memory is taken for it
 pub record Before (h : Held) (edits : List Edit) (count : ℕ) (s : Spare) : Type 0 where
   pub room : HasRoom h
   pub spare : IsSpare s
   pub counts : CountsFit (maps_of h)
-  pub below : count + 1 < 2 ^ 64
+  pub below : count + 1 < 2 ^ 63
 
 pub before_edit : (h : Held) (edits : List Edit) (count : ℕ) (o : Option Spare) (s : Spare) → IsCatalog h edits count o → o ≡ Some s → Before h edits count s
 before_edit h edits count o s is some =
     let ready = ready_case h o s some is.ready in
-    let below : count + 1 < 2 ^ 64 = count_case count o s some is.below in
+    let below : count + 1 < 2 ^ 63 = count_case count o s some is.below in
     record {
       room = ready.0;
       spare = ready.1;
-      counts = counts_fit (maps_of h) edits is.fits (subst (λ n. n + 1 < 2 ^ 64) is.counted below);
+      counts = counts_fit (maps_of h) edits is.fits (subst (λ n. n + 1 < 2 ^ 63) is.counted below);
       below = below;
     }
 
@@ -101,6 +101,6 @@ catalog_after h h' edits e count o o' s is some none accepted made =
     record {
       fits = subst (λ m. Fits m (more edits e)) (sym made) (fits_after (maps_of h) edits e is.fits accepted);
       counted = ap (λ n. n + 1) is.counted ∙ sym (length-append edits (e ∷ []));
-      below = subst (λ p. count + 1 + spare_count p < 2 ^ 64) (sym none) (omega (arith, before.below));
+      below = subst (λ p. count + 1 + spare_count p < 2 ^ 63) (sym none) (omega (arith, before.below));
       ready = subst (IsReady h') (sym none) tt;
     }

@@ -10,7 +10,7 @@ use Rattle.share_catalog.specs.declared.state.GrantState.{GrantState}
 use Rattle.share_catalog.specs.Catalogue.{bound_location, bound_table, granted, granted_pair, grants_pair, has_recipient, has_share, is_pair, is_table, made_recipient, made_share, same_pair, says_grant}
 use Rattle.share_catalog.specs.Entries.{texts}
 use Rattle.share_catalog.specs.Fits.{Fits, GrantFits}
-use Rattle.share_catalog.specs.Maps.{Maps, after, bytes_cmp, edition_of_grant, grant_in, granted_by, recipient_in, recipient_stands, recipient_times, share_in, share_stands, share_times, since}
+use Rattle.share_catalog.specs.Maps.{Maps, after, bytes_cmp, grant_times, grant_in, granted_by, recipient_in, recipient_stands, recipient_times, share_in, share_stands, share_times, since}
 use Rattle.share_catalog.specs.TableNames.{texts_cmp}
 use Rattle.share_catalog.proofs.AfterShares.{stands_since}
 use Rattle.share_catalog.proofs.Orders.{texts_total}
@@ -43,7 +43,7 @@ after_grant m edits a b fits has =
     let e : Edit = edit.Grant a b in
     let ro : Option RecipientState = recipient_in m a in
     let so : Option ShareState = share_in m b in
-    let st : GrantState = record { granted = true; recipient_made = recipient_times ro; share_made = share_times so; edition = edition_of_grant (grant_in m a b) + 1 } in
+    let st : GrantState = record { granted = true; recipient_made = recipient_times ro; share_made = share_times so; edition = grant_times (grant_in m a b) + 1 } in
     let stand = each (has_recipient edits a) (has_share edits b) has in
     record {
       sorted = record {
@@ -85,7 +85,7 @@ after_revoke m edits a b fits has =
     let ro : Option RecipientState = recipient_in m a in
     let so : Option ShareState = share_in m b in
     let o : Option GrantState = grant_in m a b in
-    let st : GrantState = record { granted = false; recipient_made = recipient_times ro; share_made = share_times so; edition = edition_of_grant o } in
+    let st : GrantState = record { granted = false; recipient_made = recipient_times ro; share_made = share_times so; edition = grant_times o } in
     let there : is_some o ≡ true = grant_there ro so o ((fits.grants a b).given ∙ has) in
     record {
       sorted = record {

@@ -1,13 +1,13 @@
-mod After
-mod AfterGrants
-mod AfterRecipients
-mod AfterShares
-mod KeyTests
-mod LawProofs
-mod ListingLemmas
-mod Orders
-mod Quiet
-mod Refusals
-mod Set
-mod SortedLemmas
-mod Words
+pub mod After
+pub mod AfterGrants
+pub mod AfterRecipients
+pub mod AfterShares
+pub mod KeyTests
+pub mod LawProofs
+pub mod ListingLemmas
+pub mod Orders
+pub mod Quiet
+pub mod Refusals
+pub mod Set
+pub mod SortedLemmas
+pub mod Words

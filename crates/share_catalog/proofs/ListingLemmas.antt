@@ -1,9 +1,10 @@
 -- What is run through among entries in order is what begins with a text.
-use Rattle.std.proofs.Common.{◌≡◌, ℕ, zero, suc, ◌+◌, ◌<◌, ◌≤◌, List, [], ◌∷◌, ◌++◌, Bool, true, false, cond, ◌&&◌, ◌||◌, T, Option, Some, None, map, option_map, option_and_then, length, drop, get_or, refl, sym, ap, ◌∙◌, subst, Less, Equal, Greater, Ordering, arith, true≢false, inl, inr, ◌⊎◌, Result, Ok, Err, IfOk}
+use Rattle.std.proofs.Common.{◌≡◌, ℕ, zero, suc, ◌+◌, ◌<◌, ◌≤◌, List, [], ◌∷◌, ◌++◌, Bool, true, false, cond, ◌&&◌, ◌||◌, T, Option, Some, None, map, option_map, option_and_then, length, drop, get_or, refl, sym, ap, ◌∙◌, subst, Less, Equal, Greater, Ordering, arith, true≢false, inl, inr, ◌⊎◌, Result, Ok, Err, IfOk, All}
 use Rattle.std.specs.Prelude.{is_some}
 use Rattle.std.specs.List.{cons_option}
 use Rattle.std.specs.List.Sorted.{IsPartitionedBy}
 use Rattle.std.proofs.lemmas.Bool.{cases_lt}
+use Rattle.std.proofs.lemmas.List.Elements.{All-nil, All-cons}
 use Rattle.std.specs.Ordering.{is_lt, is_eq, ordering_then, ordering_reverse, eq_by_cmp}
 use Rattle.std.specs.FinMap.{nat_cmp-IsAntisymmetric, slice_cmp-IsAntisymmetric}
 use Rattle.std.specs.FinMap.Entries.{by_order, find, below_all, is_sorted}
@@ -22,9 +23,9 @@ use Rattle.share_catalog.specs.Catalogue.{binding_edition, bound, grant_edition,
 use Rattle.share_catalog.specs.Entries.{entries}
 use Rattle.share_catalog.specs.Fits.{Fits}
 use Rattle.share_catalog.specs.Kept.{kept_grant, kept_table}
-use Rattle.share_catalog.specs.Listed.{bound_entry, grant_entry, run}
+use Rattle.share_catalog.specs.Listed.{bound_entry, grant_entry, run, whole_entry, whole_run}
 use Rattle.share_catalog.specs.Listing.{ListsBindings, ListsGrants}
-use Rattle.share_catalog.specs.Maps.{Maps, bound_by, bytes_cmp, edition_of_grant, grant_in, granted_by, recipient_in, share_in, share_stands, share_times, since, table_edition, table_in}
+use Rattle.share_catalog.specs.Maps.{Maps, bound_by, bytes_cmp, grant_times, grant_in, granted_by, recipient_in, share_in, share_stands, share_times, since, table_edition, table_in}
 use Rattle.share_catalog.specs.TableNames.{texts_cmp}
 use Rattle.share_catalog.proofs.Orders.{texts_total}
 use Rattle.share_catalog.proofs.SortedLemmas.{both, earlier, held, in_both, less, none_after, none_below, shown}
@@ -115,6 +116,31 @@ module _ {V Y : Type 0} (first : List ℕ) (keep : List (List ℕ) → V → Opt
   pub is_sorted-run : (es : List (List (List ℕ) × V)) → is_sorted texts_cmp es ≡ true → is_sorted texts_cmp (run first keep es) ≡ true
   is_sorted-run es sorted = shown _ (sorted_runs es (held _ sorted))
 
+module _ {V Y : Type 0} (first : List ℕ) (keep : List (List ℕ) → V → Option Y) where
+  -- the text before a key
+  abbrev pub behind : List (List ℕ) × Y → List (List ℕ) × Y
+  behind e = (first ∷ e.0, e.1)
+
+  whole_cons : (a : List ℕ) (rest : List (List ℕ)) (o : Option Y) (xs : List (List (List ℕ) × Y)) → first ≡ a
+      → cons_option (option_map (λ y. (a ∷ rest, y)) o) (map behind xs) ≡ map behind (cons_option (option_map (λ y. (rest, y)) o) xs)
+  whole_cons a rest None xs same = refl
+  whole_cons a rest (Some y) xs same = ap (λ x. (x ∷ rest, y) ∷ map behind xs) (sym same)
+
+  whole_step : (o : Ordering) (a : List ℕ) (rest : List (List ℕ)) (v : V) (xs : List (List (List ℕ) × Y)) → bytes_cmp first a ≡ o
+      → by_order o [] (cons_option (option_map (λ y. (a ∷ rest, y)) (keep rest v)) (map behind xs)) (map behind xs)
+      ≡ map behind (by_order o [] (cons_option (option_map (λ y. (rest, y)) (keep rest v)) xs) xs)
+  whole_step Less a rest v xs e = refl
+  whole_step Equal a rest v xs e = whole_cons a rest (keep rest v) xs (slice_cmp-IsAntisymmetric nat_cmp-IsAntisymmetric first a e)
+  whole_step Greater a rest v xs e = refl
+
+  -- the keys that are whole are those behind the text
+  pub whole_is : (es : List (List (List ℕ) × V)) → whole_run first keep es ≡ map behind (run first keep es)
+  whole_is [] = refl
+  whole_is (([], v) ∷ es) = whole_is es
+  whole_is ((a ∷ rest, v) ∷ es) =
+      ap (λ xs. by_order (bytes_cmp first a) [] (cons_option (option_map (λ y. (a ∷ rest, y)) (keep rest v)) xs) xs) (whole_is es)
+      ∙ whole_step (bytes_cmp first a) a rest v (run first keep es) refl
+
 first_case : (o p : Ordering) → ordering_then o p ≡ Less → (o ≡ Less) ⊎ (o ≡ Equal)
 first_case Less p e = inl refl
 first_case Equal p e = inr refl
@@ -138,6 +164,12 @@ module _ {K V : Type 0} (seen : K → List (List ℕ)) (head : K → List ℕ) (
       ap (λ k. run first keep ((k, x.value) ∷ entries seen xs)) (shape x.key)
       ∙ skip_case first keep (head x.key) (tail x.key) x.value (entries seen xs) (nat_list_cmp_total.antisymm first (head x.key) ∙ ap ordering_reverse (before 0 x (omega arith) (omega arith)))
       ∙ run_later first keep xs i (λ k d low lt. before (suc k) d (omega arith) (omega (arith, lt)))
+
+  pub whole_run_later : {Y : Type 0} (first : List ℕ) (keep : List (List ℕ) → V → Option Y) (xs : List (Entry K V)) (i : ℕ)
+      → ((k : ℕ) (d : Entry K V) → 0 ≤ k → k < i → bytes_cmp (head (get_or xs k d).key) first ≡ Less)
+      → whole_run first keep (entries seen xs) ≡ whole_run first keep (entries seen (drop i xs))
+  whole_run_later first keep xs i before =
+      whole_is first keep (entries seen xs) ∙ ap (map (behind first keep)) (run_later first keep xs i before) ∙ sym (whole_is first keep (entries seen (drop i xs)))
 
   part_case : (xs : List (Entry K V)) (s : List ℕ) (i j : ℕ) (d : Entry K V) → is_sorted texts_cmp (entries seen xs) ≡ true → (i < j) ⊎ (j ≤ i) → i ≤ j → j < length xs
       → is_lt (bytes_cmp (head (get_or xs j d).key) s) ≡ true → is_lt (bytes_cmp (head (get_or xs i d).key) s) ≡ true
@@ -172,17 +204,53 @@ table_kept so q (Some t) = refl
 same_bound : (o o' : Option Binding) (n n' : ℕ) → o ≡ o' → n ≡ n' → option_map {U = Binding × ℕ} (λ b. (b, n)) o ≡ option_map {U = Binding × ℕ} (λ b. (b, n')) o'
 same_bound o o' n n' p q = rw (p, q) refl
 
-pub lists_bindings : (m : Maps) (edits : List Edit) (s : List ℕ) (items : List Bound) → Fits m edits → map bound_entry items ≡ run s (kept_table (share_in m s)) m.tables → ListsBindings edits s items
-lists_bindings m edits s items fits is = record {
-  ordered = ap (is_sorted texts_cmp) is ∙ is_sorted-run s (kept_table (share_in m s)) m.tables fits.sorted.tables;
-  exact = λ schema table.
-      let t : TableName = record { share = s; schema = schema; table = table } in
-      ap (find texts_cmp (schema ∷ table ∷ [])) is ∙ find-run s (kept_table (share_in m s)) (schema ∷ table ∷ []) m.tables fits.sorted.tables
-      ∙ table_kept (share_in m s) (schema ∷ table ∷ []) (table_in m t)
-      ∙ same_bound (bound_by (share_in m s) (table_in m t)) (bound edits t) (table_edition (table_in m t)) (binding_edition edits t) (fits.tables t).binding (fits.tables t).edition;
-}
+cons_parts : {A : Type 0} (x y : A) (xs ys : List A) → x ∷ xs ≡ y ∷ ys → (x ≡ y) × (xs ≡ ys)
+cons_parts x y xs ys e = (cc, cc)
 
-grant_kept : (m : Maps) (ro : Option RecipientState) (s : List ℕ) (o : Option GrantState) → option_and_then (kept_grant m ro (s ∷ [])) o ≡ said (granted_by ro (share_in m s) o) (edition_of_grant o)
+pair_parts : {A B : Type 0} (p q : A × B) → p ≡ q → (p.0 ≡ q.0) × (p.1 ≡ q.1)
+pair_parts p q e = (ap (λ x. x.0) e, ap (λ x. x.1) e)
+
+abbrev Row : Type 0
+Row = List (List ℕ) × (Binding × ℕ)
+
+abbrev row_behind : List ℕ → Row → Row
+row_behind s row = (s ∷ row.0, row.1)
+
+same_row : (k k' : List (List ℕ)) (x x' : Binding × ℕ) → k ≡ k' → x ≡ x' → ◌≡◌ {A = Row} (k, x) (k', x')
+same_row k k' x x' p q = rw (p, q) refl
+
+row_parts : (s : List ℕ) (b : Bound) (row : Row) → whole_entry b ≡ row_behind s row → (bound_entry b ≡ row) × (b.table.now.share ≡ s)
+row_parts s b row e =
+    let both = pair_parts {A = List (List ℕ)} {B = Binding × ℕ} (whole_entry b) (row_behind s row) e in
+    let key = cons_parts b.table.now.share s (b.table.now.schema ∷ b.table.now.table ∷ []) row.0 both.0 in
+    (same_row (b.table.now.schema ∷ b.table.now.table ∷ []) row.0 (b.binding.now, b.edition.now) row.1 key.1 both.1, key.0)
+
+-- the bindings by the names behind the share, and whose they are
+parted : (s : List ℕ) (items : List Bound) (rows : List Row) → map whole_entry items ≡ map (row_behind s) rows
+    → (map bound_entry items ≡ rows) × All (λ b. b.table.now.share ≡ s) items
+parted s [] [] e = (refl, All-nil (λ b. b.table.now.share ≡ s))
+parted s [] (row ∷ rows) e = absurd cc
+parted s (b ∷ items) [] e = absurd cc
+parted s (b ∷ items) (row ∷ rows) e =
+    let cut = cons_parts (whole_entry b) (row_behind s row) (map whole_entry items) (map (row_behind s) rows) e in
+    let here = row_parts s b row cut.0 in
+    let more = parted s items rows cut.1 in
+    (ap (λ r. r ∷ map bound_entry items) here.0 ∙ ap (λ rs. row ∷ rs) more.0, All-cons (λ x. x.table.now.share ≡ s) b items here.1 more.1)
+
+pub lists_bindings : (m : Maps) (edits : List Edit) (s : List ℕ) (items : List Bound) → Fits m edits → map whole_entry items ≡ whole_run s (kept_table (share_in m s)) m.tables → ListsBindings edits s items
+lists_bindings m edits s items fits whole =
+    let parts = parted s items (run s (kept_table (share_in m s)) m.tables) (whole ∙ whole_is s (kept_table (share_in m s)) m.tables) in
+    let is = parts.0 in record {
+      of = parts.1;
+      ordered = ap (is_sorted texts_cmp) is ∙ is_sorted-run s (kept_table (share_in m s)) m.tables fits.sorted.tables;
+      exact = λ schema table.
+          let t : TableName = record { share = s; schema = schema; table = table } in
+          ap (find texts_cmp (schema ∷ table ∷ [])) is ∙ find-run s (kept_table (share_in m s)) (schema ∷ table ∷ []) m.tables fits.sorted.tables
+          ∙ table_kept (share_in m s) (schema ∷ table ∷ []) (table_in m t)
+          ∙ same_bound (bound_by (share_in m s) (table_in m t)) (bound edits t) (table_edition (table_in m t)) (binding_edition edits t) (fits.tables t).binding (fits.tables t).edition;
+    }
+
+grant_kept : (m : Maps) (ro : Option RecipientState) (s : List ℕ) (o : Option GrantState) → option_and_then (kept_grant m ro (s ∷ [])) o ≡ said (granted_by ro (share_in m s) o) (grant_times o)
 grant_kept m ro s None = refl
 grant_kept m ro s (Some g) = refl
 
@@ -195,5 +263,5 @@ lists_grants m edits r items fits is = record {
   exact = λ s.
       ap (find texts_cmp (s ∷ [])) is ∙ find-run r (kept_grant m (recipient_in m r)) (s ∷ []) m.grants fits.sorted.grants
       ∙ grant_kept m (recipient_in m r) s (grant_in m r s)
-      ∙ same_said (granted_by (recipient_in m r) (share_in m s) (grant_in m r s)) (granted edits r s) (edition_of_grant (grant_in m r s)) (grant_edition edits r s) (fits.grants r s).given (fits.grants r s).edition;
+      ∙ same_said (granted_by (recipient_in m r) (share_in m s) (grant_in m r s)) (granted edits r s) (grant_times (grant_in m r s)) (grant_edition edits r s) (fits.grants r s).given (fits.grants r s).edition;
 }

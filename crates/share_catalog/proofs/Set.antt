@@ -15,7 +15,7 @@ use Rattle.share_catalog.specs.declared.state.GrantState.{GrantState}
 use Rattle.share_catalog.specs.Catalogue.{binds_table, bound_table, granted_pair, grants_pair, has_recipient, has_share, is_pair, is_table, last_credential, made_recipient, made_share, recipients_made, says_binding, says_grant, says_share, shares_made}
 use Rattle.share_catalog.specs.Entries.{texts}
 use Rattle.share_catalog.specs.Fits.{GrantFits, RecipientFits, ShareFits, TableFits, makes_recipient, makes_share}
-use Rattle.share_catalog.specs.Maps.{bound_by, bytes_cmp, edition_of_grant, grant_recipient_made, grant_share_made, granted_by, is_granted, recipient_stands, recipient_times, share_stands, share_times, since, table_binding, table_edition, table_made}
+use Rattle.share_catalog.specs.Maps.{bound_by, bytes_cmp, grant_times, grant_recipient_made, grant_share_made, granted_by, is_granted, recipient_stands, recipient_times, share_stands, share_times, since, table_binding, table_edition, table_made}
 use Rattle.share_catalog.specs.TableNames.{parts_of, texts_cmp}
 use Rattle.share_catalog.proofs.KeyTests.{bytes_is, bytes_refl, name_put, pair_is, pair_put, pair_refl, table_is, table_put, table_refl}
 use Rattle.share_catalog.proofs.Quiet.{QuietRecipient, QuietShare, UnboundBy, UngrantedBy, grant_quiet, recipient_quiet, share_quiet, table_quiet}

@@ -29,5 +29,5 @@ IsReady h (Some s) = HasRoom h × IsSpare s
 pub record IsCatalog (h : Held) (edits : List Edit) (count : ℕ) (spare : Option Spare) : Type 0 where
   pub fits : Fits (maps_of h) edits
   pub counted : count ≡ length edits
-  pub below : count + spare_count spare < 2 ^ 64
+  pub below : count + spare_count spare < 2 ^ 63
   pub ready : IsReady h spare

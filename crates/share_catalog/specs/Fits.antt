@@ -9,7 +9,7 @@ use Rattle.share_catalog.specs.declared.state.RecipientState.{RecipientState}
 use Rattle.share_catalog.specs.declared.state.TableState.{TableState}
 use Rattle.share_catalog.specs.declared.state.GrantState.{GrantState}
 use Rattle.share_catalog.specs.Catalogue.{binding_edition, bound, distinct, grant_edition, granted, has_digest, has_recipient, has_share, is_holder, is_table, last_credential, locations_bound, pairs_granted, recipients_made, same_pair, shares_made, tables_bound}
-use Rattle.share_catalog.specs.Maps.{AreSorted, Maps, bound_by, edition_of_grant, grant_in, grant_recipient_made, grant_share_made, granted_by, holder_in, recipient_credential, recipient_in, recipient_stands, recipient_times, share_in, share_stands, share_times, table_edition, table_in, table_made}
+use Rattle.share_catalog.specs.Maps.{AreSorted, Maps, bound_by, grant_times, grant_in, grant_recipient_made, grant_share_made, granted_by, holder_in, recipient_credential, recipient_in, recipient_stands, recipient_times, share_in, share_stands, share_times, table_edition, table_in, table_made}
 
 abbrev pub makes_share : List ℕ → Edit → Bool
 makes_share s (edit.NewShare n) = bytes_eq n s
@@ -38,7 +38,7 @@ pub record TableFits (edits : List Edit) (t : TableName) (so : Option ShareState
 
 pub record GrantFits (edits : List Edit) (r s : List ℕ) (ro : Option RecipientState) (so : Option ShareState) (o : Option GrantState) : Type 0 where
   pub given : granted_by ro so o ≡ granted edits r s
-  pub edition : edition_of_grant o ≡ grant_edition edits r s
+  pub edition : grant_times o ≡ grant_edition edits r s
   pub recipient_made : grant_recipient_made o ≤ recipient_times ro
   pub share_made : grant_share_made o ≤ share_times so
   pub known : is_some o ≡ list_any (same_pair (r, s)) (pairs_granted edits)

@@ -85,9 +85,9 @@ abbrev pub grant_share_made : Option GrantState → ℕ
 grant_share_made None = 0
 grant_share_made (Some g) = g.share_made
 
-abbrev pub edition_of_grant : Option GrantState → ℕ
-edition_of_grant None = 0
-edition_of_grant (Some g) = g.edition
+abbrev pub grant_times : Option GrantState → ℕ
+grant_times None = 0
+grant_times (Some g) = g.edition
 
 abbrev pub share_in : Maps → List ℕ → Option ShareState
 share_in m s = find bytes_cmp s m.shares
@@ -207,12 +207,12 @@ after m (edit.Unbind t) = with_table t (record { binding = None; share_made = ta
 after m (edit.NewRecipient n c) = with_recipient n (record { stands = true; made = recipient_times (recipient_in m n) + 1; credential = c }) (put bytes_cmp c.digest n m.holders) m
 after m (edit.Rotate n c) = rotated (recipient_in m n) n c m
 after m (edit.DropRecipient n) = without_recipient (recipient_in m n) n m
-after m (edit.Grant r s) = with_grant r s true (edition_of_grant (grant_in m r s) + 1) m
-after m (edit.Revoke r s) = with_grant r s false (edition_of_grant (grant_in m r s)) m
+after m (edit.Grant r s) = with_grant r s true (grant_times (grant_in m r s) + 1) m
+after m (edit.Revoke r s) = with_grant r s false (grant_times (grant_in m r s)) m
 
 -- each count can grow by one
 pub record CountsFit (m : Maps) : Type 0 where
-  pub shares : (q : List ℕ) → share_times (share_in m q) + 1 < 2 ^ 64
-  pub recipients : (q : List ℕ) → recipient_times (recipient_in m q) + 1 < 2 ^ 64
-  pub tables : (q : TableName) → table_edition (table_in m q) + 1 < 2 ^ 64
-  pub grants : (r s : List ℕ) → edition_of_grant (grant_in m r s) + 1 < 2 ^ 64
+  pub shares : (q : List ℕ) → share_times (share_in m q) + 1 < 2 ^ 63
+  pub recipients : (q : List ℕ) → recipient_times (recipient_in m q) + 1 < 2 ^ 63
+  pub tables : (q : TableName) → table_edition (table_in m q) + 1 < 2 ^ 63
+  pub grants : (r s : List ℕ) → grant_times (grant_in m r s) + 1 < 2 ^ 63

@@ -4,7 +4,7 @@ ghost use Rattle.share_catalog.specs.Listing.{ListsBindings, ListsGrants};
 ghost use Rattle.share_catalog.specs.Catalogue.{IsHolder, binding_edition, bound, credential, grant_edition, granted, has_recipient, has_share, refusal_of};
 ghost use Rattle.share_catalog.specs.CatalogState.{CatalogState, unless};
 
-use crate::changes::{Spare, edition, table_counts};
+use crate::changes::{Spare, grant_times, table_times};
 use crate::credential::Credential;
 use crate::edit::{Binding, Edit, EditRefusal};
 use crate::held::{Held, is_there, stands};
@@ -12,8 +12,12 @@ use crate::listing::{Bound, Granted};
 use crate::name::CatalogName;
 use crate::past::Past;
 use crate::table_name::TableName;
+use json_tree::Edition;
 use std::alloc::{AllocError, Global};
 use std::marker::Model;
+
+// How many edits there may ever be, so that each edition is below 2^63.
+const MOST_EDITS: u64 = (1 << 63) - 1;
 
 /// The shares, the tables bound in them, the recipients and what they are granted, as a list of
 /// accepted edits leaves them.
@@ -52,7 +56,7 @@ impl Catalog {
     }
 
     /// Takes memory for one edit more, where none is spare. The error is want of memory, also where
-    /// 2^64 - 1 edits were accepted already, since so many can't be held.
+    /// 2^63 - 1 edits were accepted already: so many can't be held, and each edition stays below 2^63.
     pub fn reserve(&mut self, alloc: Global) -> Result<(), AllocError>
         ensures edits { self.new.edits ≡ self.old.edits }
         ensures spare { OnOk result (1 ≤ self.new.spare) }
@@ -61,7 +65,7 @@ impl Catalog {
         if self.spare.is_some() {
             return Ok(());
         }
-        if self.count == u64::MAX {
+        if self.count == MOST_EDITS {
             return Err(AllocError);
         }
         let spare = Spare::new(alloc)?;
@@ -147,10 +151,10 @@ impl Catalog {
     }
 
     /// How often the recipient was granted the share, whether or not it is now.
-    pub fn grant_edition(&self, recipient: &str, share: &str) -> u64
+    pub fn grant_edition(&self, recipient: &str, share: &str) -> Edition
         ensures { result ≡ grant_edition self.now.edits recipient.now share.now }
     {
-        edition(self.held.grant_state(recipient, share))
+        grant_times(self.held.grant_state(recipient, share))
     }
 
     /// What stands behind the table's name, where it is bound.
@@ -161,10 +165,10 @@ impl Catalog {
     }
 
     /// How often the table's name was bound, whether or not it is now.
-    pub fn binding_edition(&self, table: &TableName) -> u64
+    pub fn binding_edition(&self, table: &TableName) -> Edition
         ensures { result ≡ binding_edition self.now.edits table.now }
     {
-        table_counts(self.held.table(table)).0
+        table_times(self.held.table(table)).0
     }
 
     /// The shares that the recipient is granted, in byte order. The error is want of memory.

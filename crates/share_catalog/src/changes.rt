@@ -7,7 +7,7 @@ ghost use Rattle.std.specs.FinMap.Entries.{put as put_in};
 ghost use Rattle.share_catalog.specs.declared.edit.Edit.TheVariants as edit;
 ghost use Rattle.share_catalog.specs.Entries.{entries, pair_texts, texts};
 ghost use Rattle.share_catalog.specs.HeldMaps.{HasRoom, maps_of};
-ghost use Rattle.share_catalog.specs.Maps.{AreSorted, CountsFit, after, bytes_cmp, edition_of_grant, grant_in, recipient_in, recipient_times, rotated, share_in, share_times, table_edition, table_in, table_made, with_grant, with_location, with_recipient, with_share, with_table, without_recipient};
+ghost use Rattle.share_catalog.specs.Maps.{AreSorted, CountsFit, after, bytes_cmp, grant_times, grant_in, recipient_in, recipient_times, rotated, share_in, share_times, table_edition, table_in, table_made, with_grant, with_location, with_recipient, with_share, with_table, without_recipient};
 ghost use Rattle.share_catalog.specs.Sorted.{take_out};
 ghost use Rattle.share_catalog.specs.TableNames.{parts_of, texts_cmp};
 
@@ -19,6 +19,7 @@ use crate::name::CatalogName;
 use crate::sorted::{put_digest, put_name, put_pair, put_table, take_digest};
 use crate::state::{GrantState, Pair, RecipientState, ShareState, TableState};
 use crate::table_name::TableName;
+use json_tree::Edition;
 use std::alloc::{AllocError, Global};
 
 // Texts that were made before an edit, so that it takes no memory.
@@ -44,7 +45,7 @@ impl Spare {
 }
 
 // How often the share was made.
-fn times(share: Option<ShareState>) -> u64
+fn share_times(share: Option<ShareState>) -> u64
     ensures { result ≡ share_times share }
 {
     match share {
@@ -54,7 +55,7 @@ fn times(share: Option<ShareState>) -> u64
 }
 
 // How often the recipient was made.
-fn recipient_made(recipient: Option<RecipientState>) -> u64
+fn recipient_times(recipient: Option<RecipientState>) -> u64
     ensures { result ≡ recipient_times recipient }
 {
     match recipient {
@@ -64,22 +65,22 @@ fn recipient_made(recipient: Option<RecipientState>) -> u64
 }
 
 // How often the pair was granted.
-pub fn edition(grant: Option<GrantState>) -> u64
-    ensures { result ≡ edition_of_grant grant }
+pub(crate) fn grant_times(grant: Option<GrantState>) -> Edition
+    ensures { result ≡ grant_times grant }
 {
     match grant {
         Some(grant) => grant.edition,
-        None => 0,
+        None => Edition::never(),
     }
 }
 
 // How often the table was bound, and how often its share had been made then.
-pub fn table_counts(table: Option<&TableState>) -> (u64, u64)
+pub(crate) fn table_times(table: Option<&TableState>) -> (Edition, u64)
     ensures { result ≡ (table_edition (option_map (λ t. t.now) table.entry), table_made (option_map (λ t. t.now) table.entry)) }
 {
     match table {
         Some(table) => (table.edition, table.share_made),
-        None => (0, 0),
+        None => (Edition::never(), 0),
     }
 }
 
@@ -103,7 +104,7 @@ impl Held {
         requires counts { CountsFit (maps_of self.old) }
         ensures { maps_of self.new ≡ after (maps_of self.old) (edit.NewShare name) }
     {
-        let made = times(self.share(name.as_str())) + 1;
+        let made = share_times(self.share(name.as_str())) + 1;
         put_name(&mut self.shares, name, ShareState { stands: true, made });
     }
 
@@ -112,7 +113,7 @@ impl Held {
         requires room { HasRoom self.old }
         ensures { maps_of self.new ≡ after (maps_of self.old) (edit.DropShare name) }
     {
-        let made = times(self.share(name.as_str()));
+        let made = share_times(self.share(name.as_str()));
         put_name(
             &mut self.shares,
             name,
@@ -131,8 +132,8 @@ impl Held {
         requires room { (string_len room ≡ 0) × (256 ≤ string_capacity room) }
         ensures { maps_of self.new ≡ after (maps_of self.old) (edit.Bind table binding) }
     {
-        let share_made = times(self.share(table.share.as_str()));
-        let edition = table_counts(self.table(&table)).0 + 1;
+        let share_made = share_times(self.share(table.share.as_str()));
+        let edition = table_times(self.table(&table)).0.next();
         add_location(&mut self.locations, &binding.location, room);
         let state = TableState {
             binding: Some(binding),
@@ -147,7 +148,7 @@ impl Held {
         requires room { HasRoom self.old }
         ensures { maps_of self.new ≡ after (maps_of self.old) (edit.Unbind table) }
     {
-        let (edition, share_made) = table_counts(self.table(&table));
+        let (edition, share_made) = table_times(self.table(&table));
         let state = TableState {
             binding: None,
             share_made,
@@ -164,7 +165,7 @@ impl Held {
         requires room { (string_len room ≡ 0) × (128 ≤ string_capacity room) }
         ensures { maps_of self.new ≡ after (maps_of self.old) (edit.NewRecipient name credential) }
     {
-        let made = recipient_made(self.recipient(name.as_str())) + 1;
+        let made = recipient_times(self.recipient(name.as_str())) + 1;
         let Credential { digest, expires } = credential;
         put_digest(&mut self.holders, digest, name.copy_into(room));
         let credential = Credential { digest, expires };
@@ -213,15 +214,15 @@ impl Held {
         put_name(&mut self.recipients, name, state);
     }
 
-    fn set_grant(&mut self, pair: Pair, granted: bool, edition: u64)
+    fn set_grant(&mut self, pair: Pair, granted: bool, edition: Edition)
         requires sorted { AreSorted (maps_of self.old) }
         requires room { HasRoom self.old }
         ensures { maps_of self.new ≡ with_grant pair.recipient pair.share granted edition (maps_of self.old) }
     {
         let state = GrantState {
             granted,
-            recipient_made: recipient_made(self.recipient(pair.recipient.as_str())),
-            share_made: times(self.share(pair.share.as_str())),
+            recipient_made: recipient_times(self.recipient(pair.recipient.as_str())),
+            share_made: share_times(self.share(pair.share.as_str())),
             edition,
         };
         put_pair(&mut self.grants, pair, state);
@@ -233,7 +234,10 @@ impl Held {
         requires counts { CountsFit (maps_of self.old) }
         ensures { maps_of self.new ≡ after (maps_of self.old) (edit.Grant pair.recipient pair.share) }
     {
-        let edition = edition(self.grant_state(pair.recipient.as_str(), pair.share.as_str())) + 1;
+        let edition = grant_times(self.grant_state(
+            pair.recipient.as_str(),
+            pair.share.as_str(),
+        )).next();
         self.set_grant(pair, true, edition);
     }
 
@@ -242,7 +246,7 @@ impl Held {
         requires room { HasRoom self.old }
         ensures { maps_of self.new ≡ after (maps_of self.old) (edit.Revoke pair.recipient pair.share) }
     {
-        let edition = edition(self.grant_state(pair.recipient.as_str(), pair.share.as_str()));
+        let edition = grant_times(self.grant_state(pair.recipient.as_str(), pair.share.as_str()));
         self.set_grant(pair, false, edition);
     }
 

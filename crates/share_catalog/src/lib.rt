@@ -16,7 +16,7 @@ mod state;
 mod table_name;
 
 pub use catalog::Catalog;
-pub use credential::{Credential, Expiry};
+pub use credential::Credential;
 pub use edit::{Binding, Edit, EditRefusal};
 pub use laws::{
     counted_is_never_full, editions_rise, grant_comes_back_later, others_see_the_same,

@@ -4,7 +4,7 @@ ghost use Rattle.share_catalog.specs.HeldMaps.{maps_of};
 ghost use Rattle.share_catalog.specs.Entries.{entries, pair_texts};
 ghost use Rattle.share_catalog.specs.Maps.{AreSorted, recipient_in, share_in};
 ghost use Rattle.share_catalog.specs.Kept.{kept_grant as kept_grant_of, kept_table as kept_table_of};
-ghost use Rattle.share_catalog.specs.Listed.{bound_entry, grant_entry, run};
+ghost use Rattle.share_catalog.specs.Listed.{grant_entry, run, whole_entry, whole_run};
 ghost use Rattle.share_catalog.specs.TableNames.{parts_of};
 
 use crate::edit::Binding;
@@ -13,6 +13,7 @@ use crate::name::CatalogName;
 use crate::sorted::{Entry, start_of_recipient, start_of_share};
 use crate::state::{GrantState, Pair, RecipientState, ShareState, TableState};
 use crate::table_name::TableName;
+use json_tree::Edition;
 use std::alloc::{AllocError, Global};
 
 /// A share that a recipient is granted.
@@ -21,7 +22,7 @@ pub struct Granted<'a> {
     /// The share.
     pub share: &'a CatalogName,
     /// How often the recipient was granted it.
-    pub edition: u64,
+    pub edition: &'a Edition,
 }
 
 /// A table that is bound in a share.
@@ -32,7 +33,7 @@ pub struct Bound<'a> {
     /// What stands behind the name.
     pub binding: &'a Binding,
     /// How often the name was bound.
-    pub edition: u64,
+    pub edition: &'a Edition,
 }
 
 // The table, where its binding holds.
@@ -40,7 +41,7 @@ fn kept_table<'a>(
     share: Option<ShareState>,
     entry: &'a Entry<TableName, TableState>,
 ) -> Option<Bound<'a>>
-    ensures value { option_map (λ b. (b.binding.now, b.edition)) result ≡ kept_table_of share (entry.now.key.schema ∷ entry.now.key.table ∷ []) entry.now.value }
+    ensures value { option_map (λ b. (b.binding.now, b.edition.now)) result ≡ kept_table_of share (entry.now.key.schema ∷ entry.now.key.table ∷ []) entry.now.value }
     ensures table { IfSome result (λ b. b.table.now ≡ entry.now.key) }
 {
     if !binding_holds(share, &entry.value) {
@@ -50,7 +51,7 @@ fn kept_table<'a>(
         Some(binding) => Some(Bound {
             table: &entry.key,
             binding,
-            edition: entry.value.edition,
+            edition: &entry.value.edition,
         }),
         None => None,
     }
@@ -63,7 +64,7 @@ fn bindings_in<'a>(
     name: &str,
     share: Option<ShareState>,
 ) -> Result<Vec<Bound<'a>>, AllocError>
-    ensures { IfOk result (λ v. map bound_entry v.items ≡ run name.now (kept_table_of share) (entries parts_of tables.now)) }
+    ensures { IfOk result (λ v. map whole_entry v.items ≡ whole_run name.now (kept_table_of share) (entries parts_of tables.now)) }
 {
     let mut found = Vec::new(alloc);
     for entry in tables {
@@ -88,7 +89,7 @@ impl Held {
         entry: &'a Entry<Pair, GrantState>,
     ) -> Option<Granted<'a>>
         requires { AreSorted (maps_of self.now) }
-        ensures value { option_map (λ g. g.edition) result ≡ kept_grant_of (maps_of self.now) recipient.now (entry.now.key.share ∷ []) entry.now.value }
+        ensures value { option_map (λ g. g.edition.now) result ≡ kept_grant_of (maps_of self.now) recipient.now (entry.now.key.share ∷ []) entry.now.value }
         ensures share { IfSome result (λ g. g.share.now ≡ entry.now.key.share) }
     {
         if grant_holds(
@@ -98,7 +99,7 @@ impl Held {
         ) {
             Some(Granted {
                 share: &entry.key.share,
-                edition: entry.value.edition,
+                edition: &entry.value.edition,
             })
         } else {
             None
@@ -151,7 +152,7 @@ impl Held {
         name: &str,
     ) -> Result<Vec<Bound<'a>>, AllocError>
         requires { AreSorted (maps_of self.now) }
-        ensures { IfOk result (λ v. map bound_entry v.items ≡ run name.now (kept_table_of (share_in (maps_of self.now) name.now)) (maps_of self.now).tables) }
+        ensures { IfOk result (λ v. map whole_entry v.items ≡ whole_run name.now (kept_table_of (share_in (maps_of self.now) name.now)) (maps_of self.now).tables) }
     {
         let start = start_of_share(&self.tables, name);
         bindings_in(alloc, &self.tables[start..], name, self.share(name))

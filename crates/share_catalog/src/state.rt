@@ -2,6 +2,7 @@
 use crate::credential::Credential;
 use crate::edit::Binding;
 use crate::name::CatalogName;
+use json_tree::Edition;
 
 // A share that was ever made.
 #[derive(Clone, Copy)]
@@ -31,7 +32,7 @@ pub struct TableState {
     // How often its share had been made then. The binding ended where the share was dropped since.
     pub share_made: u64,
     // How often the table was bound.
-    pub edition: u64,
+    pub edition: Edition,
 }
 
 // A pair that was ever granted.
@@ -44,7 +45,7 @@ pub struct GrantState {
     // How often its share had been made then. The grant ended where it was dropped since.
     pub share_made: u64,
     // How often the pair was granted.
-    pub edition: u64,
+    pub edition: Edition,
 }
 
 // A recipient with a share.

@@ -1,9 +1,10 @@
 // The names' grammar at its edges, each refusal, each limit, and what a drop ends.
 use crate::{
-    Binding, Catalog, CatalogName, Credential, Edit, EditRefusal, Expiry, Location, TableName,
+    Binding, Catalog, CatalogName, Credential, Edit, EditRefusal, Location, TableName,
     is_catalog_name_text,
 };
 use edge_core::Name;
+use json_tree::Millis;
 use std::alloc::{AllocError, Global};
 use std::cmp::Ordering;
 use std::process::Abort;
@@ -79,8 +80,6 @@ fn locations_lie_outside_of_the_catalogues_own_folder(rt: HostRuntime) -> Result
     assert!(rt; location(&rt, alloc, "_share_log")?.is_none());
     let near = location(&rt, alloc, "_share_logs/t")?.expect(&rt, "a location");
     assert!(rt; near.copy(alloc)?.name().as_str() == "_share_logs/t");
-    assert!(rt; Expiry::of(9_223_372_036_854_775_807).is_some());
-    assert!(rt; Expiry::of(9_223_372_036_854_775_808).is_none());
     Ok(())
 }
 
@@ -133,7 +132,7 @@ fn rotate(rt: &impl Abort, alloc: Global, of: &str, byte: u8) -> Result<Edit, Al
         name: name(rt, alloc, of)?,
         credential: Credential {
             digest: [byte; 32],
-            expires: Expiry::of(7),
+            expires: Millis::of(7),
         },
     })
 }
@@ -167,7 +166,7 @@ fn four_edits_share_a_table(rt: HostRuntime) -> Result<(), Fail> {
     let alloc = rt.alloc();
     let catalog = first_edits(&rt, alloc)?;
     assert!(rt; catalog.count() == 4 && catalog.has_share("s1") && catalog.has_recipient("r1"));
-    assert!(rt; catalog.is_granted("r1", "s1") && catalog.grant_edition("r1", "s1") == 1);
+    assert!(rt; catalog.is_granted("r1", "s1") && catalog.grant_edition("r1", "s1").get() == 1);
     assert!(rt; catalog.holder(&[1; 32]).expect(&rt, "a holder").as_str() == "r1");
     assert!(rt; catalog.credential("r1").expect(&rt, "a credential").digest == [1; 32]);
     let of = table(&rt, alloc, "s1", "t")?;
@@ -179,7 +178,7 @@ fn four_edits_share_a_table(rt: HostRuntime) -> Result<(), Fail> {
             .as_str()
             == "tables/t"
     );
-    assert!(rt; catalog.binding_edition(&of) == 1);
+    assert!(rt; catalog.binding_edition(&of).get() == 1);
     Ok(())
 }
 
@@ -192,7 +191,9 @@ fn what_is_shared_is_listed_in_order(rt: HostRuntime) -> Result<(), Fail> {
     assert!(rt; tables.len() == 2);
     assert!(rt; tables[0].table.table.as_str() == "a" && tables[1].table.table.as_str() == "t");
     let grants = catalog.grants_of(alloc, "r1")?;
-    assert!(rt; grants.len() == 1 && grants[0].share.as_str() == "s1" && grants[0].edition == 1);
+    assert!(rt;
+        grants.len() == 1 && grants[0].share.as_str() == "s1" && grants[0].edition.get() == 1
+    );
     assert!(rt; catalog.grants_of(alloc, "r")?.is_empty());
     Ok(())
 }
@@ -218,7 +219,7 @@ fn a_credential_is_rotated_and_freed(rt: HostRuntime) -> Result<(), Fail> {
     assert!(rt; make(&mut catalog, alloc, rotate(&rt, alloc, "r1", 1)?)?.is_ok());
     assert!(rt; make(&mut catalog, alloc, rotate(&rt, alloc, "r1", 2)?)?.is_ok());
     assert!(rt; catalog.holder(&[1; 32]).is_none() && catalog.is_granted("r1", "s1"));
-    assert!(rt; catalog.credential("r1").expect(&rt, "a credential").expires == Expiry::of(7));
+    assert!(rt; catalog.credential("r1").expect(&rt, "a credential").expires == Millis::of(7));
     assert!(rt; make(&mut catalog, alloc, new_recipient(&rt, alloc, "r2", 1)?)?.is_ok());
     Ok(())
 }
@@ -232,7 +233,7 @@ fn a_dropped_share_comes_back_empty(rt: HostRuntime) -> Result<(), Fail> {
     let of = table(&rt, alloc, "s1", "t")?;
     assert!(rt; catalog.binding(&of).is_none() && !catalog.is_granted("r1", "s1"));
     assert!(rt; make(&mut catalog, alloc, grant(&rt, alloc, "r1")?)?.is_ok());
-    assert!(rt; catalog.grant_edition("r1", "s1") == 2);
+    assert!(rt; catalog.grant_edition("r1", "s1").get() == 2);
     Ok(())
 }
 

@@ -1,4 +1,6 @@
-mod Cuts
-mod Escapes
-mod Numbers
-mod Read
+pub mod Cuts
+pub mod Escapes
+pub mod Numbers
+pub mod Read
+pub mod ReadTyped
+pub mod PartsOf

@@ -1,3 +1,5 @@
 pub mod Escape
+pub mod Laws
 pub mod Link
+pub mod Parts
 pub mod Reading

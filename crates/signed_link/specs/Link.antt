@@ -1,9 +1,9 @@
 -- The text of a signed link: an absolute path with a query (RFC 3986, section 3), below an endpoint.
-use Rattle.std.specs.Prelude.{◌≡◌, ℕ, ◌^◌, ◌<◌, List, ◌++◌, IsTrue, codes}
+use Rattle.std.specs.Prelude.{◌≡◌, ℕ, ◌^◌, ◌-◌, ◌<◌, ◌==◌, List, ◌∷◌, ◌++◌, Option, Some, None, length, take, drop, nat_lt, if◌then◌else◌, IsTrue, codes}
 use Rattle.std.specs.Str.{IsUtf8}
 use Rattle.std.specs.Fmt.{decimal}
 use Rattle.hex.specs.Hex.{encode_lower}
-use Rattle.hmac_core.specs.Hmac.{hmac}
+use Rattle.hmac_core.specs.Hmac.{are_tag_digits, hmac}
 use Rattle.share_catalog.specs.Grammar.{is_catalog_name}
 use Rattle.share_catalog.specs.declared.table_name.TableName.{TableName}
 use Rattle.signed_link.specs.declared.parts.LinkParts.{LinkParts}
@@ -68,3 +68,12 @@ pub record IsLink (key endpoint text : List ℕ) (parts : LinkParts) : Type 0 wh
   pub value : IsValue parts
   pub in_range : IsInRange parts
   pub spelt : text ≡ link_text key endpoint parts
+
+-- a target cut before its last parameter, and that parameter's digits, where it is `&t=` and has the form of a tag
+abbrev pub tail_parts : List ℕ → List ℕ → Option (List ℕ × List ℕ)
+tail_parts front (a ∷ b ∷ c ∷ digits) =
+    if a == 38 then (if b == 116 then (if c == 61 then (if are_tag_digits digits then Some (front, digits) else None) else None) else None) else None
+tail_parts front _ = None
+
+abbrev pub cut_tail : List ℕ → Option (List ℕ × List ℕ)
+cut_tail target = if nat_lt (length target) 67 then None else tail_parts (take (length target - 67) target) (drop (length target - 67) target)

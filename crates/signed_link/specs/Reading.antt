@@ -1,5 +1,5 @@
 -- How links are read, from left to right. What is read is spelt again and compared, so this may take more than
--- links: leading zeros, a plus, escapes of any byte, and any tag. No public clause speaks of it.
+-- links: leading zeros, a plus, escapes of any byte, and any tag.
 use Rattle.std.specs.Prelude.{◌≡◌, ℕ, ◌^◌, ◌&&◌, ◌==◌, List, length, drop, Option, Some, None, Result, Ok, Err, ⊤, nat_lt, nat_eq, if◌then◌else◌, codes}
 use Rattle.std.specs.List.{position_or_len, before_first, after_first, starts_with}
 use Rattle.std.specs.Str.{is_utf8, all_ascii_digits}

@@ -9,7 +9,7 @@ mod signed;
 mod spelling;
 
 pub use parts::LinkParts;
-pub use signed::{link, one_link, parts_of};
+pub use signed::{link, links_are_spelt, one_link, parts_of};
 
 #[cfg(test)]
 mod tests;

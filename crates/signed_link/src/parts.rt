@@ -1,9 +1,8 @@
 // What a link says.
-use json_tree::Text;
+use json_tree::{Edition, Millis, Text};
 use share_catalog::{CatalogName, TableName};
 
-/// The parts of a link to one file of a shared table. In a link the two editions and the expiry are below
-/// 2^63.
+/// The parts of a link to one file of a shared table.
 #[derive(Drop)]
 pub struct LinkParts {
     /// The table's name.
@@ -11,11 +10,11 @@ pub struct LinkParts {
     /// The file's path, as the table's log spells it. It may be any text.
     pub path: Text,
     /// The edition of the table's binding.
-    pub binding: u64,
-    /// The moment from which the link is expired, in milliseconds since 1970.
-    pub expires: u64,
+    pub binding: Edition,
+    /// The moment from which the link is expired.
+    pub expires: Millis,
     /// The edition of the recipient's grant.
-    pub grant: u64,
+    pub grant: Edition,
     /// The name of the recipient to whom the link was given.
     pub recipient: CatalogName,
 }

@@ -1,11 +1,10 @@
 // Links read. What is read is no more than a guess: the caller spells it again and compares.
 ghost use Rattle.std.specs.Prelude.{◌≡◌, ◌^◌, ◌<◌, Some, IfOk};
-ghost use Rattle.signed_link.specs.Link.{IsInRange};
 ghost use Rattle.signed_link.specs.Reading.{Gives, cut, after, value_in, number_of, number_in, name_of, path_of, parts_in};
 
 use crate::fault::Fault;
 use crate::parts::LinkParts;
-use json_tree::Text;
+use json_tree::{Edition, Millis, Text};
 use percent_encoding::{DecodeError, percent_decode_str};
 use share_catalog::{CatalogName, TableName};
 use std::alloc::Global;
@@ -67,6 +66,26 @@ fn number_in<'a>(name: &str, text: &'a str) -> Result<(u64, &'a str), Fault>
     Ok((number_of(value)?, rest))
 }
 
+fn edition_of(number: u64) -> Edition
+    requires { number < 2 ^ 63 }
+    ensures { result ≡ number }
+{
+    match Edition::of(number) {
+        Some(edition) => edition,
+        None => unreachable!(),
+    }
+}
+
+fn millis_of(number: u64) -> Millis
+    requires { number < 2 ^ 63 }
+    ensures { result ≡ number }
+{
+    match Millis::of(number) {
+        Some(millis) => millis,
+        None => unreachable!(),
+    }
+}
+
 fn name_of(alloc: Global, text: &str) -> Result<CatalogName, Fault>
     ensures { Gives (λ n. n) result (name_of text.now) }
 {
@@ -90,8 +109,7 @@ fn path_of(alloc: Global, text: &str) -> Result<Text, Fault>
 // The parts of the link, which stands below the endpoint.
 #[tactic(auto, unfolding(crate::specs::Reading::parts_in))]
 pub(crate) fn parts_in(alloc: Global, endpoint: &str, text: &str) -> Result<LinkParts, Fault>
-    ensures value { Gives (λ p. p) result (parts_in endpoint.now text.now) }
-    ensures in_range { IfOk result IsInRange }
+    ensures { Gives (λ p. p) result (parts_in endpoint.now text.now) }
 {
     let rest = after(endpoint, text)?;
     let rest = after("/files/", rest)?;
@@ -115,9 +133,9 @@ pub(crate) fn parts_in(alloc: Global, endpoint: &str, text: &str) -> Result<Link
             table,
         },
         path,
-        binding,
-        expires,
-        grant,
+        binding: edition_of(binding),
+        expires: millis_of(expires),
+        grant: edition_of(grant),
         recipient,
     })
 }

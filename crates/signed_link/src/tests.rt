@@ -1,9 +1,7 @@
 // Links under a key of 32 bytes 0x02. The tags are from Python's `hmac`.
-ghost use Rattle.std.specs.Prelude.{IfOk};
-ghost use Rattle.signed_link.specs.Link.{IsInRange};
-
 use super::*;
-use json_tree::Text;
+use hmac_core::HmacKey;
+use json_tree::{Edition, Millis, Text};
 use share_catalog::{CatalogName, TableName};
 use std::alloc::{AllocError, Global};
 use std::test::Fail;
@@ -20,9 +18,7 @@ fn string(alloc: Global, text: &str) -> Result<String, AllocError> {
     String::from_str(alloc, text)
 }
 
-fn day_1(alloc: Global) -> Result<LinkParts, Fail>
-    ensures { IfOk result IsInRange }
-{
+fn day_1(alloc: Global) -> Result<LinkParts, Fail> {
     let table = TableName::of(
         string(alloc, "s1")?,
         string(alloc, "sc")?,
@@ -32,9 +28,9 @@ fn day_1(alloc: Global) -> Result<LinkParts, Fail>
     Ok(LinkParts {
         table: table.ok_or("no table's name")?,
         path: Text::of(string(alloc, "day=1/a.parquet")?),
-        binding: 1,
-        expires: 3_600_000,
-        grant: 1,
+        binding: Edition::of(1).ok_or("an edition")?,
+        expires: Millis::of(3_600_000).ok_or("a moment")?,
+        grant: Edition::of(1).ok_or("an edition")?,
         recipient: recipient.ok_or("no name")?,
     })
 }
@@ -43,7 +39,12 @@ fn day_1(alloc: Global) -> Result<LinkParts, Fail>
 fn spells_a_link(rt: HostRuntime) -> Result<(), Fail> {
     let alloc = rt.alloc();
     let parts = day_1(alloc)?;
-    let text = link(alloc, &KEY, "http://127.0.0.1:8080/delta-sharing", &parts)?;
+    let text = link(
+        alloc,
+        &HmacKey::of(&KEY),
+        "http://127.0.0.1:8080/delta-sharing",
+        &parts,
+    )?;
     assert!(rt; text.as_str() == LINK);
     Ok(())
 }
@@ -56,10 +57,10 @@ fn leads_to(
     binding: u64,
     recipient: &str,
 ) -> Result<bool, AllocError> {
-    match parts_of(alloc, &KEY, target)? {
+    match parts_of(alloc, &HmacKey::of(&KEY), target)? {
         Some(parts) => Ok(
             parts.path.as_str() == path
-                && parts.binding == binding
+                && parts.binding.get() == binding
                 && parts.recipient.as_str() == recipient,
         ),
         None => Ok(false),
@@ -67,34 +68,52 @@ fn leads_to(
 }
 
 #[test]
-fn reads_a_link(rt: HostRuntime) -> Result<(), Fail> {
+fn reads_links(rt: HostRuntime) -> Result<(), Fail> {
     let alloc = rt.alloc();
-    assert!(rt; leads_to(alloc, TARGET, "day=1/a.parquet", 1, "r1")?);
+    for (target, path, binding, recipient) in [
+        (TARGET, "day=1/a.parquet", 1, "r1"),
+        (
+            "/delta-sharing/files/s.1_-/sc/t1/%C3%A9%20%3F%26%3D%25%2F~?b=9223372036854775807&e=0&g=7&r=r-2&t=a16ecfd645974e21b983c74cc393c4532d581cc89b2690966c57868f6aad9b62",
+            "é ?&=%/~",
+            (1 << 63) - 1,
+            "r-2",
+        ),
+        (
+            "/delta-sharing/files/s1/sc/t1/?b=1&e=3600000&g=1&r=r1&t=488df310746f5a6f916b50587b9f3daab1363bfedcbf1b2d94fde0ef103e9a89",
+            "",
+            1,
+            "r1",
+        ),
+    ] {
+        assert!(rt;
+            leads_to(alloc, target, path, binding, recipient)?,
+            "{target}"
+        );
+    }
     Ok(())
 }
 
+// A path of a mebibyte, of which no byte is escaped.
 #[test]
-fn reads_any_path(rt: HostRuntime) -> Result<(), Fail> {
+fn a_long_path_comes_back(rt: HostRuntime) -> Result<(), Fail> {
     let alloc = rt.alloc();
-    let escaped =
-        "/delta-sharing/files/s.1_-/sc/t1/%C3%A9%20%3F%26%3D%25%2F~?b=9223372036854775807&e=0&g=7&r=r-2&t=a16ecfd645974e21b983c74cc393c4532d581cc89b2690966c57868f6aad9b62";
-    assert!(rt; leads_to(alloc, escaped, "é ?&=%/~", (1 << 63) - 1, "r-2")?);
-    let empty =
-        "/delta-sharing/files/s1/sc/t1/?b=1&e=3600000&g=1&r=r1&t=488df310746f5a6f916b50587b9f3daab1363bfedcbf1b2d94fde0ef103e9a89";
-    assert!(rt; leads_to(alloc, empty, "", 1, "r1")?);
-    Ok(())
-}
-
-#[test]
-fn refuses_another_key(rt: HostRuntime) -> Result<(), Fail> {
-    let alloc = rt.alloc();
-    assert!(rt; parts_of(alloc, &[3; 32], TARGET)?.is_none());
+    let mut path = String::new(alloc);
+    for _ in 0..1 << 16 {
+        path.push_str("0123456789abcdef")?;
+    }
+    let mut parts = day_1(alloc)?;
+    parts.path = Text::of(path);
+    let key = HmacKey::of(&KEY);
+    let text = link(alloc, &key, "/delta-sharing", &parts)?;
+    assert!(rt; text.as_str().len() == (1 << 20) + TARGET.len() - 19);
+    assert!(rt; parts_of(alloc, &key, text.as_str())?.is_some());
     Ok(())
 }
 
 #[test]
 fn refuses_other_texts(rt: HostRuntime) -> Result<(), Fail> {
     let alloc = rt.alloc();
+    assert!(rt; parts_of(alloc, &HmacKey::of(&[3; 32]), TARGET)?.is_none());
     for other in [
         "",
         "/delta-sharing/files/",
@@ -117,7 +136,10 @@ fn refuses_other_texts(rt: HostRuntime) -> Result<(), Fail> {
         "/delta-sharing/files/s1/sc/t1/day%3D1%2Fa.parquet?b=9223372036854775808&e=3600000&g=1&r=r1&t=fe6eac0bc74418c31f00a89071b9192f851dd471201a5cde1358fa93b260cd1f",
         "/delta-sharing/files/S1/sc/t1/day%3D1%2Fa.parquet?b=1&e=3600000&g=1&r=r1&t=49e7f4e9e85b4cc3b9689a7a6f222cd387b674fd5f47afa874723138dc23640b",
     ] {
-        assert!(rt; parts_of(alloc, &KEY, other)?.is_none(), "{other}");
+        assert!(rt;
+            parts_of(alloc, &HmacKey::of(&KEY), other)?.is_none(),
+            "{other}"
+        );
     }
     Ok(())
 }

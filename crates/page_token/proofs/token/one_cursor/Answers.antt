@@ -1,4 +1,4 @@
-use Rattle.page_token.proofs.Signed.{one_cursor}
+use Rattle.page_token.proofs.CursorOf.{one_cursor}
 use Rattle.page_token.proofs.token.one_cursor.Goals as goal
 
 pub returns : goal.returns

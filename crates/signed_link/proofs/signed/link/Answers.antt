@@ -7,6 +7,6 @@ joined a b x y front back = cc
 pub returns : goal.returns
 returns c = record {
   value = c.in_ok-signed.ensures.value;
-  in_range = c.requires;
+  in_range = c.in_ok-signed.ensures.in_range;
   spelt = c.of.ensures ∙ c.in_ok-push_str.ensures.bytes ∙ joined _ _ _ _ c.in_ok-text.ensures.ok (c.deref.ensures ∙ c.in_ok-signed.ensures.text);
 }

@@ -1,6 +1,6 @@
 use Rattle.std.proofs.Common.{ℕ, ◌≡◌, ◌<◌, ◌≤◌, ◌+◌, List, take, map, length, set, get_or, bit_xor, arith, refl, ◌∙◌, sym, ap, length-set}
 use Rattle.std.proofs.lemmas.List.{take_more_set, take_more, map-append, take_all}
-use Rattle.hmac_core.proofs.xor_pad.Goals as goal
+use Rattle.hmac_core.proofs.key.xor_pad.Goals as goal
 
 -- one more byte
 step : (f : ℕ → ℕ) (out block : List ℕ) (i : ℕ) → i < length out → i < length block

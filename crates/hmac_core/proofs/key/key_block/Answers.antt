@@ -1,6 +1,6 @@
 use Rattle.std.proofs.Common.{arith, replicate, drop, length, ◌≡◌, ◌++◌, nat_lt, false}
 use Rattle.std.proofs.lemmas.List.{drop-replicate}
-use Rattle.hmac_core.proofs.key_block.Goals as goal
+use Rattle.hmac_core.proofs.key.key_block.Goals as goal
 
 pub returns-else-key-gt-BLOCK : goal.returns-else-key-gt-BLOCK
 returns-else-key-gt-BLOCK c =

@@ -1,6 +1,6 @@
 use Rattle.std.proofs.Common.{◌≡◌, take, length}
 use Rattle.hmac_core.specs.Hmac.{padded_with}
-use Rattle.hmac_core.proofs.xor_pad.Given as goal
+use Rattle.hmac_core.proofs.key.xor_pad.Given as goal
 
 -- the bytes so far
 abbrev pub invariant-loop-i : goal.invariant-loop-i
