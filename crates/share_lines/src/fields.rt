@@ -6,7 +6,7 @@ ghost use Rattle.log_actions.specs.Reading.{count, count_below};
 ghost use Rattle.share_lines.specs.Answers.{default_answer, fault_of as fault_of_field, optional_answer, required_answer};
 
 use crate::faults::LineFault;
-use crate::{TableVersion, UrlExpiry};
+use crate::{Millis, Version};
 use json_tree::{FieldFault, whole_at};
 use log_actions::FileSize;
 use serde_json::Value;
@@ -75,15 +75,15 @@ pub(crate) fn size_at(object: &Value, name: &str) -> Result<Option<FileSize>, Fi
     }
 }
 
-fn expiry_of(number: i64) -> Option<UrlExpiry>
+fn expiry_of(number: i64) -> Option<Millis>
     ensures { result ≡ count_below (2 ^ 63) number }
 {
     let number = u64::try_from(number).ok()?;
-    UrlExpiry::of(number)
+    Millis::of(number)
 }
 
 // When a link ends.
-pub(crate) fn expiry_at(object: &Value, name: &str) -> Result<Option<UrlExpiry>, FieldFault>
+pub(crate) fn expiry_at(object: &Value, name: &str) -> Result<Option<Millis>, FieldFault>
     ensures { result ≡ field (count (2 ^ 63)) name.now (view object.now) }
 {
     match whole_at(object, name)? {
@@ -95,15 +95,15 @@ pub(crate) fn expiry_at(object: &Value, name: &str) -> Result<Option<UrlExpiry>,
     }
 }
 
-fn version_of(number: i64) -> Option<TableVersion>
+fn version_of(number: i64) -> Option<Version>
     ensures { result ≡ count_below (2 ^ 63) number }
 {
     let number = u64::try_from(number).ok()?;
-    TableVersion::of(number)
+    Version::of(number)
 }
 
 // A version of a table.
-pub(crate) fn version_at(object: &Value, name: &str) -> Result<Option<TableVersion>, FieldFault>
+pub(crate) fn version_at(object: &Value, name: &str) -> Result<Option<Version>, FieldFault>
     ensures { result ≡ field (count (2 ^ 63)) name.now (view object.now) }
 {
     match whole_at(object, name)? {

@@ -2,7 +2,7 @@
 // Data Feed from a Table").
 ghost use Rattle.std.specs.Prelude.{◌≡◌};
 
-use crate::{TableVersion, UrlExpiry};
+use crate::{Millis, Version};
 use json_tree::{Pairs, Text, Texts};
 use log_actions::FileSize;
 use std::marker::Model;
@@ -38,19 +38,19 @@ pub struct FileLine {
     /// `stats`, the file's statistics as a text of JSON. Only files and adds print it.
     pub stats: Option<Text>,
     /// `expirationTimestamp`, when the url ends.
-    pub expires: Option<UrlExpiry>,
+    pub expires: Option<Millis>,
     /// `timestamp` of the version, in milliseconds since the start of 1970 in UTC, any number of 64
     /// bits with sign. Only changes have it, and each of them does.
     pub time: Option<i64>,
     /// `version` with which the change came. Only changes have it, and each of them does.
-    pub version: Option<TableVersion>,
+    pub version: Option<Version>,
 }
 
 /// The end of a page ("EndStreamAction").
 #[derive(Drop)]
 pub struct EndLine {
     /// `minUrlExpirationTimestamp`, when the first of the page's urls ends.
-    pub min_expires: Option<UrlExpiry>,
+    pub min_expires: Option<Millis>,
     /// `nextPageToken`, with which the next page is asked for.
     pub token: Option<Text>,
 }
@@ -100,5 +100,12 @@ impl Lines {
         ensures { result.now ≡ self.now }
     {
         &self.items
+    }
+
+    /// The lines, in order, given back.
+    pub fn into_items(self) -> Vec<Line>
+        ensures { result.items ≡ self }
+    {
+        self.items
     }
 }

@@ -11,7 +11,6 @@ mod kinds;
 #[cfg(test)]
 mod line_tests;
 mod printing;
-mod ranges;
 mod reading;
 mod table_lines;
 #[cfg(test)]
@@ -21,7 +20,7 @@ pub use bodies::{lines_of, lines_text};
 pub use case_table::Refusal;
 pub use errors::{error_of, error_text, one_error};
 pub use faults::LinesFault;
+pub use json_tree::{Millis, Version};
 pub use kinds::{EndLine, FileLine, Line, Lines, MetaLine};
 pub use printing::{line_text, push_line};
-pub use ranges::{TableVersion, UrlExpiry};
 pub use table_lines::{push_file, push_meta, push_protocol};

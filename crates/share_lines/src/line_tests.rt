@@ -1,6 +1,6 @@
 // Lines and bodies read and printed; the expected texts and places are worked by hand.
 use crate::{
-    EndLine, FileLine, Line, LinesFault, MetaLine, TableVersion, UrlExpiry, error_of, error_text,
+    EndLine, FileLine, Line, LinesFault, MetaLine, Millis, Version, error_of, error_text,
     line_text, lines_of, lines_text, push_line,
 };
 use case_table::Refusal;
@@ -90,7 +90,7 @@ fn prints_a_file(rt: HostRuntime) -> Result<(), Fail> {
         values: Pairs::new(alloc),
         size: size(10)?,
         stats: Some(text(alloc, "{}")?),
-        expires: UrlExpiry::of(3600000),
+        expires: Millis::of(3600000),
         time: None,
         version: None,
     });
@@ -113,7 +113,7 @@ fn prints_a_remove(rt: HostRuntime) -> Result<(), Fail> {
         stats: None,
         expires: None,
         time: Some(-1),
-        version: TableVersion::of(2),
+        version: Version::of(2),
     });
     let mut out = String::from_str(alloc, "\n")?;
     push_line(alloc, &mut out, &line)?;
@@ -147,7 +147,7 @@ fn prints_a_meta_data(rt: HostRuntime) -> Result<(), Fail> {
 fn prints_a_body(rt: HostRuntime) -> Result<(), Fail> {
     let alloc = rt.alloc();
     let end = Line::End(EndLine {
-        min_expires: UrlExpiry::of(5),
+        min_expires: Millis::of(5),
         token: Some(text(alloc, "t")?),
     });
     let printed = lines_text(alloc, &[Line::Protocol, end])?;

@@ -8,7 +8,7 @@ ghost use Rattle.share_lines.specs.Bodies.{line_at};
 ghost use Rattle.share_lines.specs.Kept.{Kept, KeptFile};
 ghost use Rattle.share_lines.specs.Printing.{end_fields, file_fields, is_printable, kind_fields, kind_name as name_of_kind, line_data, line_text, meta_fields, parquet_fields, protocol_fields};
 
-use crate::{EndLine, FileLine, Line, MetaLine, TableVersion, UrlExpiry};
+use crate::{EndLine, FileLine, Line, MetaLine, Millis, Version};
 use json::Writer;
 use json_print::{
     begin_object, count_field, end_object, new_writer, optional_text_field, optional_whole_field,
@@ -28,22 +28,22 @@ fn size_field(line: &mut Writer, size: FileSize) -> Result<(), AllocError>
     count_field(line, "size", size.get())
 }
 
-fn expiry_field(line: &mut Writer, name: &str, expires: Option<UrlExpiry>) -> Result<(), AllocError>
+fn expiry_field(line: &mut Writer, name: &str, expires: Option<Millis>) -> Result<(), AllocError>
     ensures written { OnOk result (Adds line.old line.new (field_tokens (name.now, option_map count_value expires))) }
     ensures bound { IfSome expires (λ n. n < 2 ^ 63) }
 {
     match expires {
-        Some(expires) => count_field(line, name, expires.millis()),
+        Some(expires) => count_field(line, name, expires.get()),
         None => Ok(()),
     }
 }
 
-fn version_field(line: &mut Writer, version: Option<TableVersion>) -> Result<(), AllocError>
+fn version_field(line: &mut Writer, version: Option<Version>) -> Result<(), AllocError>
     ensures written { OnOk result (Adds line.old line.new (field_tokens (codes "version", option_map count_value version))) }
     ensures bound { IfSome version (λ n. n < 2 ^ 63) }
 {
     match version {
-        Some(version) => count_field(line, "version", version.number()),
+        Some(version) => count_field(line, "version", version.get()),
         None => Ok(()),
     }
 }

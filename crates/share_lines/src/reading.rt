@@ -7,7 +7,7 @@ ghost use Rattle.share_lines.specs.Reading.{Gives, add_of, change_with, end_of, 
 
 use crate::faults::LineFault;
 use crate::fields::{default_to, expiry_at, optional, required, size_at, version_at};
-use crate::{EndLine, FileLine, Line, MetaLine, TableVersion};
+use crate::{EndLine, FileLine, Line, MetaLine, Version};
 use json_tree::{Pairs, Text, Texts, member_at, pairs_at, text_at, texts_at, whole_at};
 use serde_json::Value;
 use std::alloc::Global;
@@ -30,7 +30,7 @@ fn read_protocol(value: &Value) -> Result<Line, LineFault>
     ensures { Gives result (protocol_of (view value.now)) }
 {
     let version = required(version_at(value, "minReaderVersion"))?;
-    if version.number() == 1 {
+    if version.get() == 1 {
         Ok(Line::Protocol)
     } else {
         Err(LineFault::Bad)
@@ -67,7 +67,7 @@ fn read_file_with(
     value: &Value,
     stats: Option<Text>,
     time: Option<i64>,
-    version: Option<TableVersion>,
+    version: Option<Version>,
 ) -> Result<FileLine, LineFault>
     ensures { Gives result (file_with (view value.now) stats time version) }
 {
