@@ -1,5 +1,5 @@
 -- What is held fits the edits with one more: edits of recipients.
-use Rattle.std.proofs.Common.{◌≡◌, ℕ, ◌+◌, ◌≤◌, List, [], ◌∷◌, ◌++◌, Bool, true, false, cond, ◌&&◌, not, Option, Some, None, refl, sym, ap, ◌∙◌, subst, length, bytes_eq, true≢false, arith}
+use Rattle.std.proofs.Common.{◌≡◌, ℕ, ◌+◌, ◌≤◌, List, Bool, true, false, cond, ◌&&◌, not, Option, Some, None, refl, sym, ap, ◌∙◌, subst, length, bytes_eq, true≢false, arith}
 use Rattle.std.specs.Prelude.{unwrap_or, is_some}
 use Rattle.std.specs.FinMap.Entries.{find, put, is_sorted}
 use Rattle.std.proofs.lemmas.Cmp.{nat_list_cmp_total}
@@ -10,11 +10,9 @@ use Rattle.share_catalog.specs.declared.state.ShareState.{ShareState}
 use Rattle.share_catalog.specs.declared.state.RecipientState.{RecipientState}
 use Rattle.share_catalog.specs.declared.state.GrantState.{GrantState}
 use Rattle.share_catalog.specs.Catalogue.{bound_location, bound_table, granted_pair, has_digest, has_other, has_recipient, is_holder, is_of, is_table, last_credential, made_recipient, made_share, same_pair, says_credential, says_recipient}
-use Rattle.share_catalog.specs.Entries.{texts}
-use Rattle.share_catalog.specs.Fits.{Fits, GrantFits, RecipientFits, makes_recipient}
-use Rattle.share_catalog.specs.Maps.{Maps, after, bytes_cmp, grant_in, grant_recipient_made, grant_share_made, granted_by, holder_in, is_granted, is_other, recipient_credential, recipient_in, recipient_stands, recipient_times, rotated, share_in, share_stands, share_times, since, without_recipient}
+use Rattle.share_catalog.specs.Fits.{Fits, GrantFits, makes_recipient}
+use Rattle.share_catalog.specs.Maps.{Maps, after, bytes_cmp, grant_in, grant_recipient_made, grant_share_made, holder_in, is_granted, is_other, recipient_credential, recipient_in, recipient_stands, recipient_times, rotated, share_in, share_stands, share_times, since, without_recipient}
 use Rattle.share_catalog.specs.Sorted.{take_out}
-use Rattle.share_catalog.specs.TableNames.{texts_cmp}
 use Rattle.share_catalog.proofs.Quiet.{QuietRecipient, count_made, count_put, count_quiet, digest_quiet, digest_same, distinct_quiet, grant_quiet, share_quiet, table_quiet}
 use Rattle.share_catalog.proofs.Refusals.{other}
 use Rattle.share_catalog.proofs.Set.{EndsRecipient, at_name, grants_after_recipient, made_again, name_here, name_there, set_recipient}

@@ -1,8 +1,8 @@
 -- What is held fits the edits with one more: edits of shares and of their tables.
-use Rattle.std.proofs.Common.{◌≡◌, ℕ, ◌+◌, ◌<◌, ◌≤◌, List, [], ◌∷◌, ◌++◌, Bool, true, false, cond, ◌&&◌, not, Option, Some, None, refl, sym, ap, ◌∙◌, subst, length, bytes_eq, true≢false, arith}
+use Rattle.std.proofs.Common.{◌≡◌, ℕ, ◌+◌, List, [], ◌∷◌, ◌++◌, Bool, true, false, cond, Option, Some, None, refl, sym, ap, ◌∙◌, subst, length, bytes_eq, true≢false, arith}
 use Rattle.std.specs.Prelude.{unwrap_or, is_some, is_none, ◌==◌}
 use Rattle.std.specs.List.{list_any}
-use Rattle.std.specs.FinMap.Entries.{find, put, is_sorted}
+use Rattle.std.specs.FinMap.Entries.{find, put}
 use Rattle.std.proofs.lemmas.Bool.Decides.{nat_tests}
 use Rattle.std.proofs.lemmas.Cmp.{nat_list_cmp_total}
 use Rattle.share_catalog.specs.declared.table_name.TableName.{TableName}
@@ -11,13 +11,12 @@ use Rattle.share_catalog.specs.declared.edit.Edit.{Edit}
 use Rattle.share_catalog.specs.declared.edit.Edit.TheVariants as edit
 use Rattle.share_catalog.specs.declared.state.ShareState.{ShareState}
 use Rattle.share_catalog.specs.declared.state.TableState.{TableState}
-use Rattle.share_catalog.specs.Catalogue.{bound, bound_location, bound_table, binds_table, distinct, granted_pair, has_share, is_table, locations_bound, made_recipient, made_share, same_pair, says_binding, says_share, tables_bound}
-use Rattle.share_catalog.specs.Entries.{texts}
-use Rattle.share_catalog.specs.Fits.{Fits, ShareFits, TableFits, makes_share}
-use Rattle.share_catalog.specs.Maps.{Maps, after, bound_by, bytes_cmp, share_in, share_stands, share_times, since, table_binding, table_edition, table_in, table_made, with_location, with_share, with_table}
+use Rattle.share_catalog.specs.Catalogue.{bound, bound_location, bound_table, binds_table, distinct, granted_pair, has_share, is_table, locations_bound, made_recipient, made_share, same_pair, says_binding, says_share}
+use Rattle.share_catalog.specs.Fits.{Fits, TableFits, makes_share}
+use Rattle.share_catalog.specs.Maps.{Maps, after, bound_by, bytes_cmp, share_in, share_stands, share_times, since, table_edition, table_in, table_made, with_location}
 use Rattle.share_catalog.specs.TableNames.{parts_of, texts_cmp}
 use Rattle.share_catalog.proofs.Orders.{texts_total}
-use Rattle.share_catalog.proofs.Quiet.{QuietShare, UnboundBy, count_made, count_put, count_quiet, digest_quiet, distinct_quiet, grant_quiet, recipient_quiet, share_quiet, table_quiet}
+use Rattle.share_catalog.proofs.Quiet.{UnboundBy, count_made, count_put, count_quiet, digest_quiet, distinct_quiet, grant_quiet, recipient_quiet, share_quiet, table_quiet}
 use Rattle.share_catalog.proofs.Refusals.{location_known}
 use Rattle.share_catalog.proofs.Set.{EndsShare, at_table, grants_after_share, made_again, set_share, table_here, table_there, tables_after_share}
 use Rattle.share_catalog.proofs.SortedLemmas.{sorted-put}

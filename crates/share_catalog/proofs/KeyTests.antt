@@ -1,5 +1,5 @@
 -- The tests of names, tables and pairs, and what a put and a take leave at a key.
-use Rattle.std.proofs.Common.{◌≡◌, ◌≢◌, ℕ, ◌+◌, ◌≤◌, List, [], ◌∷◌, Bool, true, false, cond, ◌&&◌, ◌||◌, not, Option, Some, None, refl, sym, ap, ◌∙◌, subst, true≢false, length, bytes_eq, Ordering, Less, Equal, Greater}
+use Rattle.std.proofs.Common.{◌≡◌, ◌≢◌, ℕ, List, [], ◌∷◌, Bool, true, false, cond, ◌&&◌, ◌||◌, Some, None, refl, sym, ap, ◌∙◌, true≢false, bytes_eq, Ordering, Less, Equal, Greater}
 use Rattle.std.specs.Prelude.{is_some}
 use Rattle.std.specs.Ordering.{is_eq, ordering_then, eq_by_cmp}
 use Rattle.std.specs.Cmp.{both_ways}
@@ -8,7 +8,7 @@ use Rattle.std.proofs.lemmas.Cmp.{nat_list_cmp_total}
 use Rattle.std.proofs.lemmas.Map.Text.{is_eq-slice_cmp}
 use Rattle.std.proofs.lemmas.Slice.Eq.{bytes_eq-Decides}
 use Rattle.share_catalog.specs.declared.table_name.TableName.{TableName}
-use Rattle.share_catalog.specs.Catalogue.{is_pair, is_table, same_pair}
+use Rattle.share_catalog.specs.Catalogue.{is_pair, is_table}
 use Rattle.share_catalog.specs.Entries.{texts}
 use Rattle.share_catalog.specs.Maps.{bytes_cmp}
 use Rattle.share_catalog.specs.Sorted.{take_out}

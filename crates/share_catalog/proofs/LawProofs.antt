@@ -1,14 +1,13 @@
 -- The laws of the catalogue.
-use Rattle.std.proofs.Common.{◌≡◌, ℕ, ◌+◌, ◌≤◌, List, [], ◌∷◌, ◌++◌, Bool, true, false, cond, ◌&&◌, ◌||◌, not, Option, Some, None, refl, sym, ap, ◌∙◌, subst, arith, length, bytes_eq}
+use Rattle.std.proofs.Common.{◌≡◌, ℕ, ◌+◌, ◌≤◌, List, Bool, true, false, cond, ◌&&◌, not, Option, Some, None, refl, ap, ◌∙◌, arith, length, bytes_eq}
 use Rattle.std.specs.Prelude.{unwrap_or, nat_le, count_by}
 use Rattle.std.specs.List.{list_any}
 use Rattle.std.specs.Option.{option_or}
 use Rattle.share_catalog.specs.declared.credential.Credential.{Credential}
 use Rattle.share_catalog.specs.declared.table_name.TableName.{TableName}
-use Rattle.share_catalog.specs.declared.edit.Binding.{Binding}
 use Rattle.share_catalog.specs.declared.edit.Edit.{Edit}
 use Rattle.share_catalog.specs.declared.edit.Edit.TheVariants as edit
-use Rattle.share_catalog.specs.Catalogue.{binds_table, bound, credential, distinct, grants_pair, granted, has_recipient, is_pair, is_table, last_credential, limit_met, locations_bound, pairs_granted, recipients_made, said, same_pair, says_binding, says_credential, says_grant, says_recipient, shares_made, tables_bound}
+use Rattle.share_catalog.specs.Catalogue.{binds_table, distinct, grants_pair, has_recipient, is_pair, is_table, last_credential, limit_met, locations_bound, pairs_granted, recipients_made, said, same_pair, says_binding, says_credential, says_grant, says_recipient, shares_made, tables_bound}
 use Rattle.share_catalog.specs.Laws.{ComesBackEmpty, CountedIsNeverFull, EditionsRise, GrantsAgain, LeavesOthers, LeavesShares, names_recipient, names_share, with}
 use Rattle.share_catalog.proofs.KeyTests.{bytes_refl, pair_refl}
 use Rattle.share_catalog.proofs.Words.{count_grows, count_same, new_word, quiet_word}

@@ -1,6 +1,5 @@
 -- What is run through among entries in order is what begins with a text.
-use Rattle.std.proofs.Common.{◌≡◌, ℕ, zero, suc, ◌+◌, ◌<◌, ◌≤◌, List, [], ◌∷◌, ◌++◌, Bool, true, false, cond, ◌&&◌, ◌||◌, T, Option, Some, None, map, option_map, option_and_then, length, drop, get_or, refl, sym, ap, ◌∙◌, subst, Less, Equal, Greater, Ordering, arith, true≢false, inl, inr, ◌⊎◌, Result, Ok, Err, IfOk, All}
-use Rattle.std.specs.Prelude.{is_some}
+use Rattle.std.proofs.Common.{◌≡◌, ℕ, zero, suc, ◌<◌, ◌≤◌, List, [], ◌∷◌, Bool, true, false, cond, T, Option, Some, None, map, option_map, option_and_then, length, drop, get_or, refl, sym, ap, ◌∙◌, subst, Less, Equal, Greater, Ordering, arith, true≢false, inl, inr, ◌⊎◌, Result, Ok, Err, IfOk, All}
 use Rattle.std.specs.List.{cons_option}
 use Rattle.std.specs.List.Sorted.{IsPartitionedBy}
 use Rattle.std.proofs.lemmas.Bool.{cases_lt}

@@ -1,15 +1,14 @@
 -- What is held refuses what the edits refuse.
-use Rattle.std.proofs.Common.{◌≡◌, ℕ, ◌≤◌, List, [], ◌∷◌, ◌++◌, Bool, true, false, cond, ◌&&◌, ◌||◌, not, Option, Some, None, refl, sym, ap, ◌∙◌, subst, true≢false, length, bytes_eq}
-use Rattle.std.specs.Prelude.{is_some, is_none, nat_le}
+use Rattle.std.proofs.Common.{◌≡◌, ℕ, List, [], ◌∷◌, Bool, true, false, cond, ◌&&◌, not, Option, Some, None, refl, sym, ap, ◌∙◌, subst, true≢false, length, bytes_eq}
+use Rattle.std.specs.Prelude.{is_some, is_none}
 use Rattle.std.specs.List.{list_any}
 use Rattle.std.specs.Option.{option_or}
 use Rattle.share_catalog.specs.declared.credential.Credential.{Credential}
 use Rattle.share_catalog.specs.declared.edit.Edit.{Edit}
 use Rattle.share_catalog.specs.declared.edit.Edit.TheVariants as edit
-use Rattle.share_catalog.specs.declared.edit.EditRefusal.{EditRefusal}
-use Rattle.share_catalog.specs.Catalogue.{credential, distinct, first_refusal, has_digest, has_other, has_recipient, is_missing, is_holder, is_of, is_table, is_taken, is_token_taken, last_credential, limit_met, limit_passed, locations_bound, recipients_made, refusal_of, tables_bound}
+use Rattle.share_catalog.specs.Catalogue.{distinct, first_refusal, has_digest, has_other, has_recipient, is_missing, is_holder, is_of, is_table, is_taken, is_token_taken, last_credential, limit_met, limit_passed, locations_bound, recipients_made, refusal_of, tables_bound}
 use Rattle.share_catalog.specs.Fits.{Fits}
-use Rattle.share_catalog.specs.Maps.{Maps, full_at, holder_in, is_other, limit_in, location_limit, missing_in, recipient_credential, recipient_in, recipient_stands, refusal_in, taken_in, token_taken_in}
+use Rattle.share_catalog.specs.Maps.{Maps, full_at, holder_in, is_other, limit_in, location_limit, missing_in, recipient_in, recipient_stands, refusal_in, taken_in, token_taken_in}
 use Rattle.share_catalog.specs.declared.state.RecipientState.{RecipientState}
 use Rattle.share_catalog.proofs.KeyTests.{bytes_is, bytes_refl, bytes_sym}
 use Rattle.share_catalog.proofs.Words.{any-distinct, any_same}

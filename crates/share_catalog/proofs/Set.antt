@@ -1,10 +1,8 @@
 -- What a new state at one key leaves.
-use Rattle.std.proofs.Common.{◌≡◌, ℕ, ◌+◌, ◌<◌, ◌≤◌, List, [], ◌∷◌, ◌++◌, Bool, true, false, cond, ◌&&◌, not, Option, Some, None, refl, sym, ap, ◌∙◌, subst, length, bytes_eq, true≢false, arith}
-use Rattle.std.specs.Prelude.{unwrap_or, filter_map, is_some, count_by, ◌==◌}
-use Rattle.std.specs.List.{list_any}
-use Rattle.std.specs.FinMap.Entries.{find, put, is_sorted}
+use Rattle.std.proofs.Common.{◌≡◌, ℕ, ◌+◌, ◌≤◌, List, Bool, true, false, cond, ◌&&◌, Option, Some, None, refl, sym, ap, ◌∙◌, subst, bytes_eq, arith}
+use Rattle.std.specs.Prelude.{unwrap_or, ◌==◌}
+use Rattle.std.specs.FinMap.Entries.{find, put}
 use Rattle.std.proofs.lemmas.Bool.Decides.{nat_tests}
-use Rattle.share_catalog.specs.declared.credential.Credential.{Credential}
 use Rattle.share_catalog.specs.declared.table_name.TableName.{TableName}
 use Rattle.share_catalog.specs.declared.edit.Binding.{Binding}
 use Rattle.share_catalog.specs.declared.edit.Edit.{Edit}
@@ -12,10 +10,10 @@ use Rattle.share_catalog.specs.declared.state.ShareState.{ShareState}
 use Rattle.share_catalog.specs.declared.state.RecipientState.{RecipientState}
 use Rattle.share_catalog.specs.declared.state.TableState.{TableState}
 use Rattle.share_catalog.specs.declared.state.GrantState.{GrantState}
-use Rattle.share_catalog.specs.Catalogue.{binds_table, bound_table, granted_pair, grants_pair, has_recipient, has_share, is_pair, is_table, last_credential, made_recipient, made_share, recipients_made, says_binding, says_grant, says_share, shares_made}
+use Rattle.share_catalog.specs.Catalogue.{binds_table, bound_table, granted_pair, grants_pair, is_pair, is_table, says_binding, says_grant}
 use Rattle.share_catalog.specs.Entries.{texts}
-use Rattle.share_catalog.specs.Fits.{GrantFits, RecipientFits, ShareFits, TableFits, makes_recipient, makes_share}
-use Rattle.share_catalog.specs.Maps.{bound_by, bytes_cmp, grant_times, grant_recipient_made, grant_share_made, granted_by, is_granted, recipient_stands, recipient_times, share_stands, share_times, since, table_binding, table_edition, table_made}
+use Rattle.share_catalog.specs.Fits.{GrantFits, RecipientFits, ShareFits, TableFits}
+use Rattle.share_catalog.specs.Maps.{bytes_cmp, grant_recipient_made, grant_share_made, is_granted, recipient_stands, recipient_times, share_stands, share_times, since, table_binding, table_made}
 use Rattle.share_catalog.specs.TableNames.{parts_of, texts_cmp}
 use Rattle.share_catalog.proofs.KeyTests.{bytes_is, bytes_refl, name_put, pair_is, pair_put, pair_refl, table_is, table_put, table_refl}
 use Rattle.share_catalog.proofs.Quiet.{QuietRecipient, QuietShare, UnboundBy, UngrantedBy, grant_quiet, recipient_quiet, share_quiet, table_quiet}

@@ -1,16 +1,14 @@
 -- Lists of entries in the order of their keys: what halving finds, and what a put and a take leave.
-use Rattle.std.proofs.Common.{◌≡◌, ℕ, zero, suc, ◌+◌, ◌<◌, ◌≤◌, List, [], ◌∷◌, ◌++◌, Bool, true, false, cond, ◌&&◌, T, Option, Some, None, Result, Ok, Err, map, option_map, length, take, drop, get_or, refl, sym, ap, ◌∙◌, subst, Less, Equal, Greater, Ordering, arith, true≢false}
-use Rattle.std.specs.Prelude.{is_some, slice_get}
-use Rattle.std.specs.List.{insert, remove}
-use Rattle.std.specs.List.Sorted.{IsSearchInRange, IsBinarySearchResult, IsNonDecreasingBy, IsSortedBy}
-use Rattle.std.specs.Ordering.{is_lt, is_eq, ordering_index, ordering_reverse, eq_by_cmp}
+use Rattle.std.proofs.Common.{◌≡◌, ℕ, zero, suc, ◌+◌, ◌<◌, ◌≤◌, List, [], ◌∷◌, Bool, true, false, cond, ◌&&◌, T, Option, Some, None, Result, Ok, Err, length, get_or, refl, sym, ap, ◌∙◌, subst, Less, Equal, Greater, Ordering, arith, true≢false}
+use Rattle.std.specs.Prelude.{is_some}
+use Rattle.std.specs.List.Sorted.{IsSearchInRange, IsBinarySearchResult, IsSortedBy}
+use Rattle.std.specs.Ordering.{is_lt, is_eq, ordering_reverse, eq_by_cmp}
 use Rattle.std.specs.Cmp.{IsTotalOrder, alike_right}
 use Rattle.std.specs.FinMap.Entries.{by_order, put, find, below_all, is_sorted, is_sorted-put, length-put}
-use Rattle.std.proofs.lemmas.List.{length-map}
 use Rattle.std.proofs.lemmas.List.Sorted.{searchable_from_sorted}
 use Rattle.share_catalog.specs.declared.sorted.Entry.{Entry}
 use Rattle.share_catalog.specs.Entries.{entries}
-use Rattle.share_catalog.specs.Sorted.{further, place_of, take_out, value_in, revalued, put_at, taken_at}
+use Rattle.share_catalog.specs.Sorted.{further, place_of, take_out, value_in, put_at, taken_at}
 
 pub both : (a b : Bool) → T (a && b) → T a × T b
 both true b h = (tt, h)

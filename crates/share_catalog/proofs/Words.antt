@@ -1,6 +1,6 @@
 -- What one edit more changes of the last words, of the counts and of what was ever made.
-use Rattle.std.proofs.Common.{◌≡◌, ℕ, ◌+◌, List, [], ◌∷◌, ◌++◌, Bool, true, false, cond, ◌||◌, ◌&&◌, not, Option, Some, None, refl, sym, ap, ◌∙◌, subst, true≢false, length, bytes_eq, add-zero, arith}
-use Rattle.std.specs.Prelude.{unwrap_or, filter, filter_map, count_by, sum_by}
+use Rattle.std.proofs.Common.{◌≡◌, ◌+◌, List, [], ◌∷◌, ◌++◌, Bool, true, false, cond, ◌||◌, not, Option, Some, None, refl, ap, ◌∙◌, length, arith}
+use Rattle.std.specs.Prelude.{filter, filter_map, count_by}
 use Rattle.std.specs.List.{last_or, list_any, cons_option}
 use Rattle.std.proofs.lemmas.List.{append-nil, length-append}
 use Rattle.std.proofs.lemmas.List.Elements.{filter-append, filter_map-append}
@@ -8,7 +8,7 @@ use Rattle.std.proofs.lemmas.List.Folds.{list_any-append}
 use Rattle.std.proofs.lemmas.List.Sums.{sum_by_push}
 use Rattle.std.proofs.lemmas.Map.Views.{any-filter_same}
 use Rattle.share_catalog.specs.declared.edit.Edit.{Edit}
-use Rattle.share_catalog.specs.Catalogue.{distinct, last_word, said}
+use Rattle.share_catalog.specs.Catalogue.{distinct, last_word}
 
 -- the edits with one more
 abbrev pub more : List Edit → Edit → List Edit

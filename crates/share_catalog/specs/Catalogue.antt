@@ -1,7 +1,7 @@
 -- The catalogue of a list of edits, the oldest first: by the last edit that speaks of a thing, and by
 -- counts over the whole list. (Delta Sharing PROTOCOL.md, "Concepts", has shares, schemas, tables and
 -- recipients, and leaves to the server how they are made.)
-use Rattle.std.specs.Prelude.{◌≡◌, ℕ, List, [], ◌∷◌, Bool, true, false, ◌&&◌, ◌||◌, not, Option, Some, None, is_some, is_none, unwrap_or, option_map, if◌then◌else◌, length, nat_le, bytes_eq, filter, filter_map, count_by}
+use Rattle.std.specs.Prelude.{◌≡◌, ℕ, List, [], ◌∷◌, Bool, true, false, ◌&&◌, not, Option, Some, None, is_some, is_none, unwrap_or, option_map, if◌then◌else◌, length, nat_le, bytes_eq, filter, filter_map, count_by}
 use Rattle.std.specs.List.{last_or, list_any}
 use Rattle.std.specs.Option.{option_or}
 use Rattle.share_catalog.specs.declared.credential.Credential.{Credential}

@@ -1,5 +1,5 @@
 -- How what is held stands for a list of edits.
-use Rattle.std.specs.Prelude.{ℕ, ◌≡◌, ◌+◌, ◌<◌, ◌≤◌, ◌^◌, List, [], ◌∷◌, Bool, true, false, Option, Some, None, is_some, Result, Ok, Err, ⊤, length, bytes_eq, count_by}
+use Rattle.std.specs.Prelude.{ℕ, ◌≡◌, ◌≤◌, List, Bool, false, Option, is_some, length, bytes_eq, count_by}
 use Rattle.std.specs.List.{list_any}
 use Rattle.share_catalog.specs.declared.table_name.TableName.{TableName}
 use Rattle.share_catalog.specs.declared.edit.Edit.{Edit}

@@ -1,5 +1,5 @@
 -- The lists of entries as they are held.
-use Rattle.std.specs.Prelude.{ℕ, ◌<◌, ◌≤◌, List, vec_len}
+use Rattle.std.specs.Prelude.{◌<◌, vec_len}
 use Rattle.std.specs.Vec.{vec_capacity}
 use Rattle.share_catalog.specs.declared.held.Held.{Held}
 use Rattle.share_catalog.specs.Entries.{entries, pair_texts}

@@ -1,5 +1,5 @@
 -- Laws of the catalogue of a list of edits.
-use Rattle.std.specs.Prelude.{◌≡◌, ℕ, ◌+◌, ◌≤◌, List, [], ◌∷◌, ◌++◌, Bool, true, false, ◌||◌, Option, None, bytes_eq}
+use Rattle.std.specs.Prelude.{◌≡◌, ℕ, ◌+◌, ◌≤◌, List, [], ◌∷◌, ◌++◌, Bool, true, false, None, bytes_eq}
 use Rattle.std.specs.List.{list_any}
 use Rattle.share_catalog.specs.declared.credential.Credential.{Credential}
 use Rattle.share_catalog.specs.declared.table_name.TableName.{TableName}

@@ -1,7 +1,7 @@
 -- What the code holds after a list of edits: lists of entries in the order of their keys. Each keeps
 -- what was ever made, and whether it still holds is told by how often its share and its recipient were
 -- made: so dropping one of them ends all that stands on it in one step.
-use Rattle.std.specs.Prelude.{ℕ, ◌+◌, ◌<◌, ◌^◌, ◌==◌, ◌≡◌, List, [], ◌∷◌, ◌++◌, Bool, true, false, ◌&&◌, not, Option, Some, None, is_some, is_none, option_map, if◌then◌else◌, length, nat_le, bytes_eq}
+use Rattle.std.specs.Prelude.{ℕ, ◌+◌, ◌<◌, ◌^◌, ◌==◌, ◌≡◌, List, [], ◌∷◌, ◌++◌, Bool, true, false, ◌&&◌, not, Option, Some, None, is_some, is_none, if◌then◌else◌, length, nat_le, bytes_eq}
 use Rattle.std.specs.List.{list_any}
 use Rattle.std.specs.Option.{option_or}
 use Rattle.std.specs.FinMap.Entries.{find, put, is_sorted}
@@ -18,7 +18,7 @@ use Rattle.share_catalog.specs.declared.state.ShareState.{ShareState}
 use Rattle.share_catalog.specs.declared.state.RecipientState.{RecipientState}
 use Rattle.share_catalog.specs.declared.state.TableState.{TableState}
 use Rattle.share_catalog.specs.declared.state.GrantState.{GrantState}
-use Rattle.share_catalog.specs.Catalogue.{first_refusal, is_of}
+use Rattle.share_catalog.specs.Catalogue.{first_refusal}
 use Rattle.share_catalog.specs.Entries.{texts}
 use Rattle.share_catalog.specs.Sorted.{take_out}
 use Rattle.share_catalog.specs.TableNames.{parts_of, texts_cmp}

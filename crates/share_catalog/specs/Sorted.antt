@@ -1,5 +1,5 @@
 -- Lists of entries in the order of their keys.
-use Rattle.std.specs.Prelude.{ℕ, zero, suc, List, [], ◌∷◌, Option, Some, None, Result, Ok, Err, map, option_map, slice_get}
+use Rattle.std.specs.Prelude.{ℕ, zero, suc, List, [], ◌∷◌, Option, None, Result, Ok, Err, option_map, slice_get}
 use Rattle.std.specs.List.{insert, remove}
 use Rattle.std.specs.FinMap.Entries.{by_order}
 use Rattle.std.specs.declared.cmp.Ordering.{Ordering}

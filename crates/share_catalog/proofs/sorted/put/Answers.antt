@@ -1,4 +1,4 @@
-use Rattle.std.proofs.Common.{rules, ◌<◌, length, subst}
+use Rattle.std.proofs.Common.{◌<◌, length, subst}
 use Rattle.std.specs.List.Sorted.{IsSearchInRange}
 use Rattle.share_catalog.proofs.Orders.{set_value}
 use Rattle.share_catalog.proofs.sorted.put.Goals as goal

@@ -1,7 +1,5 @@
 use Rattle.std.specs.Ordering.{nat_cmp}
 use Rattle.std.specs.Cmp.Lexicographic.{slice_cmp}
-use Rattle.share_catalog.specs.Entries.{pair_texts}
-use Rattle.share_catalog.specs.TableNames.{parts_of, texts_cmp}
 use Rattle.share_catalog.proofs.SortedLemmas.{put_there}
 use Rattle.share_catalog.proofs.sorted.put_digest.Goals as goal
 

@@ -3,7 +3,6 @@ use Rattle.std.specs.Ordering.{nat_cmp, is_lt}
 use Rattle.std.specs.Cmp.Lexicographic.{slice_cmp}
 use Rattle.std.proofs.lemmas.Fn.{always_returns_same}
 use Rattle.share_catalog.specs.Entries.{pair_texts}
-use Rattle.share_catalog.specs.TableNames.{parts_of}
 use Rattle.share_catalog.proofs.ListingLemmas.{is_less, partitioned}
 use Rattle.share_catalog.proofs.sorted.start_of_recipient.Goals as goal
 

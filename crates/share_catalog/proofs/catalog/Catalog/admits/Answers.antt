@@ -1,6 +1,5 @@
 use Rattle.std.proofs.Common.{sym, ◌∙◌, ap}
 use Rattle.share_catalog.specs.CatalogState.{unless}
-use Rattle.share_catalog.specs.Catalogue.{refusal_of}
 use Rattle.share_catalog.proofs.Refusals.{refuses}
 use Rattle.share_catalog.proofs.catalog.Catalog.admits.Goals as goal
 

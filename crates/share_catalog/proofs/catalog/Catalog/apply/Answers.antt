@@ -1,4 +1,4 @@
-use Rattle.std.proofs.Common.{◌≡◌, Some, None, sym, ◌∙◌, subst, ap}
+use Rattle.std.proofs.Common.{◌≡◌, None, sym, ◌∙◌, subst}
 use Rattle.share_catalog.specs.Catalogue.{refusal_of}
 use Rattle.share_catalog.proofs.After.{catalog_after, nothing_refuses}
 use Rattle.share_catalog.proofs.catalog.Catalog.apply.Goals as goal
