@@ -7,13 +7,12 @@ use Rattle.std.proofs.lemmas.Bool.Decides.{nat_tests}
 use Rattle.std.proofs.lemmas.List.Folds.{list_all-append}
 use Rattle.response_text.specs.Contents.{content_type_name}
 use Rattle.response_text.specs.Dates.{date_at, day_at, weekday_name, month_name, two_digits, four_digits, time_text}
-use Rattle.response_text.specs.Heads.{Fields, field_line, fields, is_one_line, status_line, status_fields, type_fields, close_fields}
+use Rattle.response_text.specs.Heads.{Head, Fields, field_line, fields, is_one_line, status_line, status_fields, type_fields, close_fields}
 use Rattle.response_text.specs.Statuses.{code, reason, method_name}
 use Rattle.response_text.specs.declared.head.ContentType.{ContentType}
 use Rattle.response_text.specs.declared.head.ContentType.TheVariants as content
-use Rattle.response_text.specs.declared.head.ResponseHead.{ResponseHead}
-use Rattle.response_text.specs.declared.status.Method.{Method}
-use Rattle.response_text.specs.declared.status.Method.TheVariants as method
+use Rattle.case_table.specs.declared.routing.Method.{Method}
+use Rattle.case_table.specs.declared.routing.Method.TheVariants as method
 use Rattle.response_text.specs.declared.status.Status.{Status}
 use Rattle.response_text.specs.declared.status.Status.TheVariants as status
 
@@ -168,7 +167,7 @@ type_clean form length = cond_clean (length == 0) [] ((codes "Content-Type", con
 close_clean : (closes : Bool) → AreClean (close_fields closes)
 close_clean closes = cond_clean closes ((codes "Connection", codes "close") ∷ []) [] refl refl
 
-pub fields_clean : (head : ResponseHead) → AreClean (fields head)
+pub fields_clean : (head : Head) → AreClean (fields head)
 fields_clean head =
     let behind_type = (codes "Content-Length", decimal head.length) ∷ close_fields head.closes in
     let behind_status = type_fields head.content_type head.length ++ behind_type in

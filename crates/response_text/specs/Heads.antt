@@ -10,6 +10,18 @@ use Rattle.response_text.specs.declared.head.ResponseHead.{ResponseHead}
 use Rattle.response_text.specs.declared.status.Status.{Status}
 use Rattle.response_text.specs.declared.status.Status.TheVariants as status
 
+-- what a head says, as plain values: the status, the moment in milliseconds since 1970, the form and the length of the body, and
+-- whether the connection is closed behind it
+pub record Head : Type 0 where
+  pub status : Status
+  pub moment : ℕ
+  pub content_type : ContentType
+  pub length : ℕ
+  pub closes : Bool
+
+abbrev pub head_of : ResponseHead → Head
+head_of head = record { status = head.status; moment = head.moment; content_type = head.content_type; length = head.length; closes = head.closes }
+
 -- a field is a name and a value
 abbrev pub Fields : Type 0
 Fields = List (List ℕ × List ℕ)
@@ -60,7 +72,7 @@ abbrev pub close_fields : Bool → Fields
 close_fields closes = if closes then (codes "Connection", codes "close") ∷ [] else []
 
 -- all fields, in order; Date and Content-Length are those of RFC 9110, sections 6.6.1 and 8.6
-abbrev pub fields : ResponseHead → Fields
+abbrev pub fields : Head → Fields
 fields head =
     (codes "Date", date_at head.moment)
     ∷ (status_fields head.status
@@ -68,7 +80,7 @@ fields head =
     ++ ((codes "Content-Length", decimal head.length) ∷ close_fields head.closes)))
 
 -- the status line, a line for each field, and the empty line
-abbrev pub head_text : ResponseHead → List ℕ
+abbrev pub head_text : Head → List ℕ
 head_text head = line (status_line head.status) ++ (fields_text (fields head) ++ line [])
 
 -- ---- a law
@@ -78,7 +90,7 @@ abbrev pub is_one_line : List ℕ → Bool
 is_one_line text = list_all (λ b. nat_le 32 b) text
 
 -- the lines have no other ends than those behind them
-abbrev pub LinesEndOnce : ResponseHead → Type 0
+abbrev pub LinesEndOnce : Head → Type 0
 LinesEndOnce head =
     IsTrue (is_one_line (status_line head.status))
     × IsTrue (list_all (λ field. is_one_line (field_line field)) (fields head))

@@ -1,7 +1,7 @@
 -- The statuses that are answered (RFC 9110, section 15; RFC 6585, section 5).
-use Rattle.std.specs.Prelude.{◌≡◌, ◌≢◌, ℕ, List, None, ⊤, codes}
-use Rattle.response_text.specs.declared.status.Method.{Method}
-use Rattle.response_text.specs.declared.status.Method.TheVariants as method
+use Rattle.std.specs.Prelude.{◌≡◌, ℕ, List, None, ⊤, codes}
+use Rattle.case_table.specs.declared.routing.Method.{Method}
+use Rattle.case_table.specs.declared.routing.Method.TheVariants as method
 use Rattle.response_text.specs.declared.status.Status.{Status}
 use Rattle.response_text.specs.declared.status.Status.TheVariants as status
 
@@ -51,10 +51,3 @@ IsBare allowed status.RequestHeaderFieldsTooLarge = ⊤
 IsBare allowed status.InternalServerError = ⊤
 IsBare allowed status.NotImplemented = ⊤
 IsBare allowed status.ServiceUnavailable = ⊤
-
-abbrev pub HasCode : ℕ → Method → Status → Type 0
-HasCode number allowed s = (code s ≡ number) × IsBare allowed s
-
--- no status has the code
-abbrev pub IsNoCode : ℕ → Type 0
-IsNoCode number = (s : Status) → code s ≢ number

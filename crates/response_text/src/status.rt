@@ -1,26 +1,18 @@
 // The statuses that are answered.
-ghost use Rattle.std.specs.Prelude.{◌≡◌, ◌≤◌, length, MatchOption};
-ghost use Rattle.response_text.specs.Statuses.{code, reason, method_name, HasCode, IsNoCode};
+ghost use Rattle.std.specs.Prelude.{◌≡◌, ◌≤◌, length};
+ghost use Rattle.case_table.specs.Refusals.{refusal_row};
+ghost use Rattle.response_text.specs.Statuses.{code, reason, method_name as name_of_method, IsBare};
 
-/// A method that a target may have (RFC 9110, section 9.3).
-#[derive(Clone, Copy, Debug, PartialEq, Eq)]
-pub enum Method {
-    /// GET.
-    Get,
-    /// POST.
-    Post,
-}
+use case_table::{Method, Refusal};
 
-impl Method {
-    /// Its name (RFC 9110, section 9.1).
-    pub fn name(self) -> &'static str
-        ensures name { result.now ≡ method_name self }
-        ensures short { length result.now ≤ 4 }
-    {
-        match self {
-            Method::Get => "GET",
-            Method::Post => "POST",
-        }
+/// The name of a method (RFC 9110, section 9.1).
+pub(crate) fn method_name(method: Method) -> &'static str
+    ensures name { result.now ≡ name_of_method method }
+    ensures short { length result.now ≤ 4 }
+{
+    match method {
+        Method::Get => "GET",
+        Method::Post => "POST",
     }
 }
 
@@ -54,25 +46,23 @@ pub enum Status {
 }
 
 impl Status {
-    /// The status of that code: of 200 without a version, of 405 with the method given. `None` comes exactly where no status
-    /// has the code.
-    pub fn of(code: u16, allowed: Method) -> Option<Status>
-        ensures { MatchOption result (IsNoCode code) (HasCode code allowed) }
+    /// The status with which a refusal is answered; that of a wrong method tells the method that is allowed.
+    pub fn of_refusal(refusal: Refusal, allowed: Method) -> Status
+        ensures code { code result ≡ (refusal_row refusal).status }
+        ensures bare { IsBare allowed result }
     {
-        match code {
-            200 => Some(Status::Ok(None)),
-            400 => Some(Status::BadRequest),
-            401 => Some(Status::Unauthorized),
-            403 => Some(Status::Forbidden),
-            404 => Some(Status::NotFound),
-            405 => Some(Status::MethodNotAllowed(allowed)),
-            409 => Some(Status::Conflict),
-            413 => Some(Status::ContentTooLarge),
-            431 => Some(Status::RequestHeaderFieldsTooLarge),
-            500 => Some(Status::InternalServerError),
-            501 => Some(Status::NotImplemented),
-            503 => Some(Status::ServiceUnavailable),
-            _ => None,
+        match refusal {
+            Refusal::Unauthenticated => Status::Unauthorized,
+            Refusal::LinkInvalid | Refusal::LinkExpired | Refusal::LinkRevoked => Status::Forbidden,
+            Refusal::NotFound | Refusal::FileGone => Status::NotFound,
+            Refusal::MethodNotAllowed => Status::MethodNotAllowed(allowed),
+            Refusal::Conflict | Refusal::Contended => Status::Conflict,
+            Refusal::BodyTooLarge => Status::ContentTooLarge,
+            Refusal::HeadTooLarge => Status::RequestHeaderFieldsTooLarge,
+            Refusal::CatalogBlocked => Status::InternalServerError,
+            Refusal::TransferCoding => Status::NotImplemented,
+            Refusal::StoreFault => Status::ServiceUnavailable,
+            _ => Status::BadRequest,
         }
     }
 

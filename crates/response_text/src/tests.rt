@@ -3,7 +3,8 @@ ghost use Rattle.std.specs.Prelude.{◌≤◌};
 
 use crate::head::{ContentType, ResponseHead};
 use crate::head_text;
-use crate::status::{Method, Status};
+use crate::status::Status;
+use case_table::{Method, Refusal};
 use std::alloc::{AllocError, Global};
 
 fn is_text(alloc: Global, head: ResponseHead, text: &[u8]) -> Result<bool, AllocError> {
@@ -104,30 +105,30 @@ fn bodies_of_each_form(rt: HostRuntime) -> Result<(), AllocError> {
 }
 
 #[test]
-fn statuses_by_their_codes(rt: HostRuntime) {
-    for (code, reason) in [
-        (200, "OK"),
-        (400, "Bad Request"),
-        (401, "Unauthorized"),
-        (403, "Forbidden"),
-        (404, "Not Found"),
-        (405, "Method Not Allowed"),
-        (409, "Conflict"),
-        (413, "Content Too Large"),
-        (431, "Request Header Fields Too Large"),
-        (500, "Internal Server Error"),
-        (501, "Not Implemented"),
-        (503, "Service Unavailable"),
+fn statuses_by_their_refusals(rt: HostRuntime) {
+    for (refusal, code, reason) in [
+        (Refusal::BadParameter, 400, "Bad Request"),
+        (Refusal::Unauthenticated, 401, "Unauthorized"),
+        (Refusal::LinkRevoked, 403, "Forbidden"),
+        (Refusal::FileGone, 404, "Not Found"),
+        (Refusal::MethodNotAllowed, 405, "Method Not Allowed"),
+        (Refusal::Contended, 409, "Conflict"),
+        (Refusal::BodyTooLarge, 413, "Content Too Large"),
+        (
+            Refusal::HeadTooLarge,
+            431,
+            "Request Header Fields Too Large",
+        ),
+        (Refusal::CatalogBlocked, 500, "Internal Server Error"),
+        (Refusal::TransferCoding, 501, "Not Implemented"),
+        (Refusal::StoreFault, 503, "Service Unavailable"),
     ] {
-        match Status::of(code, Method::Get) {
-            Some(status) => {
-                assert!(&rt; status.code() == code);
-                assert_eq!(&rt; status.reason(), reason);
-            }
-            None => assert!(&rt; false, "{code}"),
-        }
+        let status = Status::of_refusal(refusal, Method::Post);
+        assert!(&rt; status.code() == code, "{code}");
+        assert_eq!(&rt; status.reason(), reason);
     }
-    assert!(&rt; Status::of(402, Method::Get).is_none());
-    assert!(&rt; Status::of(0, Method::Get).is_none());
-    assert!(&rt; Status::of(405, Method::Post) == Some(Status::MethodNotAllowed(Method::Post)));
+    let wrong = Status::of_refusal(Refusal::MethodNotAllowed, Method::Post);
+    assert!(&rt; wrong == Status::MethodNotAllowed(Method::Post));
+    assert!(&rt; Status::Ok(None).code() == 200);
+    assert_eq!(&rt; Status::Ok(None).reason(), "OK");
 }

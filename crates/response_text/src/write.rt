@@ -1,11 +1,11 @@
 // A head, written.
 ghost use Rattle.std.specs.Prelude.{◌≡◌, ◌≤◌, ◌+◌, ◌++◌, vec_len, IfOk, OnOk};
-ghost use Rattle.response_text.specs.Heads.{head_text, fields, fields_text, version_fields, status_fields, type_fields, close_fields};
+ghost use Rattle.response_text.specs.Heads.{head_of, head_text, fields, fields_text, version_fields, status_fields, type_fields, close_fields};
 
 use crate::date::date_at;
 use crate::head::{ContentType, ResponseHead};
 use crate::line::{push_end, push_field, push_number, push_status};
-use crate::status::Status;
+use crate::status::{Status, method_name};
 use std::alloc::{AllocError, Global};
 
 // The most bytes that a head has.
@@ -29,7 +29,11 @@ fn push_status_field(text: &mut Vec<u8>, status: Status) -> Result<(), AllocErro
     match status {
         Status::Ok(version) => push_version(text, version),
         Status::Unauthorized => push_field(text, "WWW-Authenticate", b"Bearer"),
-        Status::MethodNotAllowed(method) => push_field(text, "Allow", method.name().as_bytes()),
+        Status::MethodNotAllowed(method) => push_field(
+            text,
+            "Allow",
+            method_name(method).as_bytes(),
+        ),
         _ => Ok(()),
     }
 }
@@ -56,7 +60,7 @@ fn push_close(text: &mut Vec<u8>, closes: bool) -> Result<(), AllocError>
 
 // All fields.
 fn push_fields(text: &mut Vec<u8>, head: &ResponseHead) -> Result<(), AllocError>
-    ensures text { OnOk result (text.new.items ≡ text.old.items ++ fields_text (fields head.now)) }
+    ensures text { OnOk result (text.new.items ≡ text.old.items ++ fields_text (fields (head_of head.now))) }
     ensures size { OnOk result (vec_len text.new ≤ vec_len text.old + 188) }
 {
     push_field(text, "Date", &date_at(head.moment))?;
@@ -73,7 +77,7 @@ fn push_fields(text: &mut Vec<u8>, head: &ResponseHead) -> Result<(), AllocError
 /// Allow with 405; Content-Type where the body isn't empty; Content-Length; `Connection: close` where the connection is
 /// closed. The text has at most 256 bytes, and room for as many is made at once. The error is want of memory.
 pub fn head_text(alloc: Global, head: &ResponseHead) -> Result<Vec<u8>, AllocError>
-    ensures text { IfOk result (λ text. text.items ≡ head_text head.now) }
+    ensures text { IfOk result (λ text. text.items ≡ head_text (head_of head.now)) }
     ensures size { IfOk result (λ text. vec_len text ≤ 256) }
 {
     let mut text = Vec::with_capacity(alloc, ROOM)?;

@@ -1,12 +1,12 @@
 use Rattle.std.proofs.Common.{◌≡◌, ◌++◌, codes, decimal}
 use Rattle.response_text.specs.Dates.{date_at}
-use Rattle.response_text.specs.Heads.{fields, fields_text, status_fields, type_fields, close_fields}
+use Rattle.response_text.specs.Heads.{fields, head_of, fields_text, status_fields, type_fields, close_fields}
 use Rattle.response_text.proofs.HeadLemmas.{fields_text-in_order}
 use Rattle.response_text.proofs.write.push_fields.Goals as goal
 
 pub returns-clause-text : goal.returns-clause-text
 returns-clause-text c =
-    let head = c.args.head.now in
+    let head = head_of c.args.head.now in
     let whole = fields_text-in_order c.args.text.now.items (codes "Date", date_at head.moment) (codes "Content-Length", decimal head.length) (status_fields head.status) (type_fields head.content_type head.length) (close_fields head.closes) in
     let all : c.push_number.new.text.items ++ fields_text (close_fields head.closes) ≡ c.args.text.now.items ++ fields_text (fields head) =
     rw (c.in_ok-push_number.ensures.text, c.in_ok-push_type.ensures.text, c.in_ok-push_status_field.ensures.text, c.in_ok-push_field.ensures.text, c.date_at.ensures) whole in
