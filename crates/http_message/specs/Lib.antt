@@ -1,5 +1,4 @@
 pub mod Ends
-pub mod Refusals
 pub mod Fields
 pub mod Heads
 pub mod Fronts

@@ -86,9 +86,7 @@ fn front_of(alloc: Global, text: &[u8]) -> Result<(Head, usize), HeadFault>
                 len,
             ))
         }
-        Ok(Status::Partial) => Err(HeadFault::NoHead),
-        Err(Error::TooManyHeaders) => Err(HeadFault::NoHead),
-        Err(_) => Err(HeadFault::NoHead),
+        _ => Err(HeadFault::NoHead),
     }
 }
 

@@ -1,5 +1,5 @@
 // Laws on the readings of a stream. The functions do nothing when they are called.
-ghost use Rattle.std.specs.Prelude.{◌≡◌, List, ℕ};
+ghost use Rattle.std.specs.Prelude.{◌≡◌, Bool, List, ℕ};
 ghost use Rattle.http_message.specs.Messages.{Reading, ReadsMessage};
 ghost use Rattle.http_message.specs.ResponseMessages.{ReadsResponseMessage, ResponseReading};
 
@@ -11,5 +11,5 @@ pub fn one_reading()
 /// A law: a stream has at most one reading as a response, so which of its heads are passed over, and what stands behind it, are
 /// determined too.
 pub fn one_response()
-    ensures { (stream : List ℕ) (x y : ResponseReading) → ReadsResponseMessage stream x → ReadsResponseMessage stream y → x ≡ y }
+    ensures { (to_head : Bool) (stream : List ℕ) (x y : ResponseReading) → ReadsResponseMessage to_head stream x → ReadsResponseMessage to_head stream y → x ≡ y }
 {}

@@ -1,3 +1,14 @@
-//! The codes of the refusals of a message, of the table `case_table::refusals`.
+// What is wrong with a message.
 
-pub use case_table::refusal::{BAD_MESSAGE, BODY_TOO_LARGE, HEAD_TOO_LARGE, TRANSFER_CODING};
+/// What is wrong with a message that is refused.
+#[derive(Clone, Copy, Debug, PartialEq, Eq)]
+pub enum Flaw {
+    /// It breaks the rules of heads, of framing, of chunks or of trailers (RFC 9112).
+    BadMessage,
+    /// Its body is larger than is allowed.
+    BodyTooLarge,
+    /// Its head, or its trailers, have more bytes or lines than are allowed.
+    HeadTooLarge,
+    /// It has a Transfer-Encoding that isn't one field `chunked`.
+    TransferCoding,
+}
