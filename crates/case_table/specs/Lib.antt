@@ -1,1 +1,5 @@
-pub mod Tables
+pub mod Fields
+pub mod Laws
+pub mod Refusals
+pub mod Routes
+pub mod ValueTypes

@@ -1,18 +1,17 @@
-//! Tables of cases: what is told by a code, a word and a number is stated once here, and looked up by code or by word.
+//! What is told by cases, each table stated once: refusals with their statuses and messages, routes with their methods, types of
+//! values with their classes, and the fields of actions.
 //!
-//! A table is an array of [`Row`]s in which no code and no word stands twice. [`row_of`] finds the row of a code and
-//! [`code_of`] the code of a word; on a table each undoes the other.
+//! Each table is an enum, whose cases are its rows. What a case tells is stated in `specs/`, and each method tells just that.
 #![tactic(auto)]
 
-pub mod field;
-mod look;
-pub mod refusal;
-mod tables;
+mod action_fields;
+mod refuse;
+mod routing;
 #[cfg(test)]
 mod tests;
+mod values;
 
-pub use look::{Row, code_of, row_of};
-pub use tables::{
-    FIELDS, MESSAGES, REFUSALS, ROUTES, VALUE_TYPES, fields, messages, refusals, routes,
-    value_types,
-};
+pub use action_fields::{ActionKind, Field, fields_differ};
+pub use refuse::{Refusal, refusals_differ};
+pub use routing::{Method, Route, routes_differ};
+pub use values::{Class, ValueType, value_types_differ};

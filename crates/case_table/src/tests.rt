@@ -1,126 +1,170 @@
-// Tables at work, with rows from outside.
-ghost use Rattle.std.specs.Prelude.{◌≡◌, IsTrue, Some};
-ghost use Rattle.case_table.specs.Tables.{are_distinct};
-
+// The rows of each table, typed by hand from the documents and not from the code.
 use super::*;
 
 #[test]
-fn finds_a_refusal_both_ways(rt: HostRuntime) {
-    let table = refusals();
-    match row_of(&table, 12) {
-        Some(row) => {
-            assert_eq!(rt; row.word, "TOKEN_STALE");
-            assert_eq!(rt; row.number, 400);
-        }
-        None => assert!(rt; false),
-    }
-    assert!(rt; code_of(&table, "TOKEN_STALE") == Some(12));
-    assert!(rt; code_of_stale() == Some(12));
-    assert!(rt; row_of(&table, 99).is_none());
-    assert!(rt; row_of(&table, 0).is_none());
-    assert!(rt; code_of(&table, "STALE").is_none());
-    assert!(rt; code_of(&table, "token_stale").is_none());
-}
-
-// Whether the table has that row, by its code and by its word.
-fn has(table: &[Row], code: u16, word: &str, number: u16) -> bool
-    requires { IsTrue (are_distinct table.now) }
-{
-    row_of(table, code).is_some_and(|row| row.word == word && row.number == number)
-        && code_of(table, word) == Some(code)
-}
-
-// What a caller knows of a word: its code is a proved constant.
-fn code_of_stale() -> Option<u16>
-    ensures { result ≡ Some 12 }
-{
-    code_of(&refusals(), "TOKEN_STALE")
-}
-
-#[test]
 fn has_the_refusals(rt: HostRuntime) {
-    let table = refusals();
-    for (code, word, status) in [
-        (1, "UNAUTHENTICATED", 401),
-        (2, "NOT_FOUND", 404),
-        (3, "METHOD_NOT_ALLOWED", 405),
-        (15, "LINK_INVALID", 403),
-        (16, "FILE_GONE", 404),
-        (17, "CONFLICT", 409),
-        (19, "STORE_FAULT", 503),
-        (23, "CATALOG_BLOCKED", 500),
-        (25, "BODY_TOO_LARGE", 413),
-        (26, "HEAD_TOO_LARGE", 431),
-        (27, "TRANSFER_CODING", 501),
-    ] {
-        assert!(rt; has(&table, code, word, status), "{word}");
+    let rows = [
+        (1, "UNAUTHENTICATED", 401, "unauthenticated", false),
+        (2, "NOT_FOUND", 404, "not found", false),
+        (3, "METHOD_NOT_ALLOWED", 405, "method not allowed", false),
+        (4, "BAD_PARAMETER", 400, "bad parameter ", true),
+        (5, "BAD_BODY", 400, "bad body", false),
+        (6, "VERSION_RANGE", 400, "version out of range", false),
+        (7, "TIMESTAMP_RANGE", 400, "timestamp out of range", false),
+        (8, "HISTORY_NOT_SHARED", 400, "history not shared", false),
+        (
+            9,
+            "CHANGES_NOT_ENABLED",
+            400,
+            "changes not enabled at version ",
+            true,
+        ),
+        (10, "UNSUPPORTED_TABLE", 400, "unsupported table", false),
+        (11, "TOKEN_INVALID", 400, "token invalid", false),
+        (12, "TOKEN_STALE", 400, "token stale", false),
+        (13, "TOKEN_MISMATCH", 400, "token mismatch", false),
+        (14, "TOKEN_AHEAD", 400, "token ahead", false),
+        (15, "LINK_INVALID", 403, "link invalid", false),
+        (16, "FILE_GONE", 404, "file gone", false),
+        (17, "CONFLICT", 409, "", true),
+        (18, "CONTENDED", 409, "contended", false),
+        (19, "STORE_FAULT", 503, "store fault", false),
+        (20, "LIMIT", 400, "limit ", true),
+        (21, "LINK_EXPIRED", 403, "link expired", false),
+        (22, "LINK_REVOKED", 403, "link revoked", false),
+        (
+            23,
+            "CATALOG_BLOCKED",
+            500,
+            "catalog blocked at record ",
+            true,
+        ),
+        (24, "BAD_MESSAGE", 400, "bad message", false),
+        (25, "BODY_TOO_LARGE", 413, "body too large", false),
+        (26, "HEAD_TOO_LARGE", 431, "head too large", false),
+        (27, "TRANSFER_CODING", 501, "transfer coding", false),
+    ];
+    let mut refusals = Refusal::ALL.into_iter();
+    for (code, word, status, message, has_detail) in rows {
+        match refusals.next() {
+            Some(refusal) => {
+                assert_eq!(rt; refusal.code(), code, "{word}");
+                assert_eq!(rt; refusal.word(), word);
+                assert_eq!(rt; refusal.status(), status, "{word}");
+                assert_eq!(rt; refusal.message(), message, "{word}");
+                assert_eq!(rt; refusal.has_detail(), has_detail, "{word}");
+                assert!(rt; Refusal::of_word(word) == Some(refusal), "{word}");
+            }
+            None => assert!(rt; false, "{word}"),
+        }
     }
-    assert!(rt; row_of(&table, 28).is_none());
+    assert!(rt; refusals.next().is_none());
+    for word in ["", "STALE", "token_stale", "TOKEN_STALE ", "LINK_REVOKE"] {
+        assert!(rt; Refusal::of_word(word).is_none(), "{word}");
+    }
 }
 
 #[test]
 fn has_the_routes(rt: HostRuntime) {
-    let table = routes();
-    for (code, word, method) in [
-        (1, "ListShares", 1),
-        (2, "GetShare", 1),
-        (6, "Version", 1),
-        (8, "Query", 2),
-        (9, "Changes", 1),
-        (10, "File", 1),
-        (13, "Edit", 2),
-    ] {
-        assert!(rt; has(&table, code, word, method), "{word}");
+    let rows = [
+        (1, "ListShares", Method::Get),
+        (2, "GetShare", Method::Get),
+        (3, "ListSchemas", Method::Get),
+        (4, "ListTables", Method::Get),
+        (5, "ListAll", Method::Get),
+        (6, "Version", Method::Get),
+        (7, "Metadata", Method::Get),
+        (8, "Query", Method::Post),
+        (9, "Changes", Method::Get),
+        (10, "File", Method::Get),
+        (11, "Commit", Method::Post),
+        (12, "Refresh", Method::Post),
+        (13, "Edit", Method::Post),
+    ];
+    let mut routes = Route::ALL.into_iter();
+    for (code, word, method) in rows {
+        match routes.next() {
+            Some(route) => {
+                assert_eq!(rt; route.code(), code, "{word}");
+                assert_eq!(rt; route.word(), word);
+                assert!(rt; route.method() == method, "{word}");
+            }
+            None => assert!(rt; false, "{word}"),
+        }
     }
-    assert!(rt; row_of(&table, 14).is_none());
+    assert!(rt; routes.next().is_none());
 }
 
 #[test]
 fn has_the_value_types(rt: HostRuntime) {
-    let table = value_types();
-    for (code, word, class) in [
-        (1, "bool", 1),
-        (2, "int", 2),
-        (3, "long", 2),
-        (4, "string", 3),
-        (5, "date", 4),
-    ] {
-        assert!(rt; has(&table, code, word, class), "{word}");
+    let rows = [
+        ("bool", Class::Boolean),
+        ("int", Class::Whole),
+        ("long", Class::Whole),
+        ("string", Class::Text),
+        ("date", Class::Day),
+    ];
+    let mut kinds = ValueType::ALL.into_iter();
+    for (word, class) in rows {
+        match kinds.next() {
+            Some(kind) => {
+                assert_eq!(rt; kind.word(), word);
+                assert!(rt; kind.class() == class, "{word}");
+                assert!(rt; ValueType::of_word(word) == Some(kind), "{word}");
+            }
+            None => assert!(rt; false, "{word}"),
+        }
     }
-    assert!(rt; code_of(&table, "timestamp").is_none());
+    assert!(rt; kinds.next().is_none());
+    for word in ["timestamp", "Int", "", "float"] {
+        assert!(rt; ValueType::of_word(word).is_none(), "{word}");
+    }
 }
 
 #[test]
 fn has_the_fields(rt: HostRuntime) {
-    let table = fields();
-    for (code, word, action) in [
-        (1, "protocol.minReaderVersion", 1),
-        (9, "metaData.schemaString", 2),
-        (13, "add.path", 3),
-        (20, "remove.path", 4),
-        (25, "cdc.path", 5),
-        (28, "txn.appId", 6),
-        (30, "txn.lastUpdated", 6),
-    ] {
-        assert!(rt; has(&table, code, word, action), "{word}");
+    let rows = [
+        (1, "protocol", "minReaderVersion"),
+        (2, "protocol", "minWriterVersion"),
+        (3, "protocol", "readerFeatures"),
+        (4, "protocol", "writerFeatures"),
+        (5, "metaData", "id"),
+        (6, "metaData", "name"),
+        (7, "metaData", "description"),
+        (8, "metaData", "format"),
+        (9, "metaData", "schemaString"),
+        (10, "metaData", "partitionColumns"),
+        (11, "metaData", "configuration"),
+        (12, "metaData", "createdTime"),
+        (13, "add", "path"),
+        (14, "add", "partitionValues"),
+        (15, "add", "size"),
+        (16, "add", "modificationTime"),
+        (17, "add", "dataChange"),
+        (18, "add", "stats"),
+        (19, "add", "tags"),
+        (20, "remove", "path"),
+        (21, "remove", "deletionTimestamp"),
+        (22, "remove", "dataChange"),
+        (23, "remove", "partitionValues"),
+        (24, "remove", "size"),
+        (25, "cdc", "path"),
+        (26, "cdc", "partitionValues"),
+        (27, "cdc", "size"),
+        (28, "txn", "appId"),
+        (29, "txn", "version"),
+        (30, "txn", "lastUpdated"),
+    ];
+    let mut fields = Field::ALL.into_iter();
+    for (code, action, name) in rows {
+        match fields.next() {
+            Some(field) => {
+                assert_eq!(rt; field.code(), code, "{action}.{name}");
+                assert_eq!(rt; field.kind().word(), action);
+                assert_eq!(rt; field.name(), name);
+            }
+            None => assert!(rt; false, "{action}.{name}"),
+        }
     }
-    assert!(rt; code_of(&table, "path").is_none());
-}
-
-#[test]
-fn has_the_messages(rt: HostRuntime) {
-    let table = messages();
-    for (code, word, variable) in [
-        (1, "unauthenticated", 0),
-        (4, "bad parameter ", 1),
-        (9, "changes not enabled at version ", 1),
-        (12, "token stale", 0),
-        (17, "", 1),
-        (20, "limit ", 1),
-        (23, "catalog blocked at record ", 1),
-        (27, "transfer coding", 0),
-    ] {
-        assert!(rt; has(&table, code, word, variable), "{word}");
-    }
-    assert!(rt; row_of(&table, 28).is_none());
+    assert!(rt; fields.next().is_none());
 }
