@@ -9,3 +9,4 @@ pub mod ResponseFacts
 pub mod WholeHeads
 pub mod ResponseUnique
 pub mod FieldFacts
+pub mod Limits

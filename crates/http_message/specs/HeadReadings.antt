@@ -1,5 +1,5 @@
 -- What stands at the front of a stream as a head, of a request or of a response (RFC 9112, sections 2.1 and 2.2).
-use Rattle.std.specs.Prelude.{◌≡◌, ℕ, ◌⊎◌, Bool, false, ◌==◌, nat_lt, nat_le, List, length, take, drop, Option, Some, None, MatchBool, if◌then◌else◌}
+use Rattle.std.specs.Prelude.{◌≡◌, ℕ, ◌⊎◌, Bool, false, ◌==◌, nat_lt, nat_le, List, length, take, drop, Option, Some, None, MatchBool, MatchOption, if◌then◌else◌}
 use Rattle.http_message.specs.Ends.{blank_len, IsFirstEnd, TellsEnd, line_count}
 use Rattle.http_message.specs.declared.refusal.Flaw.{Flaw}
 use Rattle.http_message.specs.declared.refusal.Flaw.TheVariants.{BadMessage, HeadTooLarge}
@@ -11,6 +11,10 @@ pub data HeadReading (H : Type 0) : Type 0 where
   nothing : HeadReading H
   cut : HeadReading H
   faulty : Flaw → HeadReading H
+
+-- the head that the whole text is by the grammar IsText, or none where it is no head
+abbrev pub TellsHeadText : {H : Type 0} → (List ℕ → H → Type 0) → List ℕ → Option H → Type 0
+TellsHeadText {H} IsText text found = MatchOption found ((head : H) → ¬ (IsText text head)) (IsText text)
 
 -- more than 64 field lines, between the first line and the empty line
 abbrev pub has_many_lines : List ℕ → Bool

@@ -9,3 +9,4 @@ pub mod HeadReadings
 pub mod Messages
 pub mod Responses
 pub mod ResponseMessages
+pub mod Refusals

@@ -1,5 +1,5 @@
 -- The head of a response (RFC 9112, sections 4, 5 and 6.3), by the grammar of `httparse`, with at most 64 fields.
-use Rattle.std.specs.Prelude.{◌≡◌, ℕ, ◌<◌, ◌≤◌, Bool, ◌&&◌, ◌||◌, ◌==◌, List, map, length, drop, count_by, codes, Option, Some, None, Result, Ok, Err, MatchOption, MatchResult, ⊤, if◌then◌else◌}
+use Rattle.std.specs.Prelude.{◌≡◌, ℕ, ◌<◌, ◌≤◌, Bool, ◌&&◌, ◌||◌, ◌==◌, List, map, length, drop, count_by, codes, Option, Some, None, Result, Ok, Err, MatchResult, ⊤, if◌then◌else◌}
 use Rattle.httparse.specs.Grammar.{ResponseHead as Tree, IsResponseHead, ReadsResponse, print_response, status_code}
 use Rattle.httparse.specs.Spans.{name_and_value}
 use Rattle.http_message.specs.Fields.{is_named}
@@ -24,10 +24,6 @@ pub record IsResponseOf (text : List ℕ) (tree : Tree) : Type 0 where
 -- the whole text is a head, and this is what is kept of it
 abbrev pub IsResponseText : List ℕ → ResponseHead → Type 0
 IsResponseText text head = (tree : Tree) × IsResponseOf text tree × (head ≡ response_of_tree tree)
-
--- the head that the whole text is, or none where it is no head
-abbrev pub TellsResponse : List ℕ → Option ResponseHead → Type 0
-TellsResponse text found = MatchOption found ((head : ResponseHead) → ¬ (IsResponseText text head)) (IsResponseText text)
 
 -- ---- what parsing finds at the front
 

@@ -1,4 +1,8 @@
 // What is wrong with a message.
+ghost use Rattle.std.specs.Prelude.{◌≡◌};
+ghost use Rattle.http_message.specs.Refusals.{refusal_of};
+
+use case_table::Refusal;
 
 /// What is wrong with a message that is refused.
 #[derive(Clone, Copy, Debug, PartialEq, Eq)]
@@ -11,4 +15,18 @@ pub enum Flaw {
     HeadTooLarge,
     /// It has a Transfer-Encoding that isn't one field `chunked`.
     TransferCoding,
+}
+
+impl Flaw {
+    /// The refusal that answers the message.
+    pub fn refusal(self) -> Refusal
+        ensures { result ≡ refusal_of self }
+    {
+        match self {
+            Flaw::BadMessage => Refusal::BadMessage,
+            Flaw::BodyTooLarge => Refusal::BodyTooLarge,
+            Flaw::HeadTooLarge => Refusal::HeadTooLarge,
+            Flaw::TransferCoding => Refusal::TransferCoding,
+        }
+    }
 }

@@ -1,11 +1,12 @@
 // Heads of responses as texts.
 ghost use Rattle.std.specs.Prelude.{◌≡◌, IfOk};
+ghost use Rattle.http_message.specs.HeadReadings.{TellsHeadText};
 ghost use Rattle.http_message.specs.ResponseMessages.{is_interim};
-ghost use Rattle.http_message.specs.Responses.{is_bodiless, response_form, TellsResponse, TellsResponseFront};
+ghost use Rattle.http_message.specs.Responses.{is_bodiless, response_form, IsResponseText, TellsResponseFront};
 
 use crate::field::{Fields, count_named};
 use crate::framing::{Form, form_in};
-use crate::head::{HeadFault, copy_fields};
+use crate::head::{HeadFault, HeadText, copy_fields};
 use crate::refusal::Flaw;
 use httparse::{EMPTY_HEADER, Response, Status};
 use std::alloc::{AllocError, Global};
@@ -45,11 +46,21 @@ fn response_front(alloc: Global, text: &[u8]) -> Result<(ResponseHead, usize), H
     }
 }
 
+impl HeadText for ResponseHead {
+    ghost use Rattle.http_message.specs.Responses.{IsResponseText};
+
+    ghost is_text = { IsResponseText };
+
+    fn of_text(alloc: Global, text: &[u8]) -> Result<Option<ResponseHead>, AllocError> {
+        response_in(alloc, text)
+    }
+}
+
 /// The head of a response that the whole text is, or none where it is no head with at most 64 fields.
 ///
 /// The error is want of memory.
 pub fn response_in(alloc: Global, text: &[u8]) -> Result<Option<ResponseHead>, AllocError>
-    ensures { IfOk result (TellsResponse text.now) }
+    ensures { IfOk result (TellsHeadText IsResponseText text.now) }
 {
     match response_front(alloc, text) {
         Ok((head, len)) => {

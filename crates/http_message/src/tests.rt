@@ -10,6 +10,14 @@ use std::alloc::{AllocError, Global};
 const MOST: u64 = 16_777_216;
 
 #[test]
+fn flaws_are_refused(rt: HostRuntime) {
+    assert!(&rt; Flaw::BadMessage.refusal().word() == "BAD_MESSAGE");
+    assert!(&rt; Flaw::BodyTooLarge.refusal().word() == "BODY_TOO_LARGE");
+    assert!(&rt; Flaw::HeadTooLarge.refusal().word() == "HEAD_TOO_LARGE");
+    assert!(&rt; Flaw::TransferCoding.refusal().word() == "TRANSFER_CODING");
+}
+
+#[test]
 fn lines_and_where_heads_end(rt: HostRuntime) {
     let text = b"\r\n\nGET / HTTP/1.0\n\nrest\n\n";
     assert!(&rt; blank_len(text) == 3);

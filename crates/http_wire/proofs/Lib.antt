@@ -2,12 +2,13 @@ pub mod Streams
 pub mod HeadEnds
 pub mod Windows
 pub mod Looks
-pub mod HeadReads
-pub mod Rests
 pub mod Pouring
-pub mod BodyParts
+pub mod Takes
+pub mod Contents
 pub mod Trailers
-pub mod BodyReads
+pub mod Chunks
+pub mod Whole
+pub mod HeadReads
 pub mod Passing
 pub mod Wires
 pub mod Replies
