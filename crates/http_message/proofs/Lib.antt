@@ -10,3 +10,4 @@ pub mod WholeHeads
 pub mod ResponseUnique
 pub mod FieldFacts
 pub mod Limits
+pub mod SessionUnique

@@ -1,18 +1,18 @@
 -- A body has no more bytes than it may.
-use Rattle.std.proofs.Common.{◌≡◌, ℕ, ◌+◌, ◌-◌, ◌<◌, ◌≤◌, inl, inr, Bool, true, false, not, cond, leb, ltb, eqb, List, [], ◌∷◌, ◌++◌, length, take, drop, get_or, Option, Some, None, Result, Ok, Err, refl, sym, ap, ◌∙◌, arith, length-append}
+use Rattle.std.proofs.Common.{◌≡◌, ℕ, ◌+◌, ◌-◌, ◌≤◌, inl, inr, Bool, true, false, not, cond, leb, ltb, eqb, List, [], ◌∷◌, ◌++◌, length, take, drop, get_or, Option, Some, None, Result, Ok, Err, refl, ap, arith, length-append}
 use Rattle.std.specs.Bool.{MatchBool}
 use Rattle.std.specs.Prelude.{is_some, ◌⊎◌, ◌==◌, ◌&&◌, codes, count_by}
-use Rattle.httparse.specs.Grammar.{ChunkLine, chunk_size}
+use Rattle.httparse.specs.Grammar.{chunk_size}
 use Rattle.http_message.specs.Ends.{line_count}
 use Rattle.http_message.specs.Fields.{is_named, first_named, same_text}
 use Rattle.http_message.specs.Heads.{IsTrailersText}
 use Rattle.std.proofs.lemmas.Bool.Decides.{nat_tests}
 use Rattle.std.proofs.lemmas.List.{length-take}
-use Rattle.http_message.specs.Bodies.{BodyReading, whole, unended, refused, behind, sized_body, ReadsTrailersTo, ReadsTrailers, Chunk, content_stop, StopsBehindLine, Stops, ReadsChunks, ReadsBody}
-use Rattle.http_message.specs.Framing.{Pairs, closes, is_broken, length_in, sized, form_by, form_in, request_form}
+use Rattle.http_message.specs.Bodies.{BodyReading, whole, unended, refused, behind, ReadsTrailers, Chunk, content_stop, Stops, ReadsChunks, ReadsBody}
+use Rattle.http_message.specs.Framing.{Pairs, closes, is_broken, length_in, sized, form_in, request_form}
 use Rattle.http_message.specs.HeadReadings.{headed, nothing, cut, faulty}
-use Rattle.http_message.specs.Messages.{request, ended, truncated, bad, with_head, ReadsBehindHead, ReadsMessage}
-use Rattle.http_message.specs.ResponseMessages.{truncated as response_cut, bad as response_bad, ReadsResponseBody, open_body, response, with_response, ReadsBehindResponse, ReadsResponseMessage}
+use Rattle.http_message.specs.Messages.{request, ended, truncated, bad, with_head, ReadsMessage}
+use Rattle.http_message.specs.ResponseMessages.{truncated as response_cut, bad as response_bad, ReadsResponseBody, response, with_response, ReadsResponseMessage}
 use Rattle.http_message.specs.Responses.{is_bodiless, some_form, response_form}
 use Rattle.http_message.specs.declared.framing.Form.{Form}
 use Rattle.http_message.specs.declared.framing.Form.TheVariants as form

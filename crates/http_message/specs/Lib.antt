@@ -10,3 +10,4 @@ pub mod Messages
 pub mod Responses
 pub mod ResponseMessages
 pub mod Refusals
+pub mod Sessions

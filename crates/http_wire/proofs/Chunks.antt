@@ -1,11 +1,10 @@
 -- A chunk, line and content, and what stands behind it.
-use Rattle.std.proofs.Common.{◌≡◌, ℕ, ◌+◌, ◌-◌, ◌<◌, ◌≤◌, inl, inr, eqb, List, [], ◌∷◌, ◌++◌, length, take, drop, Option, Some, None, Result, Ok, Err, refl, sym, ap, ◌∙◌, subst, arith, append_assoc, length-append}
+use Rattle.std.proofs.Common.{◌≡◌, ℕ, ◌-◌, ◌<◌, ◌≤◌, inl, inr, eqb, List, [], ◌∷◌, ◌++◌, length, take, drop, Option, Some, Result, Ok, Err, refl, sym, ap, ◌∙◌, subst, arith, append_assoc, length-append}
 use Rattle.std.specs.Bool.{MatchBool}
 use Rattle.std.proofs.lemmas.Bool.{lt-ltb, le-ltb, eq-eqb, ne_eqb}
 use Rattle.std.proofs.Math.Seq.{take-append_seam}
-use Rattle.httparse.specs.Ascii.{crlf_bytes}
 use Rattle.httparse.specs.Grammar.{ChunkLine, print_chunk_line, chunk_size}
-use Rattle.http_message.specs.Bodies.{BodyReading, whole, unended, refused, behind, content_stop, Chunk, IsChunk, print_chunk, StopsBehindLine, Stops, ReadsTrailers, ReadsChunked, ReadsChunks}
+use Rattle.http_message.specs.Bodies.{BodyReading, whole, unended, refused, behind, content_stop, Chunk, IsChunk, print_chunk, StopsBehindLine, Stops, ReadsTrailers, ReadsChunked}
 use Rattle.http_message.specs.Lines.{IsLineAt, IsOpenLine, IsBadLine}
 use Rattle.http_message.specs.declared.refusal.Flaw.TheVariants.{BadMessage, BodyTooLarge}
 use Rattle.http_message.proofs.Growth.{line-append, bad-append}

@@ -12,3 +12,4 @@ pub mod HeadReads
 pub mod Passing
 pub mod Wires
 pub mod Replies
+pub mod Following

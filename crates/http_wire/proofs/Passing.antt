@@ -1,5 +1,5 @@
 -- Interim heads, one after another, and what stands behind them.
-use Rattle.std.proofs.Common.{◌≡◌, ℕ, ◌+◌, ◌-◌, ◌<◌, ◌≤◌, inl, inr, true, false, cond, eqb, List, [], ◌∷◌, ◌++◌, length, Option, Result, Ok, Err, refl, sym, ap, ◌∙◌, subst, arith, append_assoc, length-append}
+use Rattle.std.proofs.Common.{◌≡◌, ℕ, ◌+◌, ◌-◌, ◌<◌, ◌≤◌, inl, inr, true, false, cond, List, [], ◌∷◌, ◌++◌, length, Option, Result, Ok, Err, refl, sym, ap, ◌∙◌, subst, arith, append_assoc, length-append}
 use Rattle.std.specs.Prelude.{⊤}
 use Rattle.std.proofs.lemmas.Bool.{eq-eqb, ne_eqb}
 use Rattle.std.proofs.lemmas.List.Elements.{All-cons, All-nil}
@@ -10,7 +10,7 @@ use Rattle.http_message.specs.declared.refusal.Flaw.TheVariants.{BadMessage}
 use Rattle.http_message.specs.declared.response.ResponseHead.{ResponseHead}
 use Rattle.http_message.proofs.WholeHeads.{headed_whole}
 use Rattle.http_wire.specs.Heads.{HeadFound, IsHeadShort, IsCounted, IsPassing}
-use Rattle.http_wire.specs.Streams.{Buffer, IsEnd, Draws, Drew}
+use Rattle.http_wire.specs.Streams.{Buffer, Draws, Drew}
 use Rattle.http_wire.specs.declared.head.HeadRead.{HeadRead}
 use Rattle.http_wire.specs.declared.head.HeadRead.TheVariants as read
 use Rattle.http_wire.specs.declared.inbox.Halt.{Halt}

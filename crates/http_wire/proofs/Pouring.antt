@@ -1,8 +1,9 @@
 -- Bytes that went behind a body.
-use Rattle.std.proofs.Common.{◌≡◌, ℕ, ◌+◌, ◌-◌, ◌^◌, ◌<◌, ◌≤◌, min, List, [], ◌++◌, length, take, drop, Option, Result, Ok, Err, refl, sym, ap, ◌∙◌, arith}
+use Rattle.std.proofs.Common.{◌≡◌, ℕ, ◌<◌, List, [], ◌++◌, length, take, drop, Option, Result, Ok, refl, sym, ap, ◌∙◌, arith}
 use Rattle.std.proofs.lemmas.List.{append-nil, take-append-drop, length-take}
 use Rattle.http_wire.specs.Fills.{Awaits, GoesBehind, MovesSome}
-use Rattle.http_wire.specs.Streams.{Buffer, place_behind, Draws, Drew}
+use Rattle.http_message.specs.Sessions.{place_behind}
+use Rattle.http_wire.specs.Streams.{Buffer, Draws, Drew}
 use Rattle.http_wire.specs.declared.inbox.Filled.{Filled}
 use Rattle.http_wire.specs.declared.inbox.Filled.TheVariants as filled
 use Rattle.http_wire.specs.declared.inbox.Halt.{Halt}

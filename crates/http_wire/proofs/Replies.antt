@@ -1,12 +1,12 @@
 -- Heads and a body, as a response.
-use Rattle.std.proofs.Common.{Vec, ◌≡◌, ℕ, ◌+◌, ◌-◌, ◌<◌, ◌≤◌, inl, inr, Bool, true, false, List, [], ◌∷◌, ◌++◌, length, Option, Some, None, Result, Ok, Err, refl, sym, ap, ◌∙◌, subst, arith, append_assoc, length-append}
+use Rattle.std.proofs.Common.{Vec, ◌≡◌, ℕ, ◌≤◌, inl, inr, Bool, List, [], ◌++◌, length, Option, Some, None, Result, Ok, Err, refl, sym, ap, ◌∙◌, subst, append_assoc}
 use Rattle.std.specs.Prelude.{◌⊎◌}
 use Rattle.std.proofs.lemmas.List.{append-nil}
 use Rattle.std.specs.declared.alloc.Global.{Global}
 use Rattle.std.specs.Io.KnownBytes.{prepend_known}
 use Rattle.http_message.specs.Bodies.{BodyReading, whole, unended, refused}
-use Rattle.http_message.specs.HeadReadings.{HeadReading, headed, nothing, cut, faulty}
-use Rattle.http_message.specs.ResponseMessages.{ReadsFinalHead, ReadsResponseBody, ResponseReading, with_response, response, truncated, bad, ReadsResponseMessage}
+use Rattle.http_message.specs.HeadReadings.{headed, nothing, cut, faulty}
+use Rattle.http_message.specs.ResponseMessages.{ReadsFinalHead, ReadsResponseBody, with_response, response, truncated, bad, ReadsResponseMessage}
 use Rattle.http_message.specs.Responses.{response_form}
 use Rattle.http_message.specs.declared.framing.Form.{Form}
 use Rattle.http_message.specs.declared.refusal.Flaw.{Flaw}
@@ -14,9 +14,9 @@ use Rattle.http_message.specs.declared.response.ResponseHead.{ResponseHead}
 use Rattle.http_message.proofs.Limits.{response_within}
 use Rattle.http_wire.specs.Bodies.{BodyFound, IsBodyShort, IsWhole}
 use Rattle.http_wire.specs.Heads.{HeadFound, IsHeadShort}
-use Rattle.http_wire.specs.Replies.{Replies, TellsReply, IsReply, IsReplyShort, GoesToEnd, is_fault, is_head_fault, OnResponse, TellsHeadAt, TellsFinalHead, IsHeadShortOf, IsFinalHead}
-use Rattle.http_wire.specs.ReplyParts.{ReadsBehind, IsShortBehind, IsBehindHead, IsNoFault}
-use Rattle.http_wire.specs.Streams.{Buffer, stream, IsEnd, Told, Draws, Drew}
+use Rattle.http_wire.specs.Replies.{Replies, TellsReply, IsReply, IsReplyShort, OnResponse, TellsHeadAt, TellsFinalHead, IsHeadShortOf, IsFinalHead}
+use Rattle.http_wire.specs.ReplyParts.{ReadsBehind, IsShortBehind, IsBehindHead}
+use Rattle.http_wire.specs.Streams.{Buffer, stream, IsEnd, Told, Drew}
 use Rattle.http_wire.specs.declared.body.BodyRead.{BodyRead}
 use Rattle.http_wire.specs.declared.body.BodyRead.TheVariants as body
 use Rattle.http_wire.specs.declared.head.HeadRead.{HeadRead}

@@ -2,7 +2,8 @@
 use Rattle.std.proofs.Common.{◌≡◌, ℕ, ◌+◌, ◌-◌, ◌^◌, ◌<◌, ◌≤◌, min, List, [], ◌∷◌, ◌++◌, length, take, drop, Option, Some, None, refl, sym, ap, ◌∙◌, subst, arith, append_assoc, length-append}
 use Rattle.std.proofs.lemmas.List.{append-nil, take-append-drop, length-take-le}
 use Rattle.std.specs.Io.KnownBytes.{prepend_known}
-use Rattle.http_wire.specs.Streams.{Buffer, stream, IsEnd, place_behind, Moves, Told, all_of, EachShort, Draws, Drew}
+use Rattle.http_message.specs.Sessions.{place_behind}
+use Rattle.http_wire.specs.Streams.{Buffer, stream, IsEnd, Moves, all_of, EachShort, Draws, Drew}
 use Rattle.http_wire.specs.Fills.{Awaits}
 
 all_of-append : (a b : List (List ℕ)) → all_of (a ++ b) ≡ all_of a ++ all_of b
@@ -34,7 +35,6 @@ prepend-none (Some xs) = refl
 no_piece : (a b : List (List ℕ)) → a ++ b ≡ [] → (a ≡ []) × (b ≡ [])
 no_piece [] b e = (refl, e)
 no_piece (p ∷ ps) b e = absurd cc
-
 
 -- nothing was read or used
 pub draws_none : {S : Type 0} (left : S → Option (List ℕ)) (P : List ℕ → Type 0) (a b : Buffer) (s t : S) → b ≡ a → t ≡ s → Draws left P a b s t [] []

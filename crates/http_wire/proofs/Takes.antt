@@ -1,8 +1,8 @@
 -- Bytes of a given number, and bytes to the end, that went behind a body.
-use Rattle.std.proofs.Common.{◌≡◌, ℕ, ◌+◌, ◌-◌, ◌<◌, ◌≤◌, List, [], ◌++◌, length, Option, Result, Ok, Err, refl, sym, ap, ◌∙◌, subst, arith, append_assoc, length-append}
+use Rattle.std.proofs.Common.{◌≡◌, ℕ, ◌+◌, ◌-◌, ◌<◌, ◌≤◌, List, [], ◌++◌, length, Option, Result, refl, sym, ap, ◌∙◌, arith, append_assoc, length-append}
 use Rattle.std.proofs.lemmas.List.{append-nil}
 use Rattle.http_wire.specs.Fills.{GoesBehind, MovesSome}
-use Rattle.http_wire.specs.Streams.{Buffer, Draws, Drew}
+use Rattle.http_wire.specs.Streams.{Buffer, Drew}
 use Rattle.http_wire.specs.declared.inbox.Filled.{Filled}
 use Rattle.http_wire.specs.declared.inbox.Halt.{Halt}
 use Rattle.http_wire.proofs.Streams.{draws_none, draws_then}

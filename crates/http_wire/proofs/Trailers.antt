@@ -1,7 +1,7 @@
 -- The trailers of a chunked body.
-use Rattle.std.proofs.Common.{◌≡◌, ℕ, ◌+◌, ◌-◌, ◌<◌, ◌≤◌, cond, List, [], ◌∷◌, ◌++◌, length, take, drop, Option, Some, None, Ok, refl, sym, ap, ◌∙◌, subst, arith, append_assoc, length-append}
+use Rattle.std.proofs.Common.{◌≡◌, ℕ, ◌+◌, ◌-◌, ◌≤◌, cond, List, [], ◌∷◌, ◌++◌, length, take, drop, Option, Some, None, Ok, sym, ap, ◌∙◌, subst, arith, append_assoc, length-append}
 use Rattle.std.proofs.lemmas.Bool.{le-leb, lt-leb}
-use Rattle.std.proofs.lemmas.List.{append-nil, take-append-le, drop-append-le, take-append-drop, length-take, take_all, drop_all}
+use Rattle.std.proofs.lemmas.List.{take-append-le, drop-append-le, take-append-drop, length-take, take_all, drop_all}
 use Rattle.http_message.specs.Ends.{IsFirstEnd, HasNoEnd, TellsEnd}
 use Rattle.http_message.specs.Bodies.{BodyReading, whole, unended, refused, ReadsTrailers, ReadsTrailersText}
 use Rattle.http_message.specs.declared.refusal.Flaw.TheVariants.{HeadTooLarge}

@@ -1,12 +1,11 @@
 -- Whole bodies, by their form.
-use Rattle.std.proofs.Common.{◌≡◌, ℕ, ◌+◌, ◌-◌, ◌<◌, ◌≤◌, cond, leb, List, [], ◌++◌, length, take, drop, Option, Some, None, Result, Ok, Err, refl, sym, ap, ◌∙◌, subst, arith, length-append, append_assoc}
+use Rattle.std.proofs.Common.{◌≡◌, ℕ, ◌-◌, ◌<◌, ◌≤◌, cond, List, [], ◌++◌, length, take, drop, Option, Some, None, Result, Ok, Err, sym, ap, ◌∙◌, subst, arith, length-append, append_assoc}
 use Rattle.std.specs.Prelude.{⊤}
 use Rattle.std.proofs.lemmas.Bool.{le-leb, lt-leb}
 use Rattle.std.proofs.lemmas.List.{append-nil}
 use Rattle.std.proofs.Math.Seq.{take-append_seam, drop-append_seam}
-use Rattle.http_message.specs.Bodies.{BodyReading, whole, unended, refused, behind, sized_body, ReadsChunked}
-use Rattle.http_message.specs.ResponseMessages.{open_body, ReadsResponseBody}
-use Rattle.http_message.specs.declared.framing.Form.{Form}
+use Rattle.http_message.specs.Bodies.{whole, unended, refused, ReadsChunked}
+use Rattle.http_message.specs.ResponseMessages.{ReadsResponseBody}
 use Rattle.http_message.specs.declared.framing.Form.TheVariants as form
 use Rattle.http_message.specs.declared.refusal.Flaw.TheVariants.{BodyTooLarge}
 use Rattle.http_wire.specs.Bodies.{IsChunking, IsNextChunk, PartFound}

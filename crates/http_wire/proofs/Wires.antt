@@ -1,5 +1,5 @@
 -- A head and a body, as a message.
-use Rattle.std.proofs.Common.{Vec, ◌≡◌, ℕ, ◌+◌, ◌-◌, ◌^◌, ◌<◌, ◌≤◌, inl, inr, true, false, List, [], ◌∷◌, ◌++◌, length, Option, Some, None, Result, Ok, Err, refl, sym, ap, ◌∙◌, subst, arith, append_assoc, length-append}
+use Rattle.std.proofs.Common.{Vec, ◌≡◌, ℕ, ◌≤◌, inl, inr, true, false, List, [], ◌∷◌, ◌++◌, length, Option, Some, Result, Ok, Err, refl, sym, ap, ◌∙◌, subst, append_assoc}
 use Rattle.std.proofs.lemmas.List.{append-nil}
 use Rattle.std.specs.declared.alloc.Global.{Global}
 use Rattle.std.specs.Io.KnownBytes.{prepend_known}
@@ -7,10 +7,9 @@ use Rattle.http_message.specs.Bodies.{BodyReading, whole, unended, refused, Read
 use Rattle.http_message.specs.Framing.{closes, request_form}
 use Rattle.http_message.specs.HeadReadings.{headed, nothing, cut, faulty, ReadsHead}
 use Rattle.http_message.specs.Heads.{IsHeadText}
-use Rattle.http_message.specs.Messages.{Reading, request, ended, truncated, bad, with_head, ReadsBehindHead, ReadsMessage}
+use Rattle.http_message.specs.Messages.{Reading, request, ended, truncated, bad, with_head, ReadsMessage}
 use Rattle.http_message.specs.ResponseMessages.{ReadsResponseBody}
 use Rattle.http_message.specs.declared.framing.Form.{Form}
-use Rattle.http_message.specs.declared.framing.Form.TheVariants as form
 use Rattle.http_message.specs.declared.head.Head.{Head}
 use Rattle.http_message.specs.declared.refusal.Flaw.{Flaw}
 use Rattle.http_message.proofs.Limits.{request_within}
@@ -18,8 +17,8 @@ use Rattle.http_message.proofs.Unique.{reading_unique}
 use Rattle.http_wire.specs.Bodies.{BodyFound, IsBodyShort}
 use Rattle.http_wire.specs.Heads.{HeadFound, IsHeadShort, IsCounted}
 use Rattle.http_wire.specs.Messages.{ReadsBehind, IsShortBehind, IsBehindHead, IsNoFault}
-use Rattle.http_wire.specs.Streams.{Buffer, stream, IsEnd, Moves, Told, EachShort, Draws, Drew}
-use Rattle.http_wire.specs.Wires.{Answers, TellsMessage, IsAnswer, IsShort, is_settled, is_fault, is_request, OnRequest, HoldsAnswer}
+use Rattle.http_wire.specs.Streams.{Buffer, stream, Told, EachShort, Draws, Drew}
+use Rattle.http_wire.specs.Wires.{Answers, TellsMessage, IsAnswer, IsShort, is_settled, is_fault, OnRequest, HoldsAnswer}
 use Rattle.http_wire.specs.declared.body.BodyRead.{BodyRead}
 use Rattle.http_wire.specs.declared.body.BodyRead.TheVariants as body
 use Rattle.http_wire.specs.declared.head.HeadRead.{HeadRead}

@@ -1,5 +1,5 @@
 -- What reading the parts of a body finds.
-use Rattle.std.specs.Prelude.{◌≡◌, ℕ, ◌+◌, ◌-◌, ◌<◌, ◌≤◌, ◌⊎◌, List, [], ◌++◌, length, Option, Some, None, Result, Ok, Err, ⊤}
+use Rattle.std.specs.Prelude.{◌≡◌, ℕ, ◌-◌, ◌<◌, ◌≤◌, List, [], ◌++◌, length, Option, Some, None, Result, Ok, Err, ⊤}
 use Rattle.httparse.specs.Ascii.{crlf_bytes}
 use Rattle.http_message.specs.Bodies.{BodyReading, whole, unended, refused, behind, Chunk, IsChunk, print_chunk, content_stop, ReadsChunked, ReadsTrailersText}
 use Rattle.http_message.specs.ResponseMessages.{ReadsResponseBody}

@@ -1,7 +1,8 @@
 -- What private functions say of reads.
-use Rattle.std.specs.Prelude.{◌≡◌, ℕ, ◌+◌, ◌<◌, ◌≤◌, List, [], ◌++◌, length, take, drop, Option, Result, Ok, Err, ⊤}
+use Rattle.std.specs.Prelude.{◌≡◌, ℕ, ◌<◌, ◌≤◌, List, [], ◌++◌, length, take, drop, Option, Result, Ok, Err, ⊤}
 use Rattle.edge_core.specs.Faults.{Rose}
-use Rattle.http_wire.specs.Streams.{Buffer, IsEnd, place_behind, Draws}
+use Rattle.http_message.specs.Sessions.{place_behind}
+use Rattle.http_wire.specs.Streams.{Buffer, IsEnd, Draws}
 use Rattle.http_wire.specs.declared.inbox.Filled.{Filled}
 use Rattle.http_wire.specs.declared.inbox.Filled.TheVariants as filled
 use Rattle.http_wire.specs.declared.inbox.Halt.{Halt}

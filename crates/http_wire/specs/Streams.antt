@@ -1,6 +1,7 @@
 -- Bytes between a source and a reader.
-use Rattle.std.specs.Prelude.{◌≡◌, ℕ, ◌+◌, ◌-◌, ◌^◌, ◌<◌, ◌≤◌, min, List, [], ◌∷◌, ◌++◌, length, Option, Some, IfSome, ⊤}
+use Rattle.std.specs.Prelude.{◌≡◌, ℕ, ◌^◌, ◌<◌, ◌≤◌, List, [], ◌∷◌, ◌++◌, length, Option, Some, IfSome, ⊤}
 use Rattle.std.specs.Io.KnownBytes.{prepend_known}
+use Rattle.http_message.specs.Sessions.{place_behind}
 
 -- the bytes that were read and not used, and the place of the first of them
 abbrev pub Buffer : Type 0
@@ -17,10 +18,6 @@ Told old new P = (xs : List ℕ) → old ≡ Some xs → (ys : List ℕ) × (new
 -- where the source tells, nothing is left
 abbrev pub IsEnd : Option (List ℕ) → Type 0
 IsEnd left = IfSome left (λ xs. xs ≡ [])
-
--- behind so many bytes; a place is a number of 64 bits, which stands still at the greatest
-abbrev pub place_behind : ℕ → List ℕ → ℕ
-place_behind place bytes = min (place + length bytes) (2 ^ 64 - 1)
 
 -- the first bytes of the stream were used
 abbrev pub Moves : List ℕ → ℕ → List ℕ → ℕ → Type 0

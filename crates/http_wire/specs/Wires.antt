@@ -1,6 +1,8 @@
 -- What the next message of a connection is.
-use Rattle.std.specs.Prelude.{◌≡◌, ℕ, ◌⊎◌, Bool, true, false, List, ◌++◌, Option, Result, Ok, Err, ⊤}
+use Rattle.std.specs.Prelude.{◌≡◌, ℕ, ◌⊎◌, Bool, true, false, List, ◌++◌, Option, Some, None, Result, Ok, Err, ⊤}
 use Rattle.http_message.specs.Messages.{Reading, request, ended, truncated, bad, ReadsMessage}
+use Rattle.http_message.specs.Sessions.{Request, Stop}
+use Rattle.http_message.specs.Sessions as stop
 use Rattle.http_wire.specs.Streams.{Buffer, IsEnd, Moves}
 use Rattle.http_wire.specs.declared.wire.Message.{Message}
 use Rattle.http_wire.specs.declared.wire.Message.TheVariants as message
@@ -35,6 +37,24 @@ OnRequest (Ok (message.Truncated at)) P = ⊤
 OnRequest (Ok (message.Bad at flaw)) P = ⊤
 OnRequest (Ok message.ReadFault) P = ⊤
 OnRequest (Err e) P = ⊤
+
+-- the request that the answer tells
+abbrev pub request_of : {E : Type 0} → Result Message E → Option Request
+request_of (Ok (message.Request at head body closes)) = Some (record { at = at; head = head; body = body.items; closes = closes })
+request_of (Ok message.End) = None
+request_of (Ok (message.Truncated at)) = None
+request_of (Ok (message.Bad at flaw)) = None
+request_of (Ok message.ReadFault) = None
+request_of (Err e) = None
+
+-- what ends the messages, by the answer; a fault and want of memory say nothing of the stream
+abbrev pub stop_of : {E : Type 0} → Result Message E → Option Stop
+stop_of (Ok (message.Request at head body closes)) = None
+stop_of (Ok message.End) = Some stop.ended
+stop_of (Ok (message.Truncated at)) = Some (stop.truncated at)
+stop_of (Ok (message.Bad at flaw)) = Some (stop.bad at flaw)
+stop_of (Ok message.ReadFault) = None
+stop_of (Err e) = None
 
 -- ---- where the stream is told
 

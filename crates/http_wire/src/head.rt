@@ -50,11 +50,7 @@ fn is_blank(bytes: &[u8]) -> bool
 }
 
 // Reads until the head at the front has ended, within so many bytes. Nothing is used.
-fn head_end<S: Source>(
-    inbox: &mut Inbox,
-    source: &mut S,
-    most: usize,
-) -> Result<HeadEnd, Halt>
+fn head_end<S: Source>(inbox: &mut Inbox, source: &mut S, most: usize) -> Result<HeadEnd, Halt>
     ensures draws { Awaits S.left (IsHeadOpen most) inbox.old inbox.new source.old source.new }
     ensures later { S.faults source.old ≤ S.faults source.new }
     ensures cause { RoseAtFault (S.faults source.old) (S.faults source.new) result }

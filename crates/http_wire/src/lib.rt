@@ -8,7 +8,7 @@ mod body;
 mod chunk;
 mod head;
 mod inbox;
-//pub mod law;
+pub mod law;
 mod reading;
 mod responses;
 mod wire;
@@ -21,3 +21,7 @@ pub use http_message::response::ResponseHead;
 pub use responses::{FinalHead, Reply, Responses};
 pub use wire::{Message, Wire};
 
+#[cfg(test)]
+mod session_tests;
+#[cfg(test)]
+mod tests;

@@ -191,10 +191,7 @@ fn end_behind(bytes: &[u8], searched: usize) -> Option<usize>
 }
 
 /// Reads until the empty line of trailers has ended, behind the line of the last chunk. Each byte is looked at once.
-pub(crate) fn await_trailers<S: Source>(
-    inbox: &mut Inbox,
-    source: &mut S,
-) -> Result<EndIn, Halt>
+pub(crate) fn await_trailers<S: Source>(inbox: &mut Inbox, source: &mut S) -> Result<EndIn, Halt>
     ensures draws { Awaits S.left IsTrailersOpen inbox.old inbox.new source.old source.new }
     ensures later { S.faults source.old ≤ S.faults source.new }
     ensures cause { RoseAtFault (S.faults source.old) (S.faults source.new) result }

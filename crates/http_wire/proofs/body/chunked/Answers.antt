@@ -1,6 +1,6 @@
-use Rattle.std.proofs.Common.{◌≡◌, ◌≢◌, ◌+◌, ◌-◌, ◌^◌, ◌<◌, ◌≤◌, [], ◌∷◌, ◌++◌, List, ℕ, Some, None, Ok, Err, inl, inr, true, eqb, get_or, refl, length, take, drop, min, sym, ap, ◌∙◌, subst, arith, rules, length-append}
+use Rattle.std.proofs.Common.{◌≡◌, ◌-◌, [], ◌++◌, Ok, Err, refl, length, sym, ap, ◌∙◌, subst, arith, rules}
 use Rattle.std.proofs.lemmas.Result.{err_from_is_err_and}
-use Rattle.http_message.specs.Bodies.{whole, unended, refused, ReadsChunked}
+use Rattle.http_message.specs.Bodies.{whole, unended, ReadsChunked}
 use Rattle.http_wire.specs.declared.chunk.Part.TheVariants as part
 use Rattle.http_wire.proofs.Chunks.{chunking_none}
 use Rattle.http_wire.proofs.Streams.{draws_none}

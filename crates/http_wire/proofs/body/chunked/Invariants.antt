@@ -1,4 +1,4 @@
-use Rattle.std.proofs.Common.{ℕ, ◌-◌, ◌≤◌, length}
+use Rattle.std.proofs.Common.{◌-◌, ◌≤◌, length}
 use Rattle.http_message.specs.Bodies.{unended, ReadsChunked}
 use Rattle.http_wire.specs.Bodies.{IsChunking}
 use Rattle.http_wire.specs.Streams.{Drew}

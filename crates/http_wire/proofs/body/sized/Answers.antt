@@ -1,5 +1,4 @@
-use Rattle.std.proofs.Common.{◌≡◌, ◌≢◌, ◌+◌, ◌-◌, ◌^◌, ◌<◌, ◌≤◌, [], ◌∷◌, ◌++◌, List, ℕ, Some, None, Ok, Err, inl, inr, true, eqb, get_or, refl, length, take, drop, min, sym, ap, ◌∙◌, subst, arith, rules, length-append}
-use Rattle.std.proofs.lemmas.List.{append-nil}
+use Rattle.std.proofs.Common.{◌≡◌, ◌<◌, ◌++◌, Some, Ok, length, sym, ap, ◌∙◌, subst, arith, length-append}
 use Rattle.std.proofs.lemmas.Result.{err_from_is_err_and}
 use Rattle.http_message.specs.declared.framing.Form.TheVariants as form
 use Rattle.http_message.specs.ResponseMessages.{ReadsResponseBody}
@@ -18,13 +17,19 @@ returns-in_err-take_bytes-clause-read g c =
 pub returns-in-Enough-clause-read : goal.returns-in-Enough-clause-read
 returns-in-Enough-clause-read g c =
     let took = rw c.in-Enough.is at c.in_ok-take_bytes.ensures.took in
-    let same : c.take_bytes.new.body.items ≡ took.1 = took.3.0.grown ∙ ap (λ x. x ++ took.1) c.requires in
-    (took.0, took.1, draws_weaken g.S.Source.left (IsBodyShort c.args.most (Some (form.Length c.args.size))) (λ y. length y < c.args.size) _ _ _ _ _ _ (sized_short c.args.most c.args.size) took.2,
-        (λ ys. subst (λ x. ReadsResponseBody c.args.most (Ok (Some (form.Length c.args.size))) (took.1 ++ ys) (whole x ys)) (sym same) (sized_whole c.args.most c.args.size took.1 ys took.3.1)))
+    let same : c.take_bytes.new.body.items ≡ took.1 = took.3.0.grown ∙ ap (λ x. x ++ took.1) c.requires in (
+      took.0,
+      took.1,
+      draws_weaken g.S.Source.left (IsBodyShort c.args.most (Some (form.Length c.args.size))) (λ y. length y < c.args.size) _ _ _ _ _ _ (sized_short c.args.most c.args.size) took.2,
+      (λ ys. subst (λ x. ReadsResponseBody c.args.most (Ok (Some (form.Length c.args.size))) (took.1 ++ ys) (whole x ys)) (sym same) (sized_whole c.args.most c.args.size took.1 ys took.3.1)),
+    )
 
 pub returns-in-Ended-clause-read : goal.returns-in-Ended-clause-read
 returns-in-Ended-clause-read g c =
     let took = rw c.in-Ended.is at c.in_ok-take_bytes.ensures.took in
-    let found = took.3.1 in
-    (took.0, took.1, draws_weaken g.S.Source.left (IsBodyShort c.args.most (Some (form.Length c.args.size))) (λ y. length y < c.args.size) _ _ _ _ _ _ (sized_short c.args.most c.args.size) took.2,
-        (found.0, sized_short c.args.most c.args.size (took.1 ++ c.take_bytes.new.inbox.0) (omega (arith, length-append took.1 c.take_bytes.new.inbox.0, ap length found.1, found.2))))
+    let found = took.3.1 in (
+      took.0,
+      took.1,
+      draws_weaken g.S.Source.left (IsBodyShort c.args.most (Some (form.Length c.args.size))) (λ y. length y < c.args.size) _ _ _ _ _ _ (sized_short c.args.most c.args.size) took.2,
+      (found.0, sized_short c.args.most c.args.size (took.1 ++ c.take_bytes.new.inbox.0) (omega (arith, length-append took.1 c.take_bytes.new.inbox.0, ap length found.1, found.2))),
+    )

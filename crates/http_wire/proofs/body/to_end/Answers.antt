@@ -1,12 +1,11 @@
-use Rattle.std.proofs.Common.{◌≡◌, ◌≢◌, ◌+◌, ◌-◌, ◌^◌, ◌<◌, ◌≤◌, [], ◌∷◌, ◌++◌, List, ℕ, Some, None, Ok, Err, inl, inr, true, eqb, get_or, refl, length, take, drop, min, sym, ap, ◌∙◌, subst, arith, rules, length-append}
+use Rattle.std.proofs.Common.{◌≡◌, ◌≤◌, [], ◌++◌, None, Ok, Err, length, sym, ap, ◌∙◌, subst, arith, rules}
 use Rattle.std.proofs.lemmas.List.{append-nil}
 use Rattle.std.proofs.lemmas.Result.{err_from_is_err_and}
 use Rattle.http_message.specs.Bodies.{whole}
 use Rattle.http_message.specs.ResponseMessages.{ReadsResponseBody}
 use Rattle.http_wire.specs.declared.inbox.Filled.TheVariants as filled
-use Rattle.http_wire.proofs.Streams.{draws_none}
 use Rattle.http_wire.proofs.Takes.{opening_more}
-use Rattle.http_wire.proofs.Whole.{open_whole, open_large}
+use Rattle.http_wire.proofs.Whole.{open_whole}
 use Rattle.http_wire.proofs.body.to_end.Goals as goal
 
 pub returns-in_err-move_some-clause-read : goal.returns-in_err-move_some-clause-read

@@ -1,6 +1,5 @@
-use Rattle.std.proofs.Common.{◌≡◌, ◌≢◌, ◌+◌, ◌-◌, ◌^◌, ◌<◌, ◌≤◌, [], ◌∷◌, ◌++◌, List, ℕ, Some, None, Ok, Err, true, eqb, get_or, refl, length, take, drop, min, sym, ap, ◌∙◌, subst, arith, rules, length-append}
+use Rattle.std.proofs.Common.{◌<◌, ◌++◌, length, ap, arith, length-append}
 use Rattle.std.proofs.lemmas.Result.{err_from_is_err_and}
-use Rattle.std.proofs.lemmas.List.{append-nil}
 use Rattle.http_message.specs.Bodies.{unended}
 use Rattle.http_wire.specs.Bodies.{StopsContent}
 use Rattle.http_wire.proofs.Contents.{stop_short, content_ends}
@@ -15,9 +14,12 @@ returns-in-Enough-clause-read g c =
 pub returns-in-Ended-clause-read : goal.returns-in-Ended-clause-read
 returns-in-Ended-clause-read g c =
     let took = rw c.in-Ended.is at c.in_ok-take_bytes.ensures.took in
-    let found = took.3.1 in
-    (took.0, took.1, draws_weaken g.S.Source.left (λ y. StopsContent c.args.size y unended) (λ y. length y < c.args.size) _ _ _ _ _ _ (λ y short. stop_short c.args.size y (omega (arith, short))) took.2,
-        (found.0, stop_short c.args.size (took.1 ++ c.take_bytes.new.inbox.0) (omega (arith, length-append took.1 c.take_bytes.new.inbox.0, ap length found.1, found.2))))
+    let found = took.3.1 in (
+      took.0,
+      took.1,
+      draws_weaken g.S.Source.left (λ y. StopsContent c.args.size y unended) (λ y. length y < c.args.size) _ _ _ _ _ _ (λ y short. stop_short c.args.size y (omega (arith, short))) took.2,
+      (found.0, stop_short c.args.size (took.1 ++ c.take_bytes.new.inbox.0) (omega (arith, length-append took.1 c.take_bytes.new.inbox.0, ap length found.1, found.2))),
+    )
 
 pub returns-in_err-take_bytes-clause-read : goal.returns-in_err-take_bytes-clause-read
 returns-in_err-take_bytes-clause-read g c =

@@ -1,5 +1,4 @@
-use Rattle.std.proofs.Common.{◌≡◌, ◌≢◌, ◌+◌, ◌-◌, ◌^◌, ◌<◌, ◌≤◌, [], ◌∷◌, ◌++◌, List, ℕ, Some, None, Ok, Err, true, eqb, get_or, refl, length, take, drop, min, sym, ap, ◌∙◌, subst, arith, rules, length-append}
-use Rattle.std.proofs.lemmas.List.{get_or_append_left}
+use Rattle.std.proofs.Common.{◌≡◌, ◌≢◌, get_or, subst, arith}
 use Rattle.std.proofs.lemmas.Result.{err_from_is_err_and}
 use Rattle.http_message.specs.Bodies.{unended}
 use Rattle.http_wire.specs.Bodies.{StopsContent}
@@ -31,7 +30,7 @@ returns-in_err-await_bytes-2-clause-read g c =
     let cr : get_or c.await_bytes.new.inbox.0 0 0 ≡ 13 = subst (λ b. get_or b 0 0 ≡ 13) c.bytes.ensures c.if-bytes-ne13.false in
     let first = awaits_weaken g.S.Source.left (λ y. StopsContent 0 y unended) (IsFewer 1 c.args.inbox.now.0) _ _ _ _ (λ y few. stop_short 0 y (omega (arith, few.2))) c.in_ok-await_bytes.ensures.draws in
     let both : Awaits g.S.Source.left (IsFewer 2 c.await_bytes.new.inbox.0) c.await_bytes.new.inbox c.await_bytes-2.new.inbox c.await_bytes.new.source c.await_bytes-2.new.source → Awaits g.S.Source.left (λ y. StopsContent 0 y unended) c.args.inbox.now c.await_bytes-2.new.inbox c.args.source.now c.await_bytes-2.new.source
-        = λ second. awaits_then g.S.Source.left (λ y. StopsContent 0 y unended) (IsFewer 2 c.await_bytes.new.inbox.0) _ _ _ _ _ _ first (λ y few. stop_cr y few.2 (λ some. still_front c.await_bytes.new.inbox.0 y few.0 few.1 (omega (arith, told)) cr)) second in
+    = λ second. awaits_then g.S.Source.left (λ y. StopsContent 0 y unended) (IsFewer 2 c.await_bytes.new.inbox.0) _ _ _ _ _ _ first (λ y few. stop_cr y few.2 (λ some. still_front c.await_bytes.new.inbox.0 y few.0 few.1 (omega (arith, told)) cr)) second in
     let p = err_from_is_err_and c.from_residual-in_err-await_bytes-2.result c.from_residual-in_err-await_bytes-2.ensures.1 in
     rw p.1 (drew_awaits g.S.Source.left (λ y. StopsContent 0 y unended) _ _ _ _ _ (both c.in_err-await_bytes-2.ensures.draws) tt)
 
@@ -41,7 +40,7 @@ returns-in-Ended-2-clause-read g c =
     let cr : get_or c.await_bytes.new.inbox.0 0 0 ≡ 13 = subst (λ b. get_or b 0 0 ≡ 13) c.bytes.ensures c.if-bytes-ne13.false in
     let first = awaits_weaken g.S.Source.left (λ y. StopsContent 0 y unended) (IsFewer 1 c.args.inbox.now.0) _ _ _ _ (λ y few. stop_short 0 y (omega (arith, few.2))) c.in_ok-await_bytes.ensures.draws in
     let both : Awaits g.S.Source.left (IsFewer 2 c.await_bytes.new.inbox.0) c.await_bytes.new.inbox c.await_bytes-2.new.inbox c.await_bytes.new.source c.await_bytes-2.new.source → Awaits g.S.Source.left (λ y. StopsContent 0 y unended) c.args.inbox.now c.await_bytes-2.new.inbox c.args.source.now c.await_bytes-2.new.source
-        = λ second. awaits_then g.S.Source.left (λ y. StopsContent 0 y unended) (IsFewer 2 c.await_bytes.new.inbox.0) _ _ _ _ _ _ first (λ y few. stop_cr y few.2 (λ some. still_front c.await_bytes.new.inbox.0 y few.0 few.1 (omega (arith, told)) cr)) second in
+    = λ second. awaits_then g.S.Source.left (λ y. StopsContent 0 y unended) (IsFewer 2 c.await_bytes.new.inbox.0) _ _ _ _ _ _ first (λ y few. stop_cr y few.2 (λ some. still_front c.await_bytes.new.inbox.0 y few.0 few.1 (omega (arith, told)) cr)) second in
     let told2 = rw c.in-Ended-2.is at c.in_ok-await_bytes-2.ensures.told in
     let more = awaits_more g.S.Source.left _ _ _ _ _ c.in_ok-await_bytes-2.ensures.draws in
     drew_awaits g.S.Source.left (λ y. StopsContent 0 y unended) _ _ _ _ _ (both c.in_ok-await_bytes-2.ensures.draws) (told2.0, stop_cr c.await_bytes-2.new.inbox.0 told2.1 (λ some. still_front c.await_bytes.new.inbox.0 c.await_bytes-2.new.inbox.0 more.0 more.1 (omega (arith, told)) cr))
@@ -52,7 +51,7 @@ returns-then-bytes-ne10-clause-read g c =
     let cr : get_or c.await_bytes.new.inbox.0 0 0 ≡ 13 = subst (λ b. get_or b 0 0 ≡ 13) c.bytes.ensures c.if-bytes-ne13.false in
     let first = awaits_weaken g.S.Source.left (λ y. StopsContent 0 y unended) (IsFewer 1 c.args.inbox.now.0) _ _ _ _ (λ y few. stop_short 0 y (omega (arith, few.2))) c.in_ok-await_bytes.ensures.draws in
     let both : Awaits g.S.Source.left (IsFewer 2 c.await_bytes.new.inbox.0) c.await_bytes.new.inbox c.await_bytes-2.new.inbox c.await_bytes.new.source c.await_bytes-2.new.source → Awaits g.S.Source.left (λ y. StopsContent 0 y unended) c.args.inbox.now c.await_bytes-2.new.inbox c.args.source.now c.await_bytes-2.new.source
-        = λ second. awaits_then g.S.Source.left (λ y. StopsContent 0 y unended) (IsFewer 2 c.await_bytes.new.inbox.0) _ _ _ _ _ _ first (λ y few. stop_cr y few.2 (λ some. still_front c.await_bytes.new.inbox.0 y few.0 few.1 (omega (arith, told)) cr)) second in
+    = λ second. awaits_then g.S.Source.left (λ y. StopsContent 0 y unended) (IsFewer 2 c.await_bytes.new.inbox.0) _ _ _ _ _ _ first (λ y few. stop_cr y few.2 (λ some. still_front c.await_bytes.new.inbox.0 y few.0 few.1 (omega (arith, told)) cr)) second in
     let told2 = rw c.in-Enough-2.is at c.in_ok-await_bytes-2.ensures.told in
     let more = awaits_more g.S.Source.left _ _ _ _ _ c.in_ok-await_bytes-2.ensures.draws in
     let other : get_or c.await_bytes-2.new.inbox.0 1 0 ≢ 10 = subst (λ b. get_or b 1 0 ≢ 10) c.bytes-2.ensures c.if-bytes-ne10.true in
@@ -64,7 +63,7 @@ returns-clause-read g c =
     let cr : get_or c.await_bytes.new.inbox.0 0 0 ≡ 13 = subst (λ b. get_or b 0 0 ≡ 13) c.bytes.ensures c.if-bytes-ne13.false in
     let first = awaits_weaken g.S.Source.left (λ y. StopsContent 0 y unended) (IsFewer 1 c.args.inbox.now.0) _ _ _ _ (λ y few. stop_short 0 y (omega (arith, few.2))) c.in_ok-await_bytes.ensures.draws in
     let both : Awaits g.S.Source.left (IsFewer 2 c.await_bytes.new.inbox.0) c.await_bytes.new.inbox c.await_bytes-2.new.inbox c.await_bytes.new.source c.await_bytes-2.new.source → Awaits g.S.Source.left (λ y. StopsContent 0 y unended) c.args.inbox.now c.await_bytes-2.new.inbox c.args.source.now c.await_bytes-2.new.source
-        = λ second. awaits_then g.S.Source.left (λ y. StopsContent 0 y unended) (IsFewer 2 c.await_bytes.new.inbox.0) _ _ _ _ _ _ first (λ y few. stop_cr y few.2 (λ some. still_front c.await_bytes.new.inbox.0 y few.0 few.1 (omega (arith, told)) cr)) second in
+    = λ second. awaits_then g.S.Source.left (λ y. StopsContent 0 y unended) (IsFewer 2 c.await_bytes.new.inbox.0) _ _ _ _ _ _ first (λ y few. stop_cr y few.2 (λ some. still_front c.await_bytes.new.inbox.0 y few.0 few.1 (omega (arith, told)) cr)) second in
     let told2 = rw c.in-Enough-2.is at c.in_ok-await_bytes-2.ensures.told in
     let more = awaits_more g.S.Source.left _ _ _ _ _ c.in_ok-await_bytes-2.ensures.draws in
     let lf : get_or c.await_bytes-2.new.inbox.0 1 0 ≡ 10 = subst (λ b. get_or b 1 0 ≡ 10) c.bytes-2.ensures c.if-bytes-ne10.false in

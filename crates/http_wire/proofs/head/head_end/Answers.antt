@@ -1,9 +1,9 @@
-use Rattle.std.proofs.Common.{◌≡◌, ◌≢◌, ◌+◌, ◌-◌, ◌^◌, ◌<◌, ◌≤◌, [], ◌∷◌, ◌++◌, List, ℕ, Some, None, Ok, Err, inl, inr, true, false, eqb, get_or, refl, length, take, drop, min, sym, ap, ◌∙◌, subst, arith, rules, length-append}
+use Rattle.std.proofs.Common.{◌≡◌, length, arith, rules}
 use Rattle.std.proofs.lemmas.List.{length-take}
 use Rattle.http_message.specs.Ends.{blank_len}
 use Rattle.http_wire.specs.Heads.{IsHeadOpen}
 use Rattle.http_wire.specs.Parts.{IsBlankOpen, IsEndOpen}
-use Rattle.http_wire.proofs.HeadEnds.{blank_open, end_open, end_found, none_found, no_head, end_no_room, end_inside}
+use Rattle.http_wire.proofs.HeadEnds.{blank_open, end_open, end_found, none_found, no_head, end_inside}
 use Rattle.http_wire.proofs.Streams.{awaits_weaken, awaits_then, awaits_more}
 use Rattle.http_wire.proofs.head.head_end.Goals as goal
 

@@ -1,12 +1,6 @@
-use Rattle.std.proofs.Common.{◌≡◌, ◌+◌, ◌-◌, ◌^◌, ◌<◌, ◌≤◌, ◌≢◌, [], ◌∷◌, ◌++◌, List, ℕ, Some, None, Ok, Err, refl, length, take, drop, min, sym, ap, ◌∙◌, subst, arith, rules, length-append}
-use Rattle.std.proofs.lemmas.List.{length-take}
-use Rattle.http_message.specs.Ends.{blank_len, HasNoEnd, HasNoEndTo}
-use Rattle.http_message.specs.Lines.{IsOpenLine}
-use Rattle.http_wire.specs.Parts.{IsFewer, IsBlankOpen, IsEndOpen, IsTrailersOpen}
-use Rattle.http_wire.specs.Streams.{Buffer}
-use Rattle.http_wire.proofs.Looks.{known_here, still_within, still_blank, still_none, still_no_trailers}
-use Rattle.http_wire.proofs.Streams.{awaits_none, awaits_read, awaits_more}
-use Rattle.http_wire.proofs.Windows.{window_short, window_whole, none_ended}
+use Rattle.std.proofs.Common.{◌<◌, length, arith, rules}
+use Rattle.http_wire.specs.Parts.{IsFewer}
+use Rattle.http_wire.proofs.Streams.{awaits_read, awaits_more}
 use Rattle.http_wire.proofs.reading.await_bytes.Goals as goal
 
 pub turns-preserved : goal.turns-preserved
@@ -29,4 +23,3 @@ returns-in-End-clause-draws g c =
     let before = awaits_more g.S.Source.left _ _ _ _ _ c.turns.invariant.draws in
     let short : IsFewer c.args.size c.args.inbox.now.0 c.turns.inbox.0 = (before.0, before.1, few) in
     awaits_read g.S.Source.left (IsFewer c.args.size c.args.inbox.now.0) _ _ _ _ _ _ c.turns.invariant.draws short c.in_ok-fill.ensures.draws
-

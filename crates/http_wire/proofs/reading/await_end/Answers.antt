@@ -1,12 +1,8 @@
-use Rattle.std.proofs.Common.{◌≡◌, ◌+◌, ◌-◌, ◌^◌, ◌<◌, ◌≤◌, ◌≢◌, [], ◌∷◌, ◌++◌, List, ℕ, Some, None, Ok, Err, refl, length, take, drop, min, sym, ap, ◌∙◌, subst, arith, rules, length-append}
-use Rattle.std.proofs.lemmas.List.{length-take}
-use Rattle.http_message.specs.Ends.{blank_len, HasNoEnd, HasNoEndTo}
-use Rattle.http_message.specs.Lines.{IsOpenLine}
-use Rattle.http_wire.specs.Parts.{IsBlankOpen, IsEndOpen, IsTrailersOpen}
-use Rattle.http_wire.specs.Streams.{Buffer}
-use Rattle.http_wire.proofs.Looks.{known_here, still_within, still_blank, still_none, still_no_trailers}
-use Rattle.http_wire.proofs.Streams.{awaits_none, awaits_read, awaits_more}
-use Rattle.http_wire.proofs.Windows.{window_short, window_whole, none_ended}
+use Rattle.std.proofs.Common.{◌≡◌, refl, length, take, ap, ◌∙◌, arith}
+use Rattle.http_wire.specs.Parts.{IsEndOpen}
+use Rattle.http_wire.proofs.Looks.{still_within, still_none}
+use Rattle.http_wire.proofs.Streams.{awaits_read, awaits_more}
+use Rattle.http_wire.proofs.Windows.{none_ended}
 use Rattle.http_wire.proofs.reading.await_end.Goals as goal
 
 pub turns-preserved : goal.turns-preserved
@@ -40,4 +36,3 @@ returns-in-End-clause-draws g c =
     let more = awaits_more g.S.Source.left _ _ _ _ _ c.turns.invariant.draws in
     let short : IsEndOpen c.args.most c.args.start c.args.inbox.now.0 c.turns.inbox.0 = (more.0, more.1, none.0, none.1) in
     awaits_read g.S.Source.left (IsEndOpen c.args.most c.args.start c.args.inbox.now.0) _ _ _ _ _ _ c.turns.invariant.draws short c.in_ok-fill.ensures.draws
-

@@ -1,12 +1,9 @@
-use Rattle.std.proofs.Common.{◌≡◌, ◌+◌, ◌-◌, ◌^◌, ◌<◌, ◌≤◌, ◌≢◌, [], ◌∷◌, ◌++◌, List, ℕ, Some, None, Ok, Err, refl, length, take, drop, min, sym, ap, ◌∙◌, subst, arith, rules, length-append}
-use Rattle.std.proofs.lemmas.List.{length-take}
-use Rattle.http_message.specs.Ends.{blank_len, HasNoEnd, HasNoEndTo}
-use Rattle.http_message.specs.Lines.{IsOpenLine}
-use Rattle.http_wire.specs.Parts.{IsBlankOpen, IsEndOpen, IsTrailersOpen}
-use Rattle.http_wire.specs.Streams.{Buffer}
-use Rattle.http_wire.proofs.Looks.{known_here, still_within, still_blank, still_none, still_no_trailers}
-use Rattle.http_wire.proofs.Streams.{awaits_none, awaits_read, awaits_more}
-use Rattle.http_wire.proofs.Windows.{window_short, window_whole, none_ended}
+use Rattle.std.proofs.Common.{◌≡◌, ◌+◌, ◌<◌, ◌≢◌, length, take, ap, ◌∙◌, arith, rules}
+use Rattle.http_message.specs.Ends.{blank_len}
+use Rattle.http_wire.specs.Parts.{IsBlankOpen}
+use Rattle.http_wire.proofs.Looks.{known_here, still_within, still_blank}
+use Rattle.http_wire.proofs.Streams.{awaits_read, awaits_more}
+use Rattle.http_wire.proofs.Windows.{window_short, window_whole}
 use Rattle.http_wire.proofs.reading.await_start.Goals as goal
 
 pub turns-preserved : goal.turns-preserved
@@ -41,4 +38,3 @@ returns-in-End-clause-draws g c =
     let few : length c.front-front.result.now < c.blank_len_from-known.result + 2 = search rules in
     let short : IsBlankOpen c.args.most c.turns.inbox.0 = (window_short c.args.most c.front-front.result.now c.turns.inbox.0 window not_all, omega (arith, few, c.blank_len_from-known.ensures.value, ap blank_len whole, ap length whole)) in
     awaits_read g.S.Source.left (IsBlankOpen c.args.most) _ _ _ _ _ _ c.turns.invariant.draws short c.in_ok-fill.ensures.draws
-

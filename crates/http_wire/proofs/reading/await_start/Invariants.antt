@@ -1,8 +1,7 @@
-use Rattle.std.proofs.Common.{◌≡◌, ℕ, ◌+◌, ◌-◌, ◌<◌, ◌≤◌, List, ◌∷◌, ◌++◌, length, take, drop}
-use Rattle.http_message.specs.Ends.{blank_len, HasNoEndTo}
-use Rattle.http_message.specs.Lines.{IsOpenLine}
+use Rattle.std.proofs.Common.{◌≡◌, ℕ, ◌+◌, ◌-◌, ◌≤◌, List, ◌++◌, length, take, drop}
+use Rattle.http_message.specs.Ends.{blank_len}
 use Rattle.http_wire.specs.Fills.{Awaits}
-use Rattle.http_wire.specs.Parts.{IsBlankOpen, IsEndOpen, IsTrailersOpen}
+use Rattle.http_wire.specs.Parts.{IsBlankOpen}
 use Rattle.http_wire.proofs.reading.await_start.Given as goal
 
 abbrev pub invariant-turns : goal.invariant-turns

@@ -1,12 +1,10 @@
-use Rattle.std.proofs.Common.{◌≡◌, ◌+◌, ◌-◌, ◌^◌, ◌<◌, ◌≤◌, ◌≢◌, [], ◌∷◌, ◌++◌, List, ℕ, Some, None, Ok, Err, refl, length, take, drop, min, sym, ap, ◌∙◌, subst, arith, rules, length-append}
+use Rattle.std.proofs.Common.{◌≡◌, ◌∷◌, refl, length, take, sym, ap, ◌∙◌, subst, arith}
 use Rattle.std.proofs.lemmas.List.{length-take}
-use Rattle.http_message.specs.Ends.{blank_len, HasNoEnd, HasNoEndTo}
-use Rattle.http_message.specs.Lines.{IsOpenLine}
-use Rattle.http_wire.specs.Parts.{IsBlankOpen, IsEndOpen, IsTrailersOpen}
-use Rattle.http_wire.specs.Streams.{Buffer}
-use Rattle.http_wire.proofs.Looks.{known_here, still_within, still_blank, still_none, still_no_trailers}
-use Rattle.http_wire.proofs.Streams.{awaits_none, awaits_read, awaits_more}
-use Rattle.http_wire.proofs.Windows.{window_short, window_whole, none_ended}
+use Rattle.http_message.specs.Ends.{HasNoEnd}
+use Rattle.http_wire.specs.Parts.{IsTrailersOpen}
+use Rattle.http_wire.proofs.Looks.{still_within, still_no_trailers}
+use Rattle.http_wire.proofs.Streams.{awaits_read, awaits_more}
+use Rattle.http_wire.proofs.Windows.{window_short, none_ended}
 use Rattle.http_wire.proofs.reading.await_trailers.Goals as goal
 
 pub turns-preserved : goal.turns-preserved
@@ -50,4 +48,3 @@ returns-in-End-clause-draws g c =
     let none = none_ended 16385 1 (10 ∷ c.front-front.result.now) (10 ∷ c.turns.inbox.0) (10 ∷ c.turns.inbox.0) (ap (λ x. 10 ∷ x) window) (λ e. c.if-front-eq-MOST.false (omega (arith, e))) refl c.in_default.ensures in
     let short : IsTrailersOpen c.turns.inbox.0 = (none.0, omega (arith, none.1)) in
     awaits_read g.S.Source.left IsTrailersOpen _ _ _ _ _ _ c.turns.invariant.draws short c.in_ok-fill.ensures.draws
-

@@ -1,4 +1,4 @@
-use Rattle.std.proofs.Common.{◌≡◌, ◌≢◌, ◌+◌, ◌-◌, ◌^◌, ◌<◌, ◌≤◌, [], ◌∷◌, ◌++◌, List, ℕ, Some, None, Ok, Err, inl, inr, true, false, eqb, get_or, refl, length, take, drop, min, sym, ap, ◌∙◌, subst, arith, rules, length-append}
+use Rattle.std.proofs.Common.{Ok, Err}
 use Rattle.std.proofs.lemmas.Result.{err_from_is_err_and}
 use Rattle.http_wire.specs.declared.head.HeadRead.TheVariants as read
 use Rattle.http_wire.proofs.Wires.{headless_read, headed_read}

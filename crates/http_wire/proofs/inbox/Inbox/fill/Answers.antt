@@ -1,6 +1,6 @@
-use Rattle.std.proofs.Common.{◌≡◌, ◌+◌, ◌-◌, ◌^◌, ◌<◌, ◌≤◌, [], ◌∷◌, ◌++◌, List, ℕ, Some, None, Ok, Err, refl, length, take, drop, sym, ap, ◌∙◌, subst, arith, rules, length-append}
+use Rattle.std.proofs.Common.{◌≡◌, ◌≤◌, [], ◌∷◌, ◌++◌, refl, length, take, drop, sym, ap, ◌∙◌, arith, rules}
 use Rattle.std.proofs.lemmas.List.{drop-append-le, length-take}
-use Rattle.http_wire.proofs.Streams.{draws_none, draws_nothing, draws_piece}
+use Rattle.http_wire.proofs.Streams.{draws_nothing, draws_piece}
 use Rattle.http_wire.proofs.inbox.Inbox.fill.Goals as goal
 
 pub returns-in_ok-extend_from_slice-in-Bytes-clause-draws : goal.returns-in_ok-extend_from_slice-in-Bytes-clause-draws

@@ -1,4 +1,3 @@
-use Rattle.std.proofs.Common.{◌≡◌, ◌≢◌, ◌+◌, ◌-◌, ◌^◌, ◌<◌, ◌≤◌, [], ◌∷◌, ◌++◌, List, ℕ, Some, None, Ok, Err, inl, inr, true, false, eqb, get_or, refl, length, take, drop, min, sym, ap, ◌∙◌, subst, arith, rules, length-append}
 use Rattle.std.specs.declared.alloc.AllocError.{AllocError}
 use Rattle.http_wire.specs.declared.inbox.Halt.{Halt}
 use Rattle.http_wire.proofs.Replies.{HeadAlone, told_alone, same_head_alone}

@@ -1,0 +1,230 @@
+// Sessions of requests, and responses, cut in many ways.
+use crate::{FinalHead, Message, Reply, Responses, Wire};
+use edge_core::MemSource;
+use std::alloc::{AllocError, Global};
+
+// Three requests, the second of which has chunks, an extension and a trailer.
+const SESSION: &[u8] =
+    b"GET /a HTTP/1.1\r\nHost: x\r\n\r\nPOST /b HTTP/1.1\r\nHost: x\r\nTransfer-Encoding: chunked\r\n\r\n4;n=v\r\nWiki\r\n5\r\npedia\r\n0\r\nA: b\r\n\r\n\r\nPUT /c HTTP/1.0\nContent-Length: 3\n\nxyz";
+
+// Whether the message is the session's of that number: its three requests, and then the end.
+fn is_of_session(number: u8, message: &Message) -> bool {
+    match message {
+        Message::Request {
+            at,
+            head,
+            body,
+            closes,
+        } => {
+            let body = body.as_slice();
+            let target = head.target.as_str();
+            match number {
+                0 => *at == 0 && target == "/a" && body.is_empty() && !*closes,
+                1 => *at == 28 && target == "/b" && body == b"Wikipedia".as_slice() && !*closes,
+                2 => *at == 119 && head.minor == 0 && body == b"xyz".as_slice() && *closes,
+                _ => false,
+            }
+        }
+        Message::End => number == 3,
+        _ => false,
+    }
+}
+
+// Whether the session's messages come over pieces of those sizes, up to the fault of the read of that number.
+fn is_session(alloc: Global, sizes: Vec<usize>, fails: u64) -> Result<bool, AllocError> {
+    let bytes = Vec::from_slice(alloc, SESSION)?;
+    let mut source = MemSource::new(alloc, bytes)
+        .with_sizes(sizes)
+        .with_fails(Vec::from_slice(alloc, &[fails])?);
+    let mut wire = Wire::new(alloc);
+    for number in 0..4u8 {
+        if !wire.is_open() {
+            return Ok(false);
+        }
+        let message = wire.next(alloc, &mut source)?;
+        if let Message::ReadFault = message {
+            return Ok(!wire.is_open());
+        }
+        if !is_of_session(number, &message) {
+            return Ok(false);
+        }
+    }
+    Ok(!wire.is_open())
+}
+
+#[test]
+fn a_session_is_the_same_however_it_is_cut(rt: HostRuntime) -> Result<(), AllocError> {
+    let a = rt.alloc();
+    assert!(&rt; is_session(a, Vec::new(a), 1000)?);
+    for cut in 1..SESSION.len() {
+        assert!(&rt; is_session(a, Vec::from_slice(a, &[cut])?, 1000)?);
+        let single = vec![in a; 1usize; SESSION.len()]?;
+        assert!(&rt; is_session(a, single, cut as u64)?);
+    }
+    Ok(())
+}
+
+// What an answer is.
+#[derive(Clone, Copy, Debug, PartialEq, Eq)]
+enum Told {
+    // A response of that status, with so many bytes of body.
+    Response(u16, usize),
+    Bad,
+    Truncated,
+    Other,
+}
+
+fn answer_of(reply: &Reply) -> Told {
+    match reply {
+        Reply::Response {
+            at: 0,
+            status,
+            body,
+            ..
+        } => Told::Response(*status, body.len()),
+        Reply::Bad { at: 0 } => Told::Bad,
+        Reply::Truncated { at: 0 } => Told::Truncated,
+        _ => Told::Other,
+    }
+}
+
+// What the text's first response is, over single bytes, where the read of that number fails.
+fn reply_to(alloc: Global, to_head: bool, text: &[u8], fails: u64) -> Result<Told, AllocError> {
+    let mut source = MemSource::new(alloc, Vec::from_slice(alloc, text)?)
+        .with_sizes(vec![in alloc; 1usize; 1000]?)
+        .with_fails(Vec::from_slice(alloc, &[fails])?);
+    let mut responses = Responses::new(alloc);
+    Ok(answer_of(&responses.next(alloc, &mut source, to_head)?))
+}
+
+// The status of the text's last head, in one piece, where the second read fails; 0 where there is none.
+fn status_of(alloc: Global, text: &[u8]) -> Result<u16, AllocError> {
+    let mut source = MemSource::new(alloc, Vec::from_slice(alloc, text)?).with_fails(
+        Vec::from_slice(alloc, &[1])?,
+    );
+    let mut responses = Responses::new(alloc);
+    match responses.head(alloc, &mut source)? {
+        FinalHead::Head { head, .. } => Ok(head.status),
+        _ => Ok(0),
+    }
+}
+
+#[test]
+fn responses_are_read_no_further_than_they_go(rt: HostRuntime) -> Result<(), AllocError> {
+    // whether the request was HEAD, the text, what it is read as, and whether a read comes behind it
+    let cases = [
+        (
+            false,
+            b"HTTP/1.1 100 Continue\r\n\r\n\r\nHTTP/1.1 103 Hints\r\nLink: </a>\r\n\r\nHTTP/1.1 200 OK\r\nTransfer-Encoding: chunked\r\n\r\n4\r\nWiki\r\n0\r\n\r\n".as_slice(),
+            Told::Response(200, 4),
+            false,
+        ),
+        (
+            false,
+            b"HTTP/1.1 200 OK\r\ncontent-length: 2\r\n\r\nab".as_slice(),
+            Told::Response(200, 2),
+            false,
+        ),
+        (
+            true,
+            b"HTTP/1.1 200 OK\r\ncontent-length: 2\r\n\r\n".as_slice(),
+            Told::Response(200, 0),
+            false,
+        ),
+        (
+            false,
+            b"HTTP/1.1 204 No Content\r\n\r\n".as_slice(),
+            Told::Response(204, 0),
+            false,
+        ),
+        (
+            false,
+            b"HTTP/1.1 304 Not Modified\r\nContent-Length: 3\r\n\r\n".as_slice(),
+            Told::Response(304, 0),
+            false,
+        ),
+        (
+            false,
+            b"\r\nHTTP/1.0 404\n\nall that is left".as_slice(),
+            Told::Response(404, 16),
+            true,
+        ),
+        (
+            false,
+            b"HTTP/1.1 101 Switching Protocols\r\n\r\n".as_slice(),
+            Told::Bad,
+            false,
+        ),
+        (false, b"HTTP/2 200 OK\r\n\r\n".as_slice(), Told::Bad, false),
+        (
+            false,
+            b"HTTP/1.1 100 Continue\r\n\r\nHTTP/1.1 20 OK\r\n\r\n".as_slice(),
+            Told::Bad,
+            false,
+        ),
+        (
+            false,
+            b"HTTP/1.1 200 OK\r\nContent-Length: 268435457\r\n\r\n".as_slice(),
+            Told::Bad,
+            false,
+        ),
+        (
+            false,
+            b"HTTP/1.1 200 OK\r\nTransfer-Encoding: chunked\r\n\r\nz".as_slice(),
+            Told::Bad,
+            false,
+        ),
+        (false, b"".as_slice(), Told::Truncated, true),
+        (
+            false,
+            b"HTTP/1.1 100 Continue\r\n\r\n".as_slice(),
+            Told::Truncated,
+            true,
+        ),
+        (
+            false,
+            b"HTTP/1.1 200 OK\r\nContent-Length: 3\r\n\r\nab".as_slice(),
+            Told::Truncated,
+            true,
+        ),
+    ];
+    let a = rt.alloc();
+    for (to_head, text, wanted, reads_on) in &cases {
+        let count = text.len() as u64;
+        assert!(&rt; reply_to(a, *to_head, text, 1000)? == *wanted);
+        let behind = if *reads_on { Told::Other } else { *wanted };
+        assert!(&rt; reply_to(a, *to_head, text, count)? == behind);
+    }
+    Ok(())
+}
+
+#[test]
+fn a_head_is_read_alone(rt: HostRuntime) -> Result<(), AllocError> {
+    let a = rt.alloc();
+    assert!(&rt;
+        status_of(
+            a,
+            b"HTTP/1.1 100 Continue\r\n\r\nHTTP/1.1 206 OK\r\nContent-Length: 9\r\n\r\n"
+        )? == 206
+    );
+    assert!(&rt; status_of(a, b"HTTP/1.1 101 Switching\r\n\r\n")? == 0);
+    Ok(())
+}
+
+// So many interim heads of 25 bytes, and then a head of 38 and an empty body.
+fn behind_interim(alloc: Global, count: usize) -> Result<Told, AllocError> {
+    let mut text = Vec::new(alloc);
+    for _ in 0..count {
+        text.extend_from_slice(b"HTTP/1.1 100 Continue\r\n\r\n")?;
+    }
+    text.extend_from_slice(b"HTTP/1.1 200 OK\r\nContent-Length: 0\r\n\r\n")?;
+    reply_to(alloc, false, &text, 100_000)
+}
+
+#[test]
+fn all_heads_together_have_a_limit(rt: HostRuntime) -> Result<(), AllocError> {
+    // 653 * 25 + 38 = 16,363, and 654 * 25 + 38 = 16,388
+    assert!(&rt; behind_interim(rt.alloc(), 653)? == Told::Response(200, 0));
+    assert!(&rt; behind_interim(rt.alloc(), 654)? == Told::Bad);
+    Ok(())
+}
