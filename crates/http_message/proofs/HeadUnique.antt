@@ -4,6 +4,7 @@ use Rattle.std.specs.Bool.{MatchBool}
 use Rattle.std.proofs.lemmas.Bool.{cases_lt}
 use Rattle.http_message.specs.Ends.{ends_empty, IsFirstEnd, TellsEnd, blank_len}
 use Rattle.http_message.specs.HeadReadings.{HeadReading, headed, faulty, ReadsHeadTo, ReadsHead, has_many_lines}
+use Rattle.http_message.specs.declared.refusal.Flaw.TheVariants.{BadMessage, HeadTooLarge}
 
 -- ---- where an empty line ends
 
@@ -34,7 +35,7 @@ OneText {H} IsText = (text : List ℕ) (h k : H) → IsText text h → IsText te
 abbrev Found : {H : Type 0} → (List ℕ → H → Type 0) → (text rest : List ℕ) → HeadReading H → Type 0
 Found {H} IsText text rest x =
     ((head : H) × IsText text head × (x ≡ headed head rest))
-    ⊎ (((head : H) → ¬ (IsText text head)) × (x ≡ faulty 24))
+    ⊎ (((head : H) → ¬ (IsText text head)) × (x ≡ faulty BadMessage))
 
 found_unique : {H : Type 0} (IsText : List ℕ → H → Type 0) → OneText IsText → (text rest : List ℕ) (x y : HeadReading H) → Found IsText text rest x → Found IsText text rest y → x ≡ y
 found_unique IsText one text rest x y (inl p) (inl q) = p.2 ∙ ap (λ h. headed h rest) (one text p.0 q.0 p.1 q.1) ∙ sym q.2
@@ -50,7 +51,7 @@ head_by_lines IsText one false text rest x y u p q = found_unique IsText one tex
 head_to_unique : {H : Type 0} (IsText : List ℕ → H → Type 0) → OneText IsText → (most : ℕ) (stream : List ℕ) (found : Option ℕ) (x y : HeadReading H)
     → ReadsHeadTo IsText most stream found x → ReadsHeadTo IsText most stream found y → x ≡ y
 head_to_unique IsText one most stream None x y p q = p ∙ sym q
-head_to_unique IsText one most stream (Some end) x y p q = head_by_lines IsText one (has_many_lines (take end stream)) (take end stream) (drop end stream) x y (faulty 26) p q
+head_to_unique IsText one most stream (Some end) x y p q = head_by_lines IsText one (has_many_lines (take end stream)) (take end stream) (drop end stream) x y (faulty HeadTooLarge) p q
 
 pub head_unique : {H : Type 0} (IsText : List ℕ → H → Type 0) → OneText IsText → (most : ℕ) (stream : List ℕ) (x y : HeadReading H)
     → ReadsHead IsText most stream x → ReadsHead IsText most stream y → x ≡ y

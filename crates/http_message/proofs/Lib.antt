@@ -9,3 +9,5 @@ pub mod ResponseFacts
 pub mod WholeHeads
 pub mod ResponseUnique
 pub mod FieldFacts
+pub mod Limits
+pub mod SessionUnique

@@ -1,13 +1,14 @@
 -- A stream is one response.
-use Rattle.std.proofs.Common.{◌≡◌, ℕ, ◌-◌, ◌≤◌, true, List, [], ◌∷◌, ◌++◌, length, Option, Some, None, Result, Ok, Err, refl, sym, ap, ◌∙◌, subst, arith, append_assoc}
+use Rattle.std.proofs.Common.{◌≡◌, ℕ, ◌-◌, ◌≤◌, Bool, true, List, [], ◌∷◌, ◌++◌, length, Option, Some, None, Result, Ok, Err, refl, sym, ap, ◌∙◌, subst, arith, append_assoc}
 use Rattle.std.proofs.lemmas.List.{length-append}
 use Rattle.std.proofs.lemmas.List.Elements.{All-head, All-tail}
 use Rattle.httparse.proofs.GrammarLemmas.{response_unique}
 use Rattle.http_message.specs.Bodies.{BodyReading}
 use Rattle.http_message.specs.HeadReadings.{HeadReading, headed, nothing, cut, faulty, ReadsHead}
 use Rattle.http_message.specs.Responses.{response_of_tree, IsResponseText, response_form}
-use Rattle.http_message.specs.ResponseMessages.{HeadText, IsInterim, is_interim, heads_text, PassesOver, IsFinal, ReadsFinalHead, ReadsResponseBody, ResponseReading, with_response, ReadsBehindResponse, ReadsResponseWithin}
+use Rattle.http_message.specs.ResponseMessages.{HeadText, IsInterim, is_interim, heads_text, PassesOver, IsFinal, without_switch, ReadsFinalHead, ReadsResponseBody, ResponseReading, with_response, ReadsBehindResponse, ReadsResponseWithin}
 use Rattle.http_message.specs.declared.framing.Form.{Form}
+use Rattle.http_message.specs.declared.refusal.Flaw.{Flaw}
 use Rattle.http_message.specs.declared.response.ResponseHead.{ResponseHead}
 use Rattle.http_message.proofs.HeadUnique.{clash, head_unique}
 use Rattle.http_message.proofs.ResponseFacts.{reads_response}
@@ -84,22 +85,22 @@ final_unique (i ∷ ps) (j ∷ qs) most stream r s x y p px fx q qy fy =
     final_unique ps qs (most - length i.text) ta r s x y a.others here fx moved there fy
 
 final_head_unique : (most : ℕ) (stream : List ℕ) (x y : HeadReading ResponseHead) → ReadsFinalHead most stream x → ReadsFinalHead most stream y → x ≡ y
-final_head_unique most stream x y p q = final_unique p.0 q.0 most stream p.1 q.1 x y p.2 p.3 p.4 q.2 q.3 q.4
+final_head_unique most stream x y p q = p.6 ∙ ap without_switch (final_unique p.0 q.0 most stream p.1 q.1 p.2 q.2 p.3 p.4 p.5 q.3 q.4 q.5) ∙ sym q.6
 
 -- ---- bodies
 
-response_body_unique : (most : ℕ) (f : Result (Option Form) ℕ) (stream : List ℕ) (x y : BodyReading) → ReadsResponseBody most f stream x → ReadsResponseBody most f stream y → x ≡ y
-response_body_unique most (Err code) stream x y p q = p ∙ sym q
+response_body_unique : (most : ℕ) (f : Result (Option Form) Flaw) (stream : List ℕ) (x y : BodyReading) → ReadsResponseBody most f stream x → ReadsResponseBody most f stream y → x ≡ y
+response_body_unique most (Err flaw) stream x y p q = p ∙ sym q
 response_body_unique most (Ok None) stream x y p q = p ∙ sym q
 response_body_unique most (Ok (Some form)) stream x y p q = body_unique most (Ok form) stream x y p q
 
-behind_response_unique : (most : ℕ) (head : HeadReading ResponseHead) (x y : ResponseReading) → ReadsBehindResponse most head x → ReadsBehindResponse most head y → x ≡ y
-behind_response_unique most (headed head rest) x y p q = p.2 ∙ ap (with_response head) (response_body_unique most (response_form most head) rest p.0 q.0 p.1 q.1) ∙ sym q.2
-behind_response_unique most nothing x y p q = p ∙ sym q
-behind_response_unique most cut x y p q = p ∙ sym q
-behind_response_unique most (faulty code) x y p q = p ∙ sym q
+behind_response_unique : (most : ℕ) (to_head : Bool) (head : HeadReading ResponseHead) (x y : ResponseReading) → ReadsBehindResponse most to_head head x → ReadsBehindResponse most to_head head y → x ≡ y
+behind_response_unique most to_head (headed head rest) x y p q = p.2 ∙ ap (with_response head) (response_body_unique most (response_form most to_head head) rest p.0 q.0 p.1 q.1) ∙ sym q.2
+behind_response_unique most to_head nothing x y p q = p ∙ sym q
+behind_response_unique most to_head cut x y p q = p ∙ sym q
+behind_response_unique most to_head (faulty flaw) x y p q = p ∙ sym q
 
-pub response_reading_unique : (most : ℕ) (stream : List ℕ) (x y : ResponseReading) → ReadsResponseWithin most stream x → ReadsResponseWithin most stream y → x ≡ y
-response_reading_unique most stream x y p q =
+pub response_reading_unique : (most : ℕ) (to_head : Bool) (stream : List ℕ) (x y : ResponseReading) → ReadsResponseWithin most to_head stream x → ReadsResponseWithin most to_head stream y → x ≡ y
+response_reading_unique most to_head stream x y p q =
     let same = final_head_unique 16384 stream p.0 q.0 p.1 q.1 in
-    behind_response_unique most q.0 x y (subst (λ h. ReadsBehindResponse most h x) same p.2) q.2
+    behind_response_unique most to_head q.0 x y (subst (λ h. ReadsBehindResponse most to_head h x) same p.2) q.2

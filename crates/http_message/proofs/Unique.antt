@@ -19,6 +19,8 @@ use Rattle.http_message.specs.Messages.{Reading, with_head, ReadsBehindHead, Rea
 use Rattle.http_message.specs.declared.framing.Form.{Form}
 use Rattle.http_message.specs.declared.framing.Form.TheVariants as form
 use Rattle.http_message.specs.declared.head.Head.{Head}
+use Rattle.http_message.specs.declared.refusal.Flaw.{Flaw}
+use Rattle.http_message.specs.declared.refusal.Flaw.TheVariants.{BadMessage, BodyTooLarge, HeadTooLarge}
 use Rattle.http_message.proofs.HeadFacts.{reads_whole}
 use Rattle.http_message.proofs.HeadUnique.{end_unique, head_unique}
 
@@ -37,7 +39,7 @@ trailers_text_unique false P x y z t u p q = either_unique x y z t p q
 trailers_to_unique : (stream : List ℕ) (found : Option ℕ) (x y : BodyReading) → ReadsTrailersTo stream found x → ReadsTrailersTo stream found y → x ≡ y
 trailers_to_unique stream None x y p q = p ∙ sym q
 trailers_to_unique stream (Some end) x y p q =
-    trailers_text_unique (ltb 65 (line_count (take (end - 1) stream))) (IsTrailersText (take (end - 1) stream)) x y (whole [] (drop (end - 1) stream)) (refused 24) (refused 26) p q
+    trailers_text_unique (ltb 65 (line_count (take (end - 1) stream))) (IsTrailersText (take (end - 1) stream)) x y (whole [] (drop (end - 1) stream)) (refused BadMessage) (refused HeadTooLarge) p q
 
 trailers_unique : (stream : List ℕ) (x y : BodyReading) → ReadsTrailers stream x → ReadsTrailers stream y → x ≡ y
 trailers_unique stream x y p q =
@@ -76,7 +78,7 @@ lines_stop_unique : (room : ℕ) (stream : List ℕ) (x y : BodyReading) → Lin
 lines_stop_unique room stream x y p q =
     let same = line_unique stream p.0 q.0 p.1 q.1 p.2 q.2 in
     let moved : StopsBehindLine room (chunk_size q.0) q.1 x = subst (λ l. StopsBehindLine room (chunk_size l) q.1 x) same.0 (subst (λ r. StopsBehindLine room (chunk_size p.0) r x) same.1 p.3) in
-    behind_line_unique (ltb room (chunk_size q.0)) (eqb (chunk_size q.0) 0) (ReadsTrailers q.1) (content_stop (chunk_size q.0) q.1) x y (refused 25) (trailers_unique q.1) moved q.3
+    behind_line_unique (ltb room (chunk_size q.0)) (eqb (chunk_size q.0) 0) (ReadsTrailers q.1) (content_stop (chunk_size q.0) q.1) x y (refused BodyTooLarge) (trailers_unique q.1) moved q.3
 
 stops_unique : (room : ℕ) (stream : List ℕ) (x y : BodyReading) → Stops room stream x → Stops room stream y → x ≡ y
 stops_unique room stream x y (inl p) (inl q) = p.1 ∙ sym q.1
@@ -107,7 +109,7 @@ content_goes_on size content tail sized =
     by_tests (leb (length stream) size) (get_or stream size 0) (leb (length stream) (size + 1)) (get_or stream (size + 1) 0) (grind (arith, nat_tests, long)) cr (grind (arith, nat_tests, long)) lf
   where
     by_tests : (a : Bool) (x : ℕ) (b : Bool) (y : ℕ) → a ≡ false → x ≡ 13 → b ≡ false → y ≡ 10
-        → cond a (Some unended) (cond (not (eqb x 13)) (Some (refused 24)) (cond b (Some unended) (cond (not (eqb y 10)) (Some (refused 24)) None))) ≡ None
+        → cond a (Some unended) (cond (not (eqb x 13)) (Some (refused BadMessage)) (cond b (Some unended) (cond (not (eqb y 10)) (Some (refused BadMessage)) None))) ≡ None
     by_tests a x b y p q r s = rw (p, q, r, s) refl
 
 chunk_no_stop : (room : ℕ) (c : Chunk) (stream tail : List ℕ) (x : BodyReading) → IsChunk c → length c.content ≤ room → stream ≡ print_chunk c ++ tail → Stops room stream x → ⊥
@@ -118,7 +120,7 @@ chunk_no_stop room c stream tail x is fits spelled (inr (inr p)) =
     let size : chunk_size p.0 ≡ length c.content = ap chunk_size same.0 ∙ is.size in
     let moved : StopsBehindLine room (length c.content) (c.content ++ (crlf_bytes ++ tail)) x =
     subst (λ n. StopsBehindLine room n (c.content ++ (crlf_bytes ++ tail)) x) size (subst (λ r. StopsBehindLine room (chunk_size p.0) r x) same.1 p.3) in
-    goes (ltb room (length c.content)) (eqb (length c.content) 0) (content_stop (length c.content) (c.content ++ (crlf_bytes ++ tail))) (ReadsTrailers (c.content ++ (crlf_bytes ++ tail)) x) (x ≡ refused 25) (grind (arith, nat_tests, fits)) (grind (arith, nat_tests, is.some)) (content_goes_on (length c.content) c.content tail refl) moved
+    goes (ltb room (length c.content)) (eqb (length c.content) 0) (content_stop (length c.content) (c.content ++ (crlf_bytes ++ tail))) (ReadsTrailers (c.content ++ (crlf_bytes ++ tail)) x) (x ≡ refused BodyTooLarge) (grind (arith, nat_tests, fits)) (grind (arith, nat_tests, is.some)) (content_goes_on (length c.content) c.content tail refl) moved
   where
     goes : (a b : Bool) (o : Option BodyReading) (T U : Type 0) → a ≡ false → b ≡ false → o ≡ None → MatchBool a U (MatchBool b T (o ≡ Some x)) → ⊥
     goes true b o T U p q r h = absurd cc
@@ -149,8 +151,8 @@ chunks_unique room (c ∷ cs) (d ∷ ds) stream x y p q =
     let later = chunks_unique (room - length d.content) cs ds q.2 p.4 q.4 moved q.5 in
     p.6 ∙ ap (λ b. behind c.content b) later ∙ ap (λ a. behind a q.4) same.0 ∙ sym q.6
 
-pub body_unique : (most : ℕ) (f : Result Form ℕ) (stream : List ℕ) (x y : BodyReading) → ReadsBody most f stream x → ReadsBody most f stream y → x ≡ y
-body_unique most (Err code) stream x y p q = p ∙ sym q
+pub body_unique : (most : ℕ) (f : Result Form Flaw) (stream : List ℕ) (x y : BodyReading) → ReadsBody most f stream x → ReadsBody most f stream y → x ≡ y
+body_unique most (Err flaw) stream x y p q = p ∙ sym q
 body_unique most (Ok (form.Length size)) stream x y p q = p ∙ sym q
 body_unique most (Ok form.Chunked) stream x y p q = chunks_unique most p.0 q.0 stream x y p.1 q.1
 
@@ -165,7 +167,7 @@ behind_head_unique : (most : ℕ) (head : HeadReading Head) (x y : Reading) → 
 behind_head_unique most (headed head rest) x y p q = p.2 ∙ ap (with_head head) (body_unique most (request_form most head) rest p.0 q.0 p.1 q.1) ∙ sym q.2
 behind_head_unique most nothing x y p q = p ∙ sym q
 behind_head_unique most cut x y p q = p ∙ sym q
-behind_head_unique most (faulty code) x y p q = p ∙ sym q
+behind_head_unique most (faulty flaw) x y p q = p ∙ sym q
 
 pub reading_unique : (most : ℕ) (stream : List ℕ) (x y : Reading) → Reads most stream x → Reads most stream y → x ≡ y
 reading_unique most stream x y p q =

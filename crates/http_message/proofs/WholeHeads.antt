@@ -6,12 +6,13 @@ use Rattle.std.proofs.lemmas.List.{length-take, take-append-drop}
 use Rattle.std.proofs.Math.Seq.{take-append-add, take-append_seam, drop-append_seam}
 use Rattle.http_message.specs.Ends.{blank_len, ends_empty, IsFirstEnd, TellsEnd}
 use Rattle.http_message.specs.HeadReadings.{headed, nothing, cut, faulty, has_many_lines, ReadsHeadText, ReadsHeadTo, ReadsHead, IsWholeHead}
+use Rattle.http_message.specs.declared.refusal.Flaw.TheVariants.{BadMessage, HeadTooLarge}
 use Rattle.http_message.proofs.CutFacts.{blank_len-append, ends_empty-append, head_end-append}
 use Rattle.http_message.proofs.Growth.{blank_split, no_room}
 use Rattle.http_message.proofs.HeadUnique.{clash}
 
 by_few : {H : Type 0} (IsText : List ℕ → H → Type 0) (b : Bool) (text rest : List ℕ) (head : H) → b ≡ false → IsText text head
-    → MatchBool b (headed head rest ≡ faulty 26) (((k : H) × IsText text k × (headed head rest ≡ headed k rest)) ⊎ (((k : H) → ¬ (IsText text k)) × (headed head rest ≡ faulty 24)))
+    → MatchBool b (headed head rest ≡ faulty HeadTooLarge) (((k : H) × IsText text k × (headed head rest ≡ headed k rest)) ⊎ (((k : H) → ¬ (IsText text k)) × (headed head rest ≡ faulty BadMessage)))
 by_few IsText true text rest head few is = absurd cc
 by_few IsText false text rest head few is = inl (head, is, refl)
 
@@ -46,7 +47,7 @@ first_end_front text more found =
       first = λ n above below. sym (ends_empty-append text more n (omega (arith, below))) ∙ found.first n (omega (arith, above, same)) below;
     }
 
-not_headless : {H : Type 0} (a b : Bool) (head : H) (rest : List ℕ) → headed head rest ≡ cond a (faulty 26) (cond b nothing cut) → ⊥
+not_headless : {H : Type 0} (a b : Bool) (head : H) (rest : List ℕ) → headed head rest ≡ cond a (faulty HeadTooLarge) (cond b nothing cut) → ⊥
 not_headless true b head rest e = absurd cc
 not_headless false true head rest e = absurd cc
 not_headless false false head rest e = absurd cc
@@ -55,7 +56,7 @@ pub same_head : {H : Type 0} (h k : H) (r s : List ℕ) → headed h r ≡ heade
 same_head h k r s e = (cc, cc)
 
 read_text : {H : Type 0} (IsText : List ℕ → H → Type 0) (b : Bool) (text back rest : List ℕ) (head : H)
-    → MatchBool b (headed head rest ≡ faulty 26) (((k : H) × IsText text k × (headed head rest ≡ headed k back)) ⊎ (((k : H) → ¬ (IsText text k)) × (headed head rest ≡ faulty 24)))
+    → MatchBool b (headed head rest ≡ faulty HeadTooLarge) (((k : H) × IsText text k × (headed head rest ≡ headed k back)) ⊎ (((k : H) → ¬ (IsText text k)) × (headed head rest ≡ faulty BadMessage)))
     → (b ≡ false) × IsText text head × (rest ≡ back)
 read_text IsText true text back rest head reads = absurd cc
 read_text IsText false text back rest head (inl p) =

@@ -5,7 +5,8 @@ use Rattle.httparse.specs.Grammar.{ChunkLine, IsChunkLine, print_chunk_line, chu
 use Rattle.http_message.specs.Ends.{TellsEnd, line_count}
 use Rattle.http_message.specs.Heads.{IsTrailersText}
 use Rattle.http_message.specs.Lines.{IsLineAt, IsOpenLine, IsBadLine}
-use Rattle.http_message.specs.Refusals.{bad_message, body_too_large, head_too_large}
+use Rattle.http_message.specs.declared.refusal.Flaw.{Flaw}
+use Rattle.http_message.specs.declared.refusal.Flaw.TheVariants.{BadMessage, BodyTooLarge, HeadTooLarge}
 use Rattle.http_message.specs.declared.framing.Form.{Form}
 use Rattle.http_message.specs.declared.framing.Form.TheVariants as form
 
@@ -13,13 +14,13 @@ use Rattle.http_message.specs.declared.framing.Form.TheVariants as form
 pub data BodyReading : Type 0 where
   whole : List ℕ → List ℕ → BodyReading
   unended : BodyReading
-  refused : ℕ → BodyReading
+  refused : Flaw → BodyReading
 
 -- the reading, with that content in front of the body
 abbrev pub behind : List ℕ → BodyReading → BodyReading
 behind content (whole body rest) = whole (content ++ body) rest
 behind content unended = unended
-behind content (refused code) = refused code
+behind content (refused flaw) = refused flaw
 
 -- ---- a body of a given length
 
@@ -30,12 +31,12 @@ sized_body size stream = if nat_le size (length stream) then whole (take size st
 
 abbrev pub ReadsTrailersText : (text rest : List ℕ) → BodyReading → Type 0
 ReadsTrailersText text rest reading =
-    MatchBool (nat_lt 65 (line_count text)) (reading ≡ refused head_too_large)
-    ((IsTrailersText text × (reading ≡ whole [] rest)) ⊎ (¬ (IsTrailersText text) × (reading ≡ refused bad_message)))
+    MatchBool (nat_lt 65 (line_count text)) (reading ≡ refused HeadTooLarge)
+    ((IsTrailersText text × (reading ≡ whole [] rest)) ⊎ (¬ (IsTrailersText text) × (reading ≡ refused BadMessage)))
 
 -- by where the empty line ends, counted from the line feed in front of the trailers
 abbrev pub ReadsTrailersTo : List ℕ → Option ℕ → BodyReading → Type 0
-ReadsTrailersTo stream None reading = reading ≡ (if nat_le 16384 (length stream) then refused head_too_large else unended)
+ReadsTrailersTo stream None reading = reading ≡ (if nat_le 16384 (length stream) then refused HeadTooLarge else unended)
 ReadsTrailersTo stream (Some end) reading = ReadsTrailersText (take (end - 1) stream) (drop (end - 1) stream) reading
 
 abbrev pub ReadsTrailers : List ℕ → BodyReading → Type 0
@@ -63,21 +64,21 @@ print_chunk c = print_chunk_line c.line ++ (c.content ++ crlf_bytes)
 abbrev pub content_stop : ℕ → List ℕ → Option BodyReading
 content_stop size stream =
     if nat_le (length stream) size then Some unended
-    else if not (slice_index stream size == 13) then Some (refused bad_message)
+    else if not (slice_index stream size == 13) then Some (refused BadMessage)
     else if nat_le (length stream) (size + 1) then Some unended
-    else if not (slice_index stream (size + 1) == 10) then Some (refused bad_message)
+    else if not (slice_index stream (size + 1) == 10) then Some (refused BadMessage)
     else None
 
 -- behind a line of that size, with room for so many bytes
 abbrev pub StopsBehindLine : ℕ → ℕ → List ℕ → BodyReading → Type 0
 StopsBehindLine room size stream reading =
-    MatchBool (nat_lt room size) (reading ≡ refused body_too_large)
+    MatchBool (nat_lt room size) (reading ≡ refused BodyTooLarge)
     (MatchBool (size == 0) (ReadsTrailers stream reading) (content_stop size stream ≡ Some reading))
 
 -- where no whole chunk that fits is in front
 abbrev pub Stops : ℕ → List ℕ → BodyReading → Type 0
 Stops room stream reading =
-    (IsBadLine stream × (reading ≡ refused bad_message))
+    (IsBadLine stream × (reading ≡ refused BadMessage))
     ⊎ ((IsOpenLine stream × (reading ≡ unended))
     ⊎ ((line : ChunkLine) × (rest : List ℕ) × IsLineAt stream line rest × StopsBehindLine room (chunk_size line) rest reading))
 
@@ -94,7 +95,7 @@ ReadsChunked room stream reading = (chunks : List Chunk) × ReadsChunks room chu
 
 -- ---- by the form
 
-abbrev pub ReadsBody : ℕ → Result Form ℕ → List ℕ → BodyReading → Type 0
-ReadsBody most (Err code) stream reading = reading ≡ refused code
+abbrev pub ReadsBody : ℕ → Result Form Flaw → List ℕ → BodyReading → Type 0
+ReadsBody most (Err flaw) stream reading = reading ≡ refused flaw
 ReadsBody most (Ok (form.Length size)) stream reading = reading ≡ sized_body size stream
 ReadsBody most (Ok form.Chunked) stream reading = ReadsChunked most stream reading

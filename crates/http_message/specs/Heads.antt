@@ -1,5 +1,5 @@
 -- The head of a request (RFC 9112, sections 2 to 5), by the grammar of `httparse`, with at most 64 fields.
-use Rattle.std.specs.Prelude.{◌≡◌, ℕ, ◌≤◌, List, map, length, Option, MatchOption, All}
+use Rattle.std.specs.Prelude.{◌≡◌, ℕ, ◌≤◌, List, map, length, All}
 use Rattle.httparse.specs.Grammar.{RequestHead, IsRequestHead, print_request, Field as Line, LineEnd, IsField, print_section}
 use Rattle.httparse.specs.Spans.{name_and_value}
 use Rattle.http_message.specs.declared.head.Head.{Head}
@@ -18,10 +18,6 @@ pub record IsTextOf (text : List ℕ) (tree : RequestHead) : Type 0 where
 -- the whole text is a head, and this is what is kept of it
 abbrev pub IsHeadText : List ℕ → Head → Type 0
 IsHeadText text head = (tree : RequestHead) × IsTextOf text tree × (head ≡ head_of_tree tree)
-
--- the head that the whole text is, or none where it is no head
-abbrev pub TellsHead : List ℕ → Option Head → Type 0
-TellsHead text found = MatchOption found ((head : Head) → ¬ (IsHeadText text head)) (IsHeadText text)
 
 -- the whole text is field lines, at most 64, and an empty line
 pub record IsTrailersOf (text : List ℕ) (fields : List Line) (last : LineEnd) : Type 0 where

@@ -1,5 +1,4 @@
 pub mod Ends
-pub mod Refusals
 pub mod Fields
 pub mod Heads
 pub mod Fronts
@@ -10,3 +9,5 @@ pub mod HeadReadings
 pub mod Messages
 pub mod Responses
 pub mod ResponseMessages
+pub mod Refusals
+pub mod Sessions

@@ -1,15 +1,11 @@
--- The codes of the refusals of a message, as the table of refusals has them.
-use Rattle.std.specs.Prelude.{ℕ}
-use Rattle.case_table.specs.declared.refusal.TheConstants.{BAD_MESSAGE, BODY_TOO_LARGE, HEAD_TOO_LARGE, TRANSFER_CODING}
+-- The refusals that answer messages with flaws.
+use Rattle.case_table.specs.declared.refuse.Refusal.{Refusal}
+use Rattle.case_table.specs.declared.refuse.Refusal.TheVariants as refusal
+use Rattle.http_message.specs.declared.refusal.Flaw.{Flaw}
+use Rattle.http_message.specs.declared.refusal.Flaw.TheVariants.{BadMessage, BodyTooLarge, HeadTooLarge, TransferCoding}
 
-abbrev pub bad_message : ℕ
-bad_message = BAD_MESSAGE
-
-abbrev pub body_too_large : ℕ
-body_too_large = BODY_TOO_LARGE
-
-abbrev pub head_too_large : ℕ
-head_too_large = HEAD_TOO_LARGE
-
-abbrev pub transfer_coding : ℕ
-transfer_coding = TRANSFER_CODING
+abbrev pub refusal_of : Flaw → Refusal
+refusal_of BadMessage = refusal.BadMessage
+refusal_of BodyTooLarge = refusal.BodyTooLarge
+refusal_of HeadTooLarge = refusal.HeadTooLarge
+refusal_of TransferCoding = refusal.TransferCoding

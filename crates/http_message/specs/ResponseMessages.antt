@@ -1,21 +1,22 @@
 -- What stands at the front of a stream as a response (RFC 9112, sections 4 and 6.3): interim heads, of status 1xx, which have no body
 -- (RFC 9110, section 15.2), and then the head and the body that were asked for.
-use Rattle.std.specs.Prelude.{◌≡◌, ℕ, ◌-◌, ◌≤◌, Bool, true, false, ◌&&◌, nat_le, List, [], ◌++◌, length, All, Option, Some, None, Result, Ok, Err, ⊤, if◌then◌else◌}
+use Rattle.std.specs.Prelude.{◌≡◌, ℕ, ◌-◌, ◌≤◌, Bool, true, false, ◌&&◌, ◌==◌, not, nat_le, List, [], ◌++◌, length, All, Option, Some, None, Result, Ok, Err, ⊤, if◌then◌else◌}
 use Rattle.std.specs.List.{flat_map}
 use Rattle.http_message.specs.Bodies.{BodyReading, ReadsBody}
 use Rattle.http_message.specs.Bodies as body
 use Rattle.http_message.specs.Framing.{Pairs}
 use Rattle.http_message.specs.HeadReadings.{HeadReading, headed, nothing, cut, faulty, ReadsHead, IsWholeHead}
-use Rattle.http_message.specs.Refusals.{body_too_large}
+use Rattle.http_message.specs.declared.refusal.Flaw.{Flaw}
+use Rattle.http_message.specs.declared.refusal.Flaw.TheVariants.{BadMessage, BodyTooLarge}
 use Rattle.http_message.specs.Responses.{IsResponseText, response_form}
 use Rattle.http_message.specs.declared.framing.Form.{Form}
 use Rattle.http_message.specs.declared.response.ResponseHead.{ResponseHead}
 
 -- ---- heads
 
--- 100 to 199
+-- 100 to 199, but for 101: behind a switch of protocols no response follows
 abbrev pub is_interim : ResponseHead → Bool
-is_interim head = nat_le 100 head.status && nat_le head.status 199
+is_interim head = nat_le 100 head.status && nat_le head.status 199 && not (head.status == 101)
 
 -- a head with its text, the empty lines in front of it included
 pub record HeadText : Type 0 where
@@ -40,22 +41,29 @@ abbrev pub IsFinal : HeadReading ResponseHead → Type 0
 IsFinal (headed head rest) = is_interim head ≡ false
 IsFinal nothing = ⊤
 IsFinal cut = ⊤
-IsFinal (faulty code) = ⊤
+IsFinal (faulty flaw) = ⊤
+
+-- A switch of protocols (RFC 9110, section 15.2.2) answers a request that asked for one, which none here does.
+abbrev pub without_switch : HeadReading ResponseHead → HeadReading ResponseHead
+without_switch (headed head rest) = if head.status == 101 then faulty BadMessage else headed head rest
+without_switch nothing = nothing
+without_switch cut = cut
+without_switch (faulty flaw) = faulty flaw
 
 -- what stands behind all interim heads, where all heads together have at most so many bytes
 abbrev pub ReadsFinalHead : ℕ → List ℕ → HeadReading ResponseHead → Type 0
 ReadsFinalHead most stream reading =
-    (heads : List HeadText) × (rest : List ℕ) × PassesOver most stream heads rest
-    × ReadsHead IsResponseText (most - length (heads_text heads)) rest reading × IsFinal reading
+    (heads : List HeadText) × (rest : List ℕ) × (found : HeadReading ResponseHead) × PassesOver most stream heads rest
+    × ReadsHead IsResponseText (most - length (heads_text heads)) rest found × IsFinal found × (reading ≡ without_switch found)
 
 -- ---- bodies
 
 -- a body that goes on to the end of the stream, which may have so many bytes
 abbrev pub open_body : ℕ → List ℕ → BodyReading
-open_body most stream = if nat_le (length stream) most then body.whole stream [] else body.refused body_too_large
+open_body most stream = if nat_le (length stream) most then body.whole stream [] else body.refused BodyTooLarge
 
-abbrev pub ReadsResponseBody : ℕ → Result (Option Form) ℕ → List ℕ → BodyReading → Type 0
-ReadsResponseBody most (Err code) stream reading = reading ≡ body.refused code
+abbrev pub ReadsResponseBody : ℕ → Result (Option Form) Flaw → List ℕ → BodyReading → Type 0
+ReadsResponseBody most (Err flaw) stream reading = reading ≡ body.refused flaw
 ReadsResponseBody most (Ok None) stream reading = reading ≡ open_body most stream
 ReadsResponseBody most (Ok (Some form)) stream reading = ReadsBody most (Ok form) stream reading
 
@@ -71,20 +79,20 @@ pub data ResponseReading : Type 0 where
 abbrev pub with_response : ResponseHead → BodyReading → ResponseReading
 with_response head (body.whole content rest) = response head.status head.fields content rest
 with_response head body.unended = truncated
-with_response head (body.refused code) = bad
+with_response head (body.refused flaw) = bad
 
-abbrev pub ReadsBehindResponse : ℕ → HeadReading ResponseHead → ResponseReading → Type 0
-ReadsBehindResponse most (headed head rest) reading =
-    (b : BodyReading) × ReadsResponseBody most (response_form most head) rest b × (reading ≡ with_response head b)
-ReadsBehindResponse most nothing reading = reading ≡ truncated
-ReadsBehindResponse most cut reading = reading ≡ truncated
-ReadsBehindResponse most (faulty code) reading = reading ≡ bad
+abbrev pub ReadsBehindResponse : ℕ → Bool → HeadReading ResponseHead → ResponseReading → Type 0
+ReadsBehindResponse most to_head (headed head rest) reading =
+    (b : BodyReading) × ReadsResponseBody most (response_form most to_head head) rest b × (reading ≡ with_response head b)
+ReadsBehindResponse most to_head nothing reading = reading ≡ truncated
+ReadsBehindResponse most to_head cut reading = reading ≡ truncated
+ReadsBehindResponse most to_head (faulty flaw) reading = reading ≡ bad
 
--- all heads together have at most 16,384 bytes, and the body so many
-abbrev pub ReadsResponseWithin : ℕ → List ℕ → ResponseReading → Type 0
-ReadsResponseWithin most stream reading =
-    (head : HeadReading ResponseHead) × ReadsFinalHead 16384 stream head × ReadsBehindResponse most head reading
+-- by whether the request was HEAD, where all heads together have at most 16,384 bytes, and the body so many
+abbrev pub ReadsResponseWithin : ℕ → Bool → List ℕ → ResponseReading → Type 0
+ReadsResponseWithin most to_head stream reading =
+    (head : HeadReading ResponseHead) × ReadsFinalHead 16384 stream head × ReadsBehindResponse most to_head head reading
 
 -- a response's body has at most 256 MiB
-abbrev pub ReadsResponseMessage : List ℕ → ResponseReading → Type 0
-ReadsResponseMessage stream reading = ReadsResponseWithin 268435456 stream reading
+abbrev pub ReadsResponseMessage : Bool → List ℕ → ResponseReading → Type 0
+ReadsResponseMessage to_head stream reading = ReadsResponseWithin 268435456 to_head stream reading

@@ -1,12 +1,14 @@
 -- The head of a response (RFC 9112, sections 4, 5 and 6.3), by the grammar of `httparse`, with at most 64 fields.
-use Rattle.std.specs.Prelude.{◌≡◌, ℕ, ◌<◌, ◌≤◌, ◌&&◌, ◌==◌, List, map, length, drop, count_by, codes, Option, Some, None, Result, Ok, Err, MatchOption, MatchResult, ⊤, if◌then◌else◌}
+use Rattle.std.specs.Prelude.{◌≡◌, ℕ, ◌<◌, ◌≤◌, Bool, ◌&&◌, ◌||◌, ◌==◌, List, map, length, drop, count_by, codes, Option, Some, None, Result, Ok, Err, MatchResult, ⊤, if◌then◌else◌}
 use Rattle.httparse.specs.Grammar.{ResponseHead as Tree, IsResponseHead, ReadsResponse, print_response, status_code}
 use Rattle.httparse.specs.Spans.{name_and_value}
 use Rattle.http_message.specs.Fields.{is_named}
 use Rattle.http_message.specs.Framing.{form_in}
 use Rattle.http_message.specs.declared.framing.Form.{Form}
+use Rattle.http_message.specs.declared.framing.Form.TheVariants as form
 use Rattle.http_message.specs.declared.head.HeadFault.{HeadFault}
 use Rattle.http_message.specs.declared.head.HeadFault.TheVariants.{NoHead, NoMemory}
+use Rattle.http_message.specs.declared.refusal.Flaw.{Flaw}
 use Rattle.http_message.specs.declared.response.ResponseHead.{ResponseHead}
 
 -- what is kept of a head: the values without the white space around them
@@ -22,10 +24,6 @@ pub record IsResponseOf (text : List ℕ) (tree : Tree) : Type 0 where
 -- the whole text is a head, and this is what is kept of it
 abbrev pub IsResponseText : List ℕ → ResponseHead → Type 0
 IsResponseText text head = (tree : Tree) × IsResponseOf text tree × (head ≡ response_of_tree tree)
-
--- the head that the whole text is, or none where it is no head
-abbrev pub TellsResponse : List ℕ → Option ResponseHead → Type 0
-TellsResponse text found = MatchOption found ((head : ResponseHead) → ¬ (IsResponseText text head)) (IsResponseText text)
 
 -- ---- what parsing finds at the front
 
@@ -45,11 +43,17 @@ TellsResponseFront text r = MatchResult r (λ p. (tree : Tree) × IsResponseFron
 
 -- ---- the form of the body, or none where it goes on to the end of the stream
 
-abbrev pub some_form : Result Form ℕ → Result (Option Form) ℕ
-some_form (Ok form) = Ok (Some form)
-some_form (Err code) = Err code
+-- A response to HEAD, and one of status 204 or 304, ends with its head, whatever its fields say.
+abbrev pub is_bodiless : Bool → ResponseHead → Bool
+is_bodiless to_head head = to_head || head.status == 204 || head.status == 304
 
-abbrev pub response_form : ℕ → ResponseHead → Result (Option Form) ℕ
-response_form most head =
-    if count_by (is_named (codes "content-length")) head.fields == 0 && count_by (is_named (codes "transfer-encoding")) head.fields == 0
+abbrev pub some_form : Result Form Flaw → Result (Option Form) Flaw
+some_form (Ok form) = Ok (Some form)
+some_form (Err flaw) = Err flaw
+
+-- by whether the request was HEAD
+abbrev pub response_form : ℕ → Bool → ResponseHead → Result (Option Form) Flaw
+response_form most to_head head =
+    if is_bodiless to_head head then Ok (Some (form.Length 0))
+    else if count_by (is_named (codes "content-length")) head.fields == 0 && count_by (is_named (codes "transfer-encoding")) head.fields == 0
     then Ok None else some_form (form_in most head.minor head.fields)

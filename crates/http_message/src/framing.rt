@@ -6,7 +6,7 @@ ghost use Rattle.http_message.specs.Framing.{closes, form_by, form_in, length_in
 
 use crate::field::{Fields, count_named, first_named};
 use crate::head::Head;
-use crate::refusal::{BAD_MESSAGE, BODY_TOO_LARGE, TRANSFER_CODING};
+use crate::refusal::Flaw;
 use crate::text::{lists_option, same_text};
 
 /// The form of a body (RFC 9112, section 6.3).
@@ -45,26 +45,26 @@ fn form_by(
     size: Option<u64>,
     codings: usize,
     chunked: bool,
-) -> Result<Form, u16>
+) -> Result<Form, Flaw>
     ensures { result ≡ form_by most minor lengths size codings chunked }
 {
     if lengths > 1
         || (lengths == 1 && size.is_none())
         || (codings > 0 && (lengths == 1 || minor == 0))
     {
-        return Err(BAD_MESSAGE);
+        return Err(Flaw::BadMessage);
     }
     if codings > 0 {
         if codings == 1 && chunked {
             return Ok(Form::Chunked);
         }
-        return Err(TRANSFER_CODING);
+        return Err(Flaw::TransferCoding);
     }
     match size {
         None => Ok(Form::Length(0)),
         Some(size) => {
             if size > most {
-                Err(BODY_TOO_LARGE)
+                Err(Flaw::BodyTooLarge)
             } else {
                 Ok(Form::Length(size))
             }
@@ -74,10 +74,10 @@ fn form_by(
 
 /// The form of the body that these fields frame, of at most `most` bytes.
 ///
-/// `BAD_MESSAGE` comes where there is more than one Content-Length, one that isn't 1 to 18 digits, one beside
-/// Transfer-Encoding, or Transfer-Encoding in HTTP/1.0. Else `TRANSFER_CODING` comes where Transfer-Encoding isn't one field
-/// `chunked`, in any case, and else `BODY_TOO_LARGE` where the length is above `most`.
-pub fn form_in(most: u64, minor: u8, fields: &Fields) -> Result<Form, u16>
+/// [`Flaw::BadMessage`] comes where there is more than one Content-Length, one that isn't 1 to 18 digits, one beside
+/// Transfer-Encoding, or Transfer-Encoding in HTTP/1.0. Else [`Flaw::TransferCoding`] comes where Transfer-Encoding isn't one field
+/// `chunked`, in any case, and else [`Flaw::BodyTooLarge`] where the length is above `most`.
+pub fn form_in(most: u64, minor: u8, fields: &Fields) -> Result<Form, Flaw>
     ensures { result ≡ form_in most minor fields.now }
 {
     let lengths = count_named(fields, "content-length");
@@ -87,13 +87,13 @@ pub fn form_in(most: u64, minor: u8, fields: &Fields) -> Result<Form, u16>
     form_by(most, minor, lengths, size, codings, chunked)
 }
 
-/// The form of a request's body. A request of HTTP/1.1 without exactly one Host is `BAD_MESSAGE`; else it is as in
+/// The form of a request's body. A request of HTTP/1.1 without exactly one Host is [`Flaw::BadMessage`]; else it is as in
 /// [`form_in`].
-pub fn request_form(most: u64, head: &Head) -> Result<Form, u16>
+pub fn request_form(most: u64, head: &Head) -> Result<Form, Flaw>
     ensures { result ≡ request_form most head.now }
 {
     if head.minor == 1 && count_named(&head.fields, "host") != 1 {
-        return Err(BAD_MESSAGE);
+        return Err(Flaw::BadMessage);
     }
     form_in(most, head.minor, &head.fields)
 }

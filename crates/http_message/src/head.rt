@@ -1,8 +1,9 @@
 // Heads as texts.
-ghost use Rattle.std.specs.Prelude.{◌≡◌, ◌-◌, ◌^◌, map, min, sum_by, IfOk, MatchBool};
+ghost use Rattle.std.specs.Prelude.{◌≡◌, ℕ, ◌-◌, ◌^◌, List, map, min, sum_by, IfOk, MatchBool};
 ghost use Rattle.httparse.specs.Borrowed.{header_parts};
 ghost use Rattle.http_message.specs.Fields.{field_len};
-ghost use Rattle.http_message.specs.Heads.{IsTrailersText, TellsHead};
+ghost use Rattle.http_message.specs.Heads.{IsHeadText, IsTrailersText};
+ghost use Rattle.http_message.specs.HeadReadings.{TellsHeadText};
 ghost use Rattle.http_message.specs.Fronts.{TellsFront};
 
 use crate::field::Fields;
@@ -86,9 +87,29 @@ fn front_of(alloc: Global, text: &[u8]) -> Result<(Head, usize), HeadFault>
                 len,
             ))
         }
-        Ok(Status::Partial) => Err(HeadFault::NoHead),
-        Err(Error::TooManyHeaders) => Err(HeadFault::NoHead),
-        Err(_) => Err(HeadFault::NoHead),
+        _ => Err(HeadFault::NoHead),
+    }
+}
+
+/// What is kept of a head, of a request or of a response.
+pub trait HeadText: Sized + Drop {
+    /// The whole text is a head, and this is what is kept of it.
+    ghost is_text: { List ℕ → Self → Type 0 };
+
+    /// The head that the whole text is, or none where it is no head with at most 64 fields.
+    ///
+    /// The error is want of memory.
+    fn of_text(alloc: Global, text: &[u8]) -> Result<Option<Self>, AllocError>
+        ensures { IfOk result (TellsHeadText is_text text.now) };
+}
+
+impl HeadText for Head {
+    ghost use Rattle.http_message.specs.Heads.{IsHeadText};
+
+    ghost is_text = { IsHeadText };
+
+    fn of_text(alloc: Global, text: &[u8]) -> Result<Option<Head>, AllocError> {
+        head_in(alloc, text)
     }
 }
 
@@ -96,7 +117,7 @@ fn front_of(alloc: Global, text: &[u8]) -> Result<(Head, usize), HeadFault>
 ///
 /// The error is want of memory.
 pub fn head_in(alloc: Global, text: &[u8]) -> Result<Option<Head>, AllocError>
-    ensures { IfOk result (TellsHead text.now) }
+    ensures { IfOk result (TellsHeadText IsHeadText text.now) }
 {
     match front_of(alloc, text) {
         Ok((head, len)) => {

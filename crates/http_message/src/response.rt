@@ -1,12 +1,14 @@
 // Heads of responses as texts.
 ghost use Rattle.std.specs.Prelude.{◌≡◌, IfOk};
+ghost use Rattle.http_message.specs.HeadReadings.{TellsHeadText};
 ghost use Rattle.http_message.specs.ResponseMessages.{is_interim};
-ghost use Rattle.http_message.specs.Responses.{response_form, TellsResponse, TellsResponseFront};
+ghost use Rattle.http_message.specs.Responses.{is_bodiless, response_form, IsResponseText, TellsResponseFront};
 
 use crate::field::{Fields, count_named};
 use crate::framing::{Form, form_in};
-use crate::head::{HeadFault, copy_fields};
-use httparse::{EMPTY_HEADER, Error, Response, Status};
+use crate::head::{HeadFault, HeadText, copy_fields};
+use crate::refusal::Flaw;
+use httparse::{EMPTY_HEADER, Response, Status};
 use std::alloc::{AllocError, Global};
 
 /// The head of a response (RFC 9112, section 4).
@@ -40,9 +42,17 @@ fn response_front(alloc: Global, text: &[u8]) -> Result<(ResponseHead, usize), H
                 len,
             ))
         }
-        Ok(Status::Partial) => Err(HeadFault::NoHead),
-        Err(Error::TooManyHeaders) => Err(HeadFault::NoHead),
-        Err(_) => Err(HeadFault::NoHead),
+        _ => Err(HeadFault::NoHead),
+    }
+}
+
+impl HeadText for ResponseHead {
+    ghost use Rattle.http_message.specs.Responses.{IsResponseText};
+
+    ghost is_text = { IsResponseText };
+
+    fn of_text(alloc: Global, text: &[u8]) -> Result<Option<ResponseHead>, AllocError> {
+        response_in(alloc, text)
     }
 }
 
@@ -50,7 +60,7 @@ fn response_front(alloc: Global, text: &[u8]) -> Result<(ResponseHead, usize), H
 ///
 /// The error is want of memory.
 pub fn response_in(alloc: Global, text: &[u8]) -> Result<Option<ResponseHead>, AllocError>
-    ensures { IfOk result (TellsResponse text.now) }
+    ensures { IfOk result (TellsHeadText IsResponseText text.now) }
 {
     match response_front(alloc, text) {
         Ok((head, len)) => {
@@ -67,21 +77,29 @@ pub fn response_in(alloc: Global, text: &[u8]) -> Result<Option<ResponseHead>, A
     }
 }
 
-/// Whether the head is an interim one, of status 100 to 199, behind which another head stands (RFC 9110, section 15.2).
+/// Whether the head is an interim one, of status 100 to 199 but not 101, behind which another head stands (RFC 9110, section 15.2).
 pub fn is_interim(head: &ResponseHead) -> bool
     ensures { result ≡ is_interim head.now }
 {
-    head.status >= 100 && head.status <= 199
+    head.status >= 100 && head.status <= 199 && head.status != 101
 }
 
-/// The form of a response's body of at most `most` bytes, or none where the body goes on to the end of the stream: where there is
-/// neither Content-Length nor Transfer-Encoding (RFC 9112, section 6.3). The errors are those of [`form_in`].
-///
-/// It doesn't look at the status or at the request: a response of status 204 or 304, or to HEAD, which that section leaves without
-/// a body, is read like any other.
-pub fn response_form(most: u64, head: &ResponseHead) -> Result<Option<Form>, u16>
-    ensures { result ≡ response_form most head.now }
+// Whether a response ends with its head, whatever its fields say.
+fn is_bodiless(to_head: bool, head: &ResponseHead) -> bool
+    ensures { result ≡ is_bodiless to_head head.now }
 {
+    to_head || head.status == 204 || head.status == 304
+}
+
+/// The form of a response's body of at most `most` bytes, by whether its request was HEAD (RFC 9112, section 6.3). A response to
+/// HEAD, and one of status 204 or 304, has no body. Another one with neither Content-Length nor Transfer-Encoding has a body
+/// that goes on to the end of the stream, and no form. The errors are those of [`form_in`].
+pub fn response_form(most: u64, to_head: bool, head: &ResponseHead) -> Result<Option<Form>, Flaw>
+    ensures { result ≡ response_form most to_head head.now }
+{
+    if is_bodiless(to_head, head) {
+        return Ok(Some(Form::Length(0)));
+    }
     if count_named(&head.fields, "content-length") == 0
         && count_named(&head.fields, "transfer-encoding") == 0
     {
@@ -89,6 +107,6 @@ pub fn response_form(most: u64, head: &ResponseHead) -> Result<Option<Form>, u16
     }
     match form_in(most, head.minor, &head.fields) {
         Ok(form) => Ok(Some(form)),
-        Err(code) => Err(code),
+        Err(flaw) => Err(flaw),
     }
 }

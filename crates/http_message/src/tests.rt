@@ -3,89 +3,26 @@ use crate::ends::{blank_len, end_after, line_count};
 use crate::field::{Fields, count_named, first_named};
 use crate::framing::{Form, closes, request_form};
 use crate::head::{head_in, is_trailers};
-use crate::refusal::{BAD_MESSAGE, BODY_TOO_LARGE, TRANSFER_CODING};
-use crate::response::{response_form, response_in};
+use crate::refusal::Flaw;
+use crate::response::{is_interim, response_form, response_in};
 use std::alloc::{AllocError, Global};
 
 const MOST: u64 = 16_777_216;
 
 #[test]
-fn a_head_ends_with_its_first_empty_line(rt: HostRuntime) {
+fn flaws_are_refused(rt: HostRuntime) {
+    assert!(&rt; Flaw::BadMessage.refusal().word() == "BAD_MESSAGE");
+    assert!(&rt; Flaw::BodyTooLarge.refusal().word() == "BODY_TOO_LARGE");
+    assert!(&rt; Flaw::HeadTooLarge.refusal().word() == "HEAD_TOO_LARGE");
+    assert!(&rt; Flaw::TransferCoding.refusal().word() == "TRANSFER_CODING");
+}
+
+#[test]
+fn lines_and_where_heads_end(rt: HostRuntime) {
     let text = b"\r\n\nGET / HTTP/1.0\n\nrest\n\n";
     assert!(&rt; blank_len(text) == 3);
     assert!(&rt; end_after(text, 3, 3) == Some(19));
     assert!(&rt; line_count(b"a\nb\r\n") == 2);
-}
-
-// The form of the body of the request that the text is the head of, or none where it is no head.
-fn form(alloc: Global, text: &[u8]) -> Result<Option<Result<Form, u16>>, AllocError> {
-    match head_in(alloc, text)? {
-        Some(head) => Ok(Some(request_form(MOST, &head))),
-        None => Ok(None),
-    }
-}
-
-#[test]
-fn bodies_are_framed_by_fields(rt: HostRuntime) -> Result<(), AllocError> {
-    let a = rt.alloc();
-    assert!(&rt;
-        form(
-            a,
-            b"POST / HTTP/1.1\r\nhost: x\r\nContent-Length:  007 \r\n\r\n"
-        )? == Some(Ok(Form::Length(7)))
-    );
-    assert!(&rt;
-        form(
-            a,
-            b"POST / HTTP/1.1\r\nHost: x\r\nTransfer-Encoding: Chunked\r\n\r\n"
-        )? == Some(Ok(Form::Chunked))
-    );
-    assert!(&rt; form(a, b"GET / HTTP/1.0\n\n")? == Some(Ok(Form::Length(0))));
-    assert!(&rt; form(a, b"GET / HTTP/1.1\r\nHost : x\r\n\r\n")? == None);
-    Ok(())
-}
-
-#[test]
-fn broken_framing_is_refused(rt: HostRuntime) -> Result<(), AllocError> {
-    let a = rt.alloc();
-    assert!(&rt;
-        form(a, b"GET / HTTP/1.1\r\nHost: x\r\nHost: x\r\n\r\n")? == Some(Err(BAD_MESSAGE))
-    );
-    assert!(&rt;
-        form(
-            a,
-            b"GET / HTTP/1.1\r\nHost: x\r\nContent-Length: +1\r\n\r\n"
-        )? == Some(Err(BAD_MESSAGE))
-    );
-    assert!(&rt;
-        form(
-            a,
-            b"GET / HTTP/1.1\r\nHost: x\r\nTransfer-Encoding: gzip\r\n\r\n"
-        )? == Some(Err(TRANSFER_CODING))
-    );
-    assert!(&rt;
-        form(
-            a,
-            b"GET / HTTP/1.1\r\nHost: x\r\nContent-Length: 16777217\r\n\r\n"
-        )? == Some(Err(BODY_TOO_LARGE))
-    );
-    Ok(())
-}
-
-#[test]
-fn close_is_an_element(rt: HostRuntime) -> Result<(), AllocError> {
-    match head_in(
-        rt.alloc(),
-        b"GET / HTTP/1.1\r\nHost: x\r\nConnection: keep-alive , CLOSE\r\n\r\n",
-    )? {
-        Some(head) => assert!(&rt; closes(head.minor, &head.fields)),
-        None => assert!(&rt; false),
-    }
-    Ok(())
-}
-
-#[test]
-fn lines_of_chunks_and_trailers(rt: HostRuntime) {
     assert!(&rt; chunk_line(b"1f;name=value\r\n") == Ok(Some((15, 31))));
     assert!(&rt; chunk_line(b"1f") == Ok(None));
     assert!(&rt; chunk_line(b"zz").is_err());
@@ -93,26 +30,115 @@ fn lines_of_chunks_and_trailers(rt: HostRuntime) {
     assert!(&rt; !is_trailers(b"A: b\r\n"));
 }
 
-// The status of the response whose head the text is, and the form of its body.
+// The form of the body of the request that the text is the head of, or none where it is no head.
+fn form(alloc: Global, text: &[u8]) -> Result<Option<Result<Form, Flaw>>, AllocError> {
+    match head_in(alloc, text)? {
+        Some(head) => Ok(Some(request_form(MOST, &head))),
+        None => Ok(None),
+    }
+}
+
+#[test]
+fn requests_are_framed_by_fields(rt: HostRuntime) -> Result<(), AllocError> {
+    let bad = Some(Err(Flaw::BadMessage));
+    let cases = [
+        (b"GET / HTTP/1.0\n\n".as_slice(), Some(Ok(Form::Length(0)))),
+        (
+            b"P / HTTP/1.1\r\nhost: x\r\nContent-Length:  007 \r\n\r\n".as_slice(),
+            Some(Ok(Form::Length(7))),
+        ),
+        (
+            b"P / HTTP/1.1\r\nHost: x\r\nTransfer-Encoding: Chunked\r\n\r\n".as_slice(),
+            Some(Ok(Form::Chunked)),
+        ),
+        (b"GET / HTTP/1.1\r\nHost : x\r\n\r\n".as_slice(), None),
+        (
+            b"GET / HTTP/1.1\r\nHost: x\r\nHost: x\r\n\r\n".as_slice(),
+            bad,
+        ),
+        (
+            b"GET / HTTP/1.1\r\nHost: x\r\nContent-Length: +1\r\n\r\n".as_slice(),
+            bad,
+        ),
+        (
+            b"GET / HTTP/1.1\r\nHost: x\r\nTransfer-Encoding: gzip\r\n\r\n".as_slice(),
+            Some(Err(Flaw::TransferCoding)),
+        ),
+        (
+            b"GET / HTTP/1.1\r\nHost: x\r\nContent-Length: 16777216\r\n\r\n".as_slice(),
+            Some(Ok(Form::Length(MOST))),
+        ),
+        (
+            b"GET / HTTP/1.1\r\nHost: x\r\nContent-Length: 16777217\r\n\r\n".as_slice(),
+            Some(Err(Flaw::BodyTooLarge)),
+        ),
+    ];
+    for (text, wanted) in &cases {
+        assert!(&rt; form(rt.alloc(), text)? == *wanted);
+    }
+    Ok(())
+}
+
+// The status of the response whose head the text is, whether it is an interim one, and the form of its body.
 fn reply(
     alloc: Global,
+    to_head: bool,
     text: &[u8],
-) -> Result<Option<(u16, Result<Option<Form>, u16>)>, AllocError> {
+) -> Result<Option<(u16, bool, Result<Option<Form>, Flaw>)>, AllocError> {
     match response_in(alloc, text)? {
-        Some(head) => Ok(Some((head.status, response_form(MOST, &head)))),
+        Some(head) => Ok(Some((
+            head.status,
+            is_interim(&head),
+            response_form(MOST, to_head, &head),
+        ))),
         None => Ok(None),
     }
 }
 
 #[test]
 fn responses_have_a_status_and_a_body(rt: HostRuntime) -> Result<(), AllocError> {
-    let a = rt.alloc();
-    assert!(&rt;
-        reply(a, b"HTTP/1.1 200 OK\r\nContent-Length: 3\r\n\r\n")?
-            == Some((200, Ok(Some(Form::Length(3)))))
-    );
-    assert!(&rt; reply(a, b"HTTP/1.0 404\r\n\r\n")? == Some((404, Ok(None))));
-    assert!(&rt; reply(a, b"HTTP/2 200 OK\r\n\r\n")? == None);
+    let none = Ok(Some(Form::Length(0)));
+    let cases = [
+        (
+            false,
+            b"HTTP/1.1 200 OK\r\nContent-Length: 3\r\n\r\n".as_slice(),
+            Some((200, false, Ok(Some(Form::Length(3))))),
+        ),
+        (
+            true,
+            b"HTTP/1.1 200 OK\r\nContent-Length: 3\r\n\r\n".as_slice(),
+            Some((200, false, none)),
+        ),
+        (
+            false,
+            b"HTTP/1.1 204 OK\r\n\r\n".as_slice(),
+            Some((204, false, none)),
+        ),
+        (
+            false,
+            b"HTTP/1.1 304 OK\r\nContent-Length: x\r\n\r\n".as_slice(),
+            Some((304, false, none)),
+        ),
+        (
+            false,
+            b"HTTP/1.1 100 Continue\r\n\r\n".as_slice(),
+            Some((100, true, Ok(None))),
+        ),
+        (
+            false,
+            b"HTTP/1.1 101 Switching\r\n\r\n".as_slice(),
+            Some((101, false, Ok(None))),
+        ),
+        (
+            false,
+            b"HTTP/1.0 404\r\n\r\n".as_slice(),
+            Some((404, false, Ok(None))),
+        ),
+        (false, b"HTTP/2 200 OK\r\n\r\n".as_slice(), None),
+    ];
+    for (to_head, text, wanted) in &cases {
+        assert!(&rt; reply(rt.alloc(), *to_head, text)? == *wanted);
+    }
     Ok(())
 }
 
@@ -138,17 +164,17 @@ fn fields_keep_their_names_and_values(rt: HostRuntime) -> Result<(), AllocError>
 
 #[test]
 fn a_head_keeps_its_fields_in_order(rt: HostRuntime) -> Result<(), AllocError> {
-    match head_in(
+    let Some(head) = head_in(
         rt.alloc(),
-        b"GET / HTTP/1.1\r\nHost:  x \r\nAccept: a, b\r\n\r\n",
-    )? {
-        Some(head) => {
-            let fields = head.fields;
-            assert!(&rt; fields.len() == 2);
-            assert!(&rt; is_at(&fields, 0, b"Host", b"x"));
-            assert!(&rt; is_at(&fields, 1, b"Accept", b"a, b"));
-        }
-        None => assert!(&rt; false),
-    }
+        b"GET / HTTP/1.1\r\nHost:  x \r\nConnection: keep-alive , CLOSE\r\n\r\n",
+    )?
+    else {
+        assert!(&rt; false);
+        return Ok(());
+    };
+    assert!(&rt; closes(head.minor, &head.fields));
+    assert!(&rt; head.fields.len() == 2);
+    assert!(&rt; is_at(&head.fields, 0, b"Host", b"x"));
+    assert!(&rt; is_at(&head.fields, 1, b"Connection", b"keep-alive , CLOSE"));
     Ok(())
 }

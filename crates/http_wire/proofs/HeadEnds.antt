@@ -5,9 +5,11 @@ use Rattle.std.proofs.lemmas.List.{append-nil, length-append, take-append-le, ta
 use Rattle.std.proofs.Math.Seq.{take-append-add}
 use Rattle.http_message.specs.Ends.{blank_len, HasNoEnd, IsFirstEnd}
 use Rattle.http_message.specs.HeadReadings.{nothing, cut, faulty, headless}
+use Rattle.http_message.specs.declared.refusal.Flaw.TheVariants.{HeadTooLarge}
 use Rattle.http_message.proofs.CutFacts.{blank_len-append}
 use Rattle.http_message.proofs.Growth.{first_end-append, no_room}
-use Rattle.http_wire.specs.Heads.{TellsStreamEnd, EndsAt}
+use Rattle.http_wire.specs.Heads.{TellsStreamEnd, IsHeadOpen, EndsAt}
+use Rattle.http_wire.specs.Parts.{IsBlankOpen, IsEndOpen}
 
 pub take_front : (n : ℕ) (xs ys : List ℕ) → take n (xs ++ ys) ≡ take n xs ++ take (n - length xs) ys
 take_front n xs ys =
@@ -45,17 +47,17 @@ end_found most u v m start end grown is room found =
       fits = omega (arith, found.within, sized);
     }
 
-pub headless_long : {H : Type 0} (most : ℕ) (xs : List ℕ) → most ≤ length xs → headless {H = H} most xs ≡ faulty 26
-headless_long most xs long = ap (λ b. cond b (faulty 26) (cond (eqb (blank_len xs) (length xs)) nothing cut)) (le-leb most (length xs) long)
+pub headless_long : {H : Type 0} (most : ℕ) (xs : List ℕ) → most ≤ length xs → headless {H = H} most xs ≡ faulty HeadTooLarge
+headless_long most xs long = ap (λ b. cond b (faulty HeadTooLarge) (cond (eqb (blank_len xs) (length xs)) nothing cut)) (le-leb most (length xs) long)
 
 pub headless_blank : {H : Type 0} (most : ℕ) (xs : List ℕ) → length xs < most → blank_len xs ≡ length xs → headless {H = H} most xs ≡ nothing
 headless_blank most xs short all =
-    ap (λ b. cond b (faulty 26) (cond (eqb (blank_len xs) (length xs)) nothing cut)) (lt-leb most (length xs) short)
+    ap (λ b. cond b (faulty HeadTooLarge) (cond (eqb (blank_len xs) (length xs)) nothing cut)) (lt-leb most (length xs) short)
     ∙ ap (λ b. cond b nothing cut) (eq-eqb (blank_len xs) (length xs) all)
 
 pub headless_cut : {H : Type 0} (most : ℕ) (xs : List ℕ) → length xs < most → ¬ (blank_len xs ≡ length xs) → headless {H = H} most xs ≡ cut
 headless_cut most xs short text =
-    ap (λ b. cond b (faulty 26) (cond (eqb (blank_len xs) (length xs)) nothing cut)) (lt-leb most (length xs) short)
+    ap (λ b. cond b (faulty HeadTooLarge) (cond (eqb (blank_len xs) (length xs)) nothing cut)) (lt-leb most (length xs) short)
     ∙ ap (λ b. cond b nothing cut) (ne_eqb (blank_len xs) (length xs) text)
 
 pub none_found : (most : ℕ) (u v m : List ℕ) (start : ℕ) → v ≡ u ++ m → start ≡ blank_len (take most u) → start + 2 ≤ length (take most u) → HasNoEnd (take most v) start → most ≤ length v
@@ -84,3 +86,9 @@ end_inside most u v m start grown is room none short =
       subst (λ s. HasNoEnd (take most v) s) begins (subst (λ w. HasNoEnd w start) (sym all) none),
       λ same. omega (arith, same, begins, ap blank_len all, fits, room),
     )
+
+pub blank_open : (most : ℕ) (y : List ℕ) → IsBlankOpen most y → IsHeadOpen most y
+blank_open most y is = record { none = end_no_room most y is.0 is.1; short = is.0 }
+
+pub end_open : (most : ℕ) (u y : List ℕ) (start : ℕ) → start ≡ blank_len (take most u) → start + 2 ≤ length (take most u) → IsEndOpen most start u y → IsHeadOpen most y
+end_open most u y start is room open_end = record { none = (end_inside most u y open_end.0 start open_end.1 is room open_end.2 open_end.3).0; short = open_end.3 }

@@ -1,59 +1,39 @@
--- How far bytes were looked through.
+-- How far the first bytes, at most so many, were looked through, before and behind a read.
 use Rattle.std.proofs.Common.{◌≡◌, ℕ, ◌+◌, ◌-◌, ◌≤◌, List, [], ◌∷◌, ◌++◌, length, take, drop, sym, ap, ◌∙◌, subst, arith, append_assoc, length-append}
 use Rattle.std.proofs.lemmas.List.{append-nil}
 use Rattle.http_message.specs.Ends.{blank_len, HasNoEnd, HasNoEndTo}
 use Rattle.http_message.proofs.Growth.{none-append, blank_known}
-use Rattle.http_wire.specs.Looks.{IsLooked}
-use Rattle.http_wire.specs.declared.inbox.Looked.{Looked}
 use Rattle.http_wire.proofs.HeadEnds.{take_front}
 
--- more bytes
-pub looked_more : (bytes more : List ℕ) (l : Looked) → IsLooked bytes l → IsLooked (bytes ++ more) l
-looked_more bytes more l is =
-    let w = take l.most bytes in
-    let rest = take (l.most - length bytes) more in
-    let e : take l.most (bytes ++ more) ≡ w ++ rest = take_front l.most bytes more in
-    let t = take 16384 bytes in
-    let others = take (16384 - length bytes) more in
-    let f : take 16384 (bytes ++ more) ≡ t ++ others = take_front 16384 bytes more in
-    record {
-      blank_within = omega (arith, is.blank_within, ap length e, length-append w rest);
-      blank = λ ys.
-          let both : take l.most (bytes ++ more) ++ ys ≡ w ++ (rest ++ ys) = ap (λ x. x ++ ys) e ∙ append_assoc w rest ys in
-          subst (λ z. l.blank + blank_len (drop l.blank z) ≡ blank_len z) (sym both) (is.blank (rest ++ ys));
-      order = is.order;
-      within = omega (arith, is.within, ap length e, length-append w rest);
-      none = subst (λ z. HasNoEndTo z l.start l.searched) (sym e) (none-append w rest l.start l.searched is.within is.none);
-      trailers_within = omega (arith, is.trailers_within, ap length f, length-append t others);
-      no_trailers = subst (λ z. HasNoEndTo (10 ∷ z) 1 (l.trailers + 1)) (sym f) (none-append (10 ∷ t) others 1 (l.trailers + 1) (omega (arith, is.trailers_within)) is.no_trailers);
-    }
+window_more : (most : ℕ) (old new more : List ℕ) → new ≡ old ++ more → take most new ≡ take most old ++ take (most - length old) more
+window_more most old new more grown = ap (take most) grown ∙ take_front most old more
 
-pub looked_blank : (bytes : List ℕ) (l : Looked) (blank : ℕ) → IsLooked bytes l → blank ≡ blank_len (take l.most bytes) → blank ≤ length (take l.most bytes)
-    → IsLooked bytes (record { most = l.most; blank = blank; start = l.start; searched = l.searched; trailers = l.trailers })
-looked_blank bytes l blank is value within =
-    record {
-      blank_within = within;
-      blank = λ ys. subst (λ n. n + blank_len (drop n (take l.most bytes ++ ys)) ≡ blank_len (take l.most bytes ++ ys)) (sym value) (blank_known (take l.most bytes) ys);
-      order = is.order;
-      within = is.within;
-      none = is.none;
-      trailers_within = is.trailers_within;
-      no_trailers = is.no_trailers;
-    }
+pub still_within : (most n : ℕ) (old new more : List ℕ) → new ≡ old ++ more → n ≤ length (take most old) → n ≤ length (take most new)
+still_within most n old new more grown within =
+    omega (arith, within, ap length (window_more most old new more grown), length-append (take most old) (take (most - length old) more))
 
-pub looked_trailers : (bytes : List ℕ) (l : Looked) (trailers : ℕ) → IsLooked bytes l → trailers ≡ length (take 16384 bytes) → HasNoEnd (10 ∷ take 16384 bytes) 1
-    → IsLooked bytes (record { most = l.most; blank = l.blank; start = l.start; searched = l.searched; trailers = trailers })
-looked_trailers bytes l trailers is whole none =
-    record {
-      blank_within = is.blank_within;
-      blank = is.blank;
-      order = is.order;
-      within = is.within;
-      none = is.none;
-      trailers_within = omega (arith, whole);
-      no_trailers = λ k above to. none k above (omega (arith, to, whole));
-    }
+pub still_blank : (most n : ℕ) (old new more : List ℕ) → new ≡ old ++ more → n ≡ blank_len (take most old)
+    → (ys : List ℕ) → n + blank_len (drop n (take most new ++ ys)) ≡ blank_len (take most new ++ ys)
+still_blank most n old new more grown is ys =
+    let w = take most old in
+    let rest = take (most - length old) more in
+    let both : take most new ++ ys ≡ w ++ (rest ++ ys) = ap (λ x. x ++ ys) (window_more most old new more grown) ∙ append_assoc w rest ys in
+    subst (λ z. n + blank_len (drop n z) ≡ blank_len z) (sym both) (subst (λ k. k + blank_len (drop k (w ++ (rest ++ ys))) ≡ blank_len (w ++ (rest ++ ys))) (sym is) (blank_known w (rest ++ ys)))
 
 -- the empty lines at the front, from those that are known
-pub known_here : (bytes : List ℕ) (l : Looked) → IsLooked bytes l → l.blank + blank_len (drop l.blank (take l.most bytes)) ≡ blank_len (take l.most bytes)
-known_here bytes l is = subst (λ z. l.blank + blank_len (drop l.blank z) ≡ blank_len z) (append-nil (take l.most bytes)) (is.blank [])
+pub known_here : (front bytes : List ℕ) (n : ℕ) → front ≡ bytes → ((ys : List ℕ) → n + blank_len (drop n (bytes ++ ys)) ≡ blank_len (bytes ++ ys)) → n + blank_len (drop n front) ≡ blank_len front
+known_here front bytes n is known = subst (λ z. n + blank_len (drop n z) ≡ blank_len z) (append-nil bytes ∙ sym is) (known [])
+
+pub still_none : (most start n : ℕ) (front old new more : List ℕ) → new ≡ old ++ more → front ≡ take most old → n ≡ length front → HasNoEnd front start → HasNoEndTo (take most new) start n
+still_none most start n front old new more grown is all none =
+    let w = take most old in
+    let rest = take (most - length old) more in
+    let here : HasNoEndTo w start n = λ k above to. subst (λ z. HasNoEnd z start) is none k above (omega (arith, to, all, ap length is)) in
+    subst (λ z. HasNoEndTo z start n) (sym (window_more most old new more grown)) (none-append w rest start n (omega (arith, all, ap length is)) here)
+
+pub still_no_trailers : (n : ℕ) (front old new more : List ℕ) → new ≡ old ++ more → front ≡ take 16384 old → n ≡ length front → HasNoEnd (10 ∷ front) 1 → HasNoEndTo (10 ∷ take 16384 new) 1 (n + 1)
+still_no_trailers n front old new more grown is all none =
+    let w = take 16384 old in
+    let rest = take (16384 - length old) more in
+    let here : HasNoEndTo (10 ∷ w) 1 (n + 1) = λ k above to. subst (λ z. HasNoEnd (10 ∷ z) 1) is none k above (omega (arith, to, all, ap length is)) in
+    subst (λ z. HasNoEndTo (10 ∷ z) 1 (n + 1)) (sym (window_more 16384 old new more grown)) (none-append (10 ∷ w) rest 1 (n + 1) (omega (arith, all, ap length is)) here)

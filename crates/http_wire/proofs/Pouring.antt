@@ -1,31 +1,43 @@
 -- Bytes that went behind a body.
-use Rattle.std.proofs.Common.{◌≡◌, ℕ, ◌+◌, ◌-◌, ◌^◌, min, List, [], ◌++◌, length, take, drop, Option, Ok, refl, sym, ap, ◌∙◌, arith, append_assoc}
-use Rattle.std.specs.declared.alloc.AllocError.{AllocError}
-use Rattle.std.proofs.lemmas.List.{take-append-drop}
-use Rattle.std.specs.Io.KnownBytes.{prepend_known}
-use Rattle.http_wire.specs.Pours.{TellsPour}
-use Rattle.http_wire.specs.Streams.{Buffer, stream, IsEnd, Grows, Told}
+use Rattle.std.proofs.Common.{◌≡◌, ℕ, ◌<◌, List, [], ◌++◌, length, take, drop, Option, Result, Ok, refl, sym, ap, ◌∙◌, arith}
+use Rattle.std.proofs.lemmas.List.{append-nil, take-append-drop, length-take}
+use Rattle.http_wire.specs.Fills.{Awaits, GoesBehind, MovesSome}
+use Rattle.http_message.specs.Sessions.{place_behind}
+use Rattle.http_wire.specs.Streams.{Buffer, Draws, Drew}
+use Rattle.http_wire.specs.declared.inbox.Filled.{Filled}
 use Rattle.http_wire.specs.declared.inbox.Filled.TheVariants as filled
-use Rattle.http_wire.proofs.Streams.{ended_stream, told_front, Moves-none}
+use Rattle.http_wire.specs.declared.inbox.Halt.{Halt}
+use Rattle.http_wire.proofs.Streams.{prepend-none, draws_next}
 
--- the input ended
-pub pour_ended : (old mid : Buffer) (left left_mid : Option (List ℕ)) (body : List ℕ) → Grows old mid left left_mid → mid.0 ≡ [] → IsEnd left_mid
-    → Told (stream old left) (stream mid left_mid) (λ xs ys. TellsPour {E = AllocError} xs old.1 ys mid.1 body body (Ok filled.End))
-pour_ended old mid left left_mid body grows none end = λ xs told.
-    let here = grows.stream_is ∙ told in
-    let all : xs ≡ [] = ended_stream mid left_mid xs here end ∙ none in
-    (xs, here, record { moves = Moves-none xs old.1 mid.1 grows.place; found = (all, all, refl) })
+abbrev pub Moved : {S : Type 0} → (S → Option (List ℕ)) → ℕ → (body body_new : List ℕ) → (a b : Buffer) → (s t : S) → Result Filled Halt → Type 0
+Moved left most body body_new a b s t r =
+    Drew left (λ x. x ≡ []) a b s t (λ used. GoesBehind most body body_new used × MovesSome used b.0 (left t) r)
+
+-- nothing was used
+pub moved_nothing : {S : Type 0} (left : S → Option (List ℕ)) (most : ℕ) (body body_new : List ℕ) (a b : Buffer) (s t : S) (r : Result Filled Halt) → Awaits left (λ x. x ≡ []) a b s t → body_new ≡ body
+    → MovesSome [] b.0 (left t) r → Moved left most body body_new a b s t r
+moved_nothing left most body body_new a b s t r awaits same found = (
+  awaits.0,
+  [],
+  awaits.1,
+  (record { grown = same ∙ sym (append-nil body); fits = omega arith }, found),
+)
 
 -- the first bytes that were there
-pub pour_drained : (old mid new : Buffer) (left left_mid : Option (List ℕ)) (most : ℕ) (body body_new : List ℕ) → Grows old mid left left_mid
-    → (new.0 ≡ drop most mid.0) × (new.1 ≡ min (mid.1 + length (take most mid.0)) (2 ^ 64 - 1)) × (body_new ≡ body ++ take most mid.0)
-    → Told (stream old left) (stream new left_mid) (λ xs ys. TellsPour {E = AllocError} xs old.1 ys new.1 body body_new (Ok filled.More))
-pour_drained old mid new left left_mid most body body_new grows drained = λ xs told.
-    let f = told_front mid left_mid xs (grows.stream_is ∙ told) in
-    let more = take most mid.0 in
-    let ys = drop most mid.0 ++ f.0 in
-    let cut_up : xs ≡ more ++ ys = f.2 ∙ ap (λ x. x ++ f.0) (sym (take-append-drop most mid.0)) ∙ append_assoc more (drop most mid.0) f.0 in (
-      ys,
-      ap (λ b. prepend_known b left_mid) drained.0 ∙ ap (prepend_known (drop most mid.0)) f.1,
-      record { moves = (more, cut_up, λ small. omega (arith, drained.1, grows.place)); found = (more, cut_up, drained.2) },
+pub moved_drained : {S : Type 0} (left : S → Option (List ℕ)) (most : ℕ) (body body_new : List ℕ) (a b c : Buffer) (s t : S) → Awaits left (λ x. x ≡ []) a b s t → 0 < length b.0 → 0 < most
+    → (c.0 ≡ drop most b.0) × (c.1 ≡ place_behind b.1 (take most b.0)) × (body_new ≡ body ++ take most b.0) → Moved left most body body_new a c s t (Ok filled.More)
+moved_drained left most body body_new a b c s t awaits some room drained =
+    let used = take most b.0 in
+    let sized = length-take most b.0 in
+    let here : Draws left (λ x. x ≡ []) b c t t [] used = record {
+      came = sym (prepend-none (left t));
+      spelled = append-nil b.0 ∙ sym (take-append-drop most b.0) ∙ ap (λ x. used ++ x) (sym drained.0);
+      place = λ small. drained.1;
+      each = tt;
+      spared = λ none. refl;
+    } in (
+      awaits.0 ++ [],
+      used,
+      draws_next left (λ x. x ≡ []) (λ x. x ≡ []) a b c s t t awaits.0 [] used awaits.1 (λ y same. same) here,
+      (record { grown = drained.2; fits = omega (arith, sized) }, omega (arith, sized, some, room)),
     )

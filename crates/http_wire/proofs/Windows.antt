@@ -6,7 +6,7 @@ use Rattle.http_message.specs.Ends.{HasNoEnd}
 pub window_short : (most : ℕ) (front old : List ℕ) → front ≡ take most old → length front ≢ most → length old < most
 window_short most front old is short = omega (arith, ap length is, length-take most old, short)
 
-window_whole : (most : ℕ) (front old : List ℕ) → front ≡ take most old → length front ≢ most → front ≡ old
+pub window_whole : (most : ℕ) (front old : List ℕ) → front ≡ take most old → length front ≢ most → front ≡ old
 window_whole most front old is short = is ∙ take_all most old (omega (arith, window_short most front old is short))
 
 pub none_ended : (most start : ℕ) (front old new : List ℕ) → front ≡ take most old → length front ≢ most → new ≡ old → HasNoEnd front start

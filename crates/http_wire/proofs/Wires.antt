@@ -1,87 +1,185 @@
--- Messages, from heads and bodies.
-use Rattle.std.proofs.Common.{◌≡◌, ℕ, List, [], Option, Some, None, Result, Ok, Err, refl, sym, ◌∙◌, subst}
-use Rattle.std.specs.declared.alloc.AllocError.{AllocError}
-use Rattle.http_message.specs.Bodies.{BodyReading, refused, ReadsBody}
-use Rattle.http_message.specs.Framing.{request_form}
-use Rattle.http_message.specs.HeadReadings.{headed, ReadsHead}
+-- A head and a body, as a message.
+use Rattle.std.proofs.Common.{Vec, ◌≡◌, ℕ, ◌≤◌, inl, inr, true, false, List, [], ◌∷◌, ◌++◌, length, Option, Some, Result, Ok, Err, refl, sym, ap, ◌∙◌, subst, append_assoc}
+use Rattle.std.proofs.lemmas.List.{append-nil}
+use Rattle.std.specs.declared.alloc.Global.{Global}
+use Rattle.std.specs.Io.KnownBytes.{prepend_known}
+use Rattle.http_message.specs.Bodies.{BodyReading, whole, unended, refused, ReadsBody}
+use Rattle.http_message.specs.Framing.{closes, request_form}
+use Rattle.http_message.specs.HeadReadings.{headed, nothing, cut, faulty, ReadsHead}
 use Rattle.http_message.specs.Heads.{IsHeadText}
-use Rattle.http_message.specs.Messages.{Reading, ReadsBehindHead, ReadsMessage}
+use Rattle.http_message.specs.Messages.{Reading, request, ended, truncated, bad, with_head, ReadsMessage}
+use Rattle.http_message.specs.ResponseMessages.{ReadsResponseBody}
 use Rattle.http_message.specs.declared.framing.Form.{Form}
 use Rattle.http_message.specs.declared.head.Head.{Head}
-use Rattle.http_wire.specs.Heads.{TellsHeadRead}
-use Rattle.http_wire.specs.Rests.{GoesOn, first_expected}
-use Rattle.http_wire.specs.Streams.{Buffer, stream, Told}
-use Rattle.http_wire.specs.Wires.{place_of, ReadsFrom, Answers, IsBegunAfter, IsWithoutAnswer, TellsMessage, TellsRequest}
-use Rattle.http_wire.specs.declared.begun.BegunBody.{BegunBody}
-use Rattle.http_wire.specs.declared.begun.BegunRequest.{BegunRequest}
+use Rattle.http_message.specs.declared.refusal.Flaw.{Flaw}
+use Rattle.http_message.proofs.Limits.{request_within}
+use Rattle.http_message.proofs.Unique.{reading_unique}
+use Rattle.http_wire.specs.Bodies.{BodyFound, IsBodyShort}
+use Rattle.http_wire.specs.Heads.{HeadFound, IsHeadShort, IsCounted}
+use Rattle.http_wire.specs.Messages.{ReadsBehind, IsShortBehind, IsBehindHead, IsNoFault}
+use Rattle.http_wire.specs.Streams.{Buffer, stream, Told, EachShort, Draws, Drew}
+use Rattle.http_wire.specs.Wires.{Answers, TellsMessage, IsAnswer, IsShort, is_settled, is_fault, OnRequest, HoldsAnswer}
+use Rattle.http_wire.specs.declared.body.BodyRead.{BodyRead}
+use Rattle.http_wire.specs.declared.body.BodyRead.TheVariants as body
+use Rattle.http_wire.specs.declared.head.HeadRead.{HeadRead}
 use Rattle.http_wire.specs.declared.head.HeadRead.TheVariants as read
+use Rattle.http_wire.specs.declared.inbox.Halt.{Halt}
 use Rattle.http_wire.specs.declared.wire.Message.{Message}
 use Rattle.http_wire.specs.declared.wire.Message.TheVariants as message
-use Rattle.http_wire.proofs.Rests.{begins}
-use Rattle.http_wire.proofs.Streams.{Moves-none, Moves-trans, told_map}
+use Rattle.http_wire.proofs.Streams.{draws_none, draws_then, draws_weaken, told_draws, all_end}
 
--- an answer to what is left is one to what was there
-pub answers_from : (Was Is Left : Reading → Type 0) (at place : ℕ) (ys : List ℕ) (r : Result Message AllocError) → GoesOn Was Is → at ≡ place → Answers Is Left at ys r → Answers Was Left place ys r
-answers_from Was Is Left at place ys (Ok (message.Request h b c)) goes is a = goes _ a
-answers_from Was Is Left at place ys (Ok message.End) goes is a = goes _ a
-answers_from Was Is Left at place ys (Ok (message.Truncated n)) goes is a = (a.0 ∙ is, goes _ a.1)
-answers_from Was Is Left at place ys (Ok (message.Bad n code)) goes is a = (a.0 ∙ is, goes _ a.1)
-answers_from Was Is Left at place ys (Ok message.ReadFault) goes is a = λ reading reads. goes reading (a reading reads)
-answers_from Was Is Left at place ys (Err e) goes is a = λ reading reads. goes reading (a reading reads)
+-- ---- behind the head
 
--- ---- heads
+form_reads : (f : Form) (head : Head) (y : List ℕ) (b : BodyReading) → request_form 16777216 head ≡ Ok f → ReadsResponseBody 16777216 (Ok (Some f)) y b → ReadsBehind head y (with_head head b)
+form_reads f head y b is reads = (b, subst (λ r. ReadsBody 16777216 r y b) (sym is) reads, refl)
 
-pub request_message : (old mid new : Buffer) (left left_mid left_new : Option (List ℕ)) (head : Head) (at : ℕ) (begun : Option BegunRequest) (r : Result Message AllocError) → at ≡ old.1
-    → Told (stream old left) (stream mid left_mid) (λ xs ys. TellsHeadRead {H = Head} {E = AllocError} (ReadsHead IsHeadText 16384 xs) xs old.1 ys mid.1 (Ok (read.Whole head)))
-    → Told (stream mid left_mid) (stream new left_new) (λ xs ys. TellsRequest head at begun xs mid.1 ys new.1 r)
-    → Told (stream old left) (stream new left_new) (λ xs ys. TellsMessage None begun xs old.1 ys new.1 r)
-request_message old mid new left left_mid left_new head at begun r is first second = λ xs told.
-    let h = first xs told in
-    let b = second h.0 h.1 in (
-      b.0,
-      b.1,
-      record {
-        moves = Moves-trans xs h.0 b.0 old.1 mid.1 new.1 h.2.moves b.2.moves;
-        answers = answers_from (ReadsMessage xs) (ReadsBehindHead 16777216 (headed head h.0)) (ReadsFrom begun b.0) at old.1 b.0 r (λ reading reads. (headed head h.0, h.2.found, reads)) is b.2.answers;
-      },
-    )
+flaw_reads : (head : Head) (y : List ℕ) (flaw : Flaw) → request_form 16777216 head ≡ Err flaw → ReadsBehind head y (bad flaw)
+flaw_reads head y flaw is = (refused flaw, subst (λ r. ReadsBody 16777216 r y (refused flaw)) (sym is) refl, refl)
 
--- ---- by the form of the body
+abbrev pub Behind : {S : Type 0} → (S → Option (List ℕ)) → Head → ℕ → (a b : Buffer) → (s t : S) → Result Message Halt → Type 0
+Behind left head at a b s t r = Drew left (IsShortBehind head) a b s t (λ used. IsBehindHead head at used b.0 (left t) r)
 
-formed : (most : ℕ) (head : Head) (r : Result Form ℕ) (xs : List ℕ) (reading : BodyReading) → request_form most head ≡ r → ReadsBody most r xs reading → ReadsBody most (request_form most head) xs reading
-formed most head r xs reading is reads = subst (λ f. ReadsBody most f xs reading) (sym is) reads
+pub unformed : {S : Type 0} (left : S → Option (List ℕ)) (head : Head) (at : ℕ) (a : Buffer) (s : S) (flaw : Flaw) → request_form 16777216 head ≡ Err flaw → Behind left head at a a s s (Ok (message.Bad at flaw))
+unformed left head at a s flaw is = ([], [], draws_none left (IsShortBehind head) a a s s refl refl, (refl, λ ys. flaw_reads head (a.0 ++ ys) flaw is))
 
-pub unformed_request : (here : Buffer) (left : Option (List ℕ)) (head : Head) (at code : ℕ) (begun : Option BegunRequest) → request_form 16777216 head ≡ Err code
-    → Told (stream here left) (stream here left) (λ xs ys. TellsRequest head at begun xs here.1 ys here.1 (Ok (message.Bad at code)))
-unformed_request here left head at code begun is = λ xs told. (
-  xs,
-  told,
-  record { moves = Moves-none xs here.1 here.1 refl; answers = (refl, (refused code, formed 16777216 head (Err code) xs (refused code) is refl, refl)) },
+-- the message, by the answer to its body
+abbrev pub message_of : Head → ℕ → Vec ℕ Global → Result BodyRead Halt → Result Message Halt
+message_of head at content (Ok body.Whole) = Ok (message.Request at head content (closes head.minor head.fields))
+message_of head at content (Ok body.Ended) = Ok (message.Truncated at)
+message_of head at content (Ok (body.Refused flaw)) = Ok (message.Bad at flaw)
+message_of head at content (Err e) = Err e
+
+body_told : (f : Form) (head : Head) (at : ℕ) (content : Vec ℕ Global) (used rest : List ℕ) (left : Option (List ℕ)) (r : Result BodyRead Halt) → request_form 16777216 head ≡ Ok f → BodyFound 16777216 (Some f) content.items used rest left r
+    → IsBehindHead head at used rest left (message_of head at content r)
+body_told f head at content used rest left (Ok body.Whole) is found = (refl, λ ys. form_reads f head (used ++ ys) (whole content.items ys) is (found ys))
+body_told f head at content used rest left (Ok body.Ended) is found = (refl, found.0, form_reads f head (used ++ rest) unended is found.1)
+body_told f head at content used rest left (Ok (body.Refused flaw)) is found = (refl, λ ys. form_reads f head (used ++ (rest ++ ys)) (refused flaw) is (found ys))
+body_told f head at content used rest left (Err e) is found = tt
+
+pub formed : {S : Type 0} (left : S → Option (List ℕ)) (f : Form) (head : Head) (at : ℕ) (content : Vec ℕ Global) (a b : Buffer) (s t : S) (r : Result BodyRead Halt) → request_form 16777216 head ≡ Ok f
+    → Drew left (IsBodyShort 16777216 (Some f)) a b s t (λ used. BodyFound 16777216 (Some f) content.items used b.0 (left t) r) → Behind left head at a b s t (message_of head at content r)
+formed left f head at content a b s t r is read = (
+  read.0,
+  read.1,
+  draws_weaken left (IsShortBehind head) (IsBodyShort 16777216 (Some f)) a b s t read.0 read.1 (λ y short. form_reads f head y unended is short) read.2,
+  body_told f head at content read.1 b.0 (left t) r is read.3,
 )
 
-pub formed_request : (here new : Buffer) (left left_new : Option (List ℕ)) (head : Head) (at : ℕ) (form : Form) (body : BegunBody) (begun : Option BegunRequest) (r : Result Message AllocError) → request_form 16777216 head ≡ Ok form
-    → body.content.items ≡ [] → body.expected ≡ first_expected (Some form)
-    → Told (stream here left) (stream new left_new) (λ xs ys. TellsMessage (Some (record { at = at; head = head; body = body })) begun xs here.1 ys new.1 r)
-    → Told (stream here left) (stream new left_new) (λ xs ys. TellsRequest head at begun xs here.1 ys new.1 r)
-formed_request here new left left_new head at form body begun r is none first told =
-    told_map told (λ xs ys m. record {
-      moves = m.moves;
-      answers = answers_from (ReadsBehindHead 16777216 (headed head xs)) (ReadsFrom (Some (record { at = at; head = head; body = body })) xs) (ReadsFrom begun ys) at at ys r
-          (λ reading reads. (reads.0, formed 16777216 head (Ok form) xs reads.0 is (begins 16777216 (Some form) body xs reads.0 none first reads.1), reads.2)) refl m.answers;
-    })
+-- ---- the message
 
--- ---- two calls
+abbrev pub Read : {S : Type 0} → (S → Option (List ℕ)) → (a b : Buffer) → (s t : S) → Result Message Halt → Type 0
+Read left a b s t r = Drew left IsShort a b s t (λ used. IsAnswer a.1 used b.0 (left t) r)
 
-pub message_reads_on : (old mid new : Option BegunRequest) (xs ys zs : List ℕ) (p q s : ℕ) (first second : Result Message AllocError) → TellsMessage old mid xs p ys q first → IsBegunAfter (place_of old p) mid q first
-    → IsWithoutAnswer first → TellsMessage mid new ys q zs s second → TellsMessage old new xs p zs s second
-message_reads_on old mid new xs ys zs p q s first second one after none two =
-    let both = goes first one.answers after none in
-    record { moves = Moves-trans xs ys zs p q s one.moves two.moves; answers = answers_from (ReadsFrom old xs) (ReadsFrom mid ys) (ReadsFrom new zs) (place_of mid q) (place_of old p) zs second both.0 both.1 two.answers }
+abbrev pub HeadTold : {S : Type 0} → (S → Option (List ℕ)) → (a b : Buffer) → (s t : S) → Result (HeadRead Head) Halt → Type 0
+HeadTold left a b s t r = Drew left (IsHeadShort (ReadsHead IsHeadText 16384)) a b s t (λ used. HeadFound (ReadsHead IsHeadText 16384) used b.0 (left t) r × IsCounted 16384 used r)
+
+short_message : (y : List ℕ) → IsHeadShort (ReadsHead IsHeadText 16384) y → IsShort y
+short_message y (inl none) = inl (nothing, none, refl)
+short_message y (inr open_head) = inr (cut, open_head, refl)
+
+-- a head that isn't whole
+abbrev pub without_body : ℕ → Result (HeadRead Head) Halt → Result Message Halt
+without_body at (Ok (read.Whole head len)) = Ok message.ReadFault
+without_body at (Ok read.Nothing) = Ok message.End
+without_body at (Ok read.Cut) = Ok (message.Truncated at)
+without_body at (Ok (read.Refused flaw)) = Ok (message.Bad at flaw)
+without_body at (Err e) = Err e
+
+headless_answer : (at place : ℕ) (used rest : List ℕ) (left : Option (List ℕ)) (r : Result (HeadRead Head) Halt) → at ≡ place → HeadFound (ReadsHead IsHeadText 16384) used rest left r → IsAnswer place used rest left (without_body at r)
+headless_answer at place used rest left (Ok (read.Whole head len)) here found = tt
+headless_answer at place used rest left (Ok read.Nothing) here found = (found.0, (nothing, found.1, refl))
+headless_answer at place used rest left (Ok read.Cut) here found = (here, found.0, (cut, found.1, refl))
+headless_answer at place used rest left (Ok (read.Refused flaw)) here found = (here, λ ys. (faulty flaw, found ys, refl))
+headless_answer at place used rest left (Err e) here found = tt
+
+pub headless_read : {S : Type 0} (left : S → Option (List ℕ)) (at : ℕ) (a b : Buffer) (s t : S) (r : Result (HeadRead Head) Halt) → at ≡ a.1 → HeadTold left a b s t r → Read left a b s t (without_body at r)
+headless_read left at a b s t r here told =
+    (told.0, told.1, draws_weaken left IsShort (IsHeadShort (ReadsHead IsHeadText 16384)) a b s t told.0 told.1 short_message told.2, headless_answer at a.1 told.1 b.0 (left t) r here told.3.0)
+
+behind_answer : (head : Head) (at place : ℕ) (u w rest : List ℕ) (left : Option (List ℕ)) (r : Result Message Halt) → at ≡ place → ((ys : List ℕ) → ReadsHead IsHeadText 16384 (u ++ ys) (headed head ys)) → IsBehindHead head at w rest left r
+    → IsAnswer place (u ++ w) rest left r
+behind_answer head at place u w rest left (Ok (message.Request n h content closing)) here found told =
+    (told.0 ∙ here, λ ys. subst (λ s. ReadsMessage s (request h content.items closing ys)) (sym (append_assoc u w ys)) (headed head (w ++ ys), found (w ++ ys), told.1 ys))
+behind_answer head at place u w rest left (Ok message.End) here found told = absurd told
+behind_answer head at place u w rest left (Ok (message.Truncated n)) here found told =
+    (told.0 ∙ here, told.1, subst (λ s. ReadsMessage s truncated) (sym (append_assoc u w rest)) (headed head (w ++ rest), found (w ++ rest), told.2))
+behind_answer head at place u w rest left (Ok (message.Bad n flaw)) here found told =
+    (told.0 ∙ here, λ ys. subst (λ s. ReadsMessage s (bad flaw)) (sym (append_assoc u w (rest ++ ys))) (headed head (w ++ (rest ++ ys)), found (w ++ (rest ++ ys)), told.1 ys))
+behind_answer head at place u w rest left (Ok message.ReadFault) here found told = absurd told
+behind_answer head at place u w rest left (Err e) here found told = tt
+
+pub headed_read : {S : Type 0} (left : S → Option (List ℕ)) (head : Head) (len at : ℕ) (a b c : Buffer) (s t v : S) (r : Result Message Halt) → at ≡ a.1 → HeadTold left a b s t (Ok (read.Whole head len)) → Behind left head at b c t v r
+    → Read left a c s v r
+headed_read left head len at a b c s t v r here told behind =
+    let u = told.1 in (
+      told.0 ++ behind.0,
+      u ++ behind.1,
+      draws_then left IsShort (IsShortBehind head) a b c s t v told.0 behind.0 u behind.1
+          (draws_weaken left IsShort (IsHeadShort (ReadsHead IsHeadText 16384)) a b s t told.0 u short_message told.2) (λ y short. inr (headed head y, told.3.0 y, short)) behind.2,
+      behind_answer head at a.1 u behind.1 c.0 (left v) r here told.3.0 behind.3,
+    )
+
+-- ---- what a caller sees
+
+pub no_fault : (E : Type 0) {X : Type 0} (m : Message) → IsNoFault {E = E} (Ok m) → is_fault {E = E} (Ok m) ≡ true → X
+no_fault E message.ReadFault sound fault = absurd sound
+no_fault E (message.Request n h content closing) sound fault = absurd cc
+no_fault E message.End sound fault = absurd cc
+no_fault E (message.Truncated n) sound fault = absurd cc
+no_fault E (message.Bad n flaw) sound fault = absurd cc
+
+-- by whichever error
+pub same_answer : (E F : Type 0) (place : ℕ) (used rest : List ℕ) (left : Option (List ℕ)) (m : Message) → IsAnswer {E = E} place used rest left (Ok m) → IsAnswer {E = F} place used rest left (Ok m)
+same_answer E F place used rest left (message.Request n h content closing) is = is
+same_answer E F place used rest left message.End is = is
+same_answer E F place used rest left (message.Truncated n) is = is
+same_answer E F place used rest left (message.Bad n flaw) is = is
+same_answer E F place used rest left message.ReadFault is = is
+
+told_answer : {E : Type 0} (place : ℕ) (used rest zs : List ℕ) (left : Option (List ℕ)) (r : Result Message E) → left ≡ Some zs → IsAnswer place used rest left r → Answers (ReadsMessage (used ++ (rest ++ zs))) place (rest ++ zs) r
+told_answer place used rest zs left (Ok (message.Request n h content closing)) is answer = (answer.0, answer.1 (rest ++ zs))
+told_answer place used rest zs left (Ok message.End) is answer =
+    subst (λ x. ReadsMessage (used ++ x) ended) (sym (append-nil rest) ∙ ap (λ x. rest ++ x) (sym (all_end left zs is answer.0))) answer.1
+told_answer place used rest zs left (Ok (message.Truncated n)) is answer =
+    (answer.0, subst (λ x. ReadsMessage (used ++ x) truncated) (sym (append-nil rest) ∙ ap (λ x. rest ++ x) (sym (all_end left zs is answer.1))) answer.2)
+told_answer place used rest zs left (Ok (message.Bad n flaw)) is answer = (answer.0, answer.1 zs)
+told_answer place used rest zs left (Ok message.ReadFault) is answer = tt
+told_answer place used rest zs left (Err e) is answer = tt
+
+pub told_read : {S E : Type 0} (left : S → Option (List ℕ)) (a b : Buffer) (s t : S) (r : Result Message E) → Drew left IsShort a b s t (λ used. IsAnswer a.1 used b.0 (left t) r)
+    → Told (stream a (left s)) (stream b (left t)) (λ xs ys. TellsMessage xs a.1 ys b.1 r)
+told_read left a b s t r read = λ xs told.
+    let f = told_draws left IsShort a b s t read.0 read.1 read.2 xs told in
+    let answers = told_answer a.1 read.1 b.0 f.0 (left t) r f.1 read.3 in (
+      b.0 ++ f.0,
+      ap (prepend_known b.0) f.1,
+      record { moves = f.3; answers = subst (λ x. Answers (ReadsMessage x) a.1 (b.0 ++ f.0) r) (sym f.2) answers },
+    )
+
+not_short : (bytes : List ℕ) (reading : Reading) → ReadsMessage bytes reading → is_settled reading ≡ true → IsShort bytes → ⊥
+not_short bytes reading reads settled (inl end) = clash (ap is_settled (reading_unique 16777216 bytes ended reading end reads) ∙ settled)
   where
-    goes : (r : Result Message AllocError) → Answers (ReadsFrom old xs) (ReadsFrom mid ys) (place_of old p) ys r → IsBegunAfter (place_of old p) mid q r → IsWithoutAnswer r → GoesOn (ReadsFrom old xs) (ReadsFrom mid ys) × (place_of mid q ≡ place_of old p)
-    goes (Ok message.ReadFault) a at none = (a, at)
-    goes (Err e) a at none = (a, at)
-    goes (Ok (message.Request h b c)) a at none = absurd none
-    goes (Ok message.End) a at none = absurd none
-    goes (Ok (message.Truncated n)) a at none = absurd none
-    goes (Ok (message.Bad n code)) a at none = absurd none
+    clash : false ≡ true → ⊥
+    clash e = cc
+not_short bytes reading reads settled (inr short) = clash (ap is_settled (reading_unique 16777216 bytes truncated reading short reads) ∙ settled)
+  where
+    clash : false ≡ true → ⊥
+    clash e = cc
+
+no_reads : (pieces : List (List ℕ)) (bytes : List ℕ) → HoldsAnswer bytes → EachShort IsShort bytes pieces → pieces ≡ []
+no_reads [] bytes holds each = refl
+no_reads (piece ∷ pieces) bytes holds each = absurd (not_short bytes holds.0 holds.1 holds.2 each.0)
+
+pub spared_read : {S : Type 0} (left : S → Option (List ℕ)) (a b : Buffer) (s t : S) (pieces : List (List ℕ)) (used : List ℕ) → Draws left IsShort a b s t pieces used → HoldsAnswer a.0 → t ≡ s
+spared_read left a b s t pieces used draws holds = draws.spared (no_reads pieces a.0 holds draws.each)
+
+pub within : {S E : Type 0} (left : S → Option (List ℕ)) (a b : Buffer) (s t : S) (r : Result Message E) → Drew left IsShort a b s t (λ used. IsAnswer a.1 used b.0 (left t) r) → OnRequest r (λ content. length content ≤ 16777216)
+within left a b s t r read = by_answer r read.3
+  where
+    by_answer : {E : Type 0} (r : Result Message E) → IsAnswer a.1 read.1 b.0 (left t) r → OnRequest r (λ content. length content ≤ 16777216)
+    by_answer (Ok (message.Request n h content closing)) is = request_within (read.1 ++ []) h content.items closing [] (is.1 [])
+    by_answer (Ok message.End) is = tt
+    by_answer (Ok (message.Truncated n)) is = tt
+    by_answer (Ok (message.Bad n flaw)) is = tt
+    by_answer (Ok message.ReadFault) is = tt
+    by_answer (Err e) is = tt

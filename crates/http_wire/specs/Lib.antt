@@ -1,10 +1,9 @@
 pub mod Streams
+pub mod Fills
 pub mod Parts
-pub mod Looks
-pub mod Pours
-pub mod Rests
 pub mod Heads
 pub mod Bodies
+pub mod Messages
 pub mod Wires
 pub mod Replies
-pub mod Connections
+pub mod ReplyParts

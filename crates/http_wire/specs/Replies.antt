@@ -1,80 +1,106 @@
 -- What the next response of a connection is.
-use Rattle.std.specs.Prelude.{◌≡◌, ℕ, List, Option, Some, None, Result, Ok, Err, ⊤}
-use Rattle.std.specs.declared.alloc.AllocError.{AllocError}
-use Rattle.edge_core.specs.Faults.{Rose}
-use Rattle.http_message.specs.Bodies.{BodyReading}
-use Rattle.http_message.specs.HeadReadings.{HeadReading, headed}
-use Rattle.http_message.specs.ResponseMessages.{ReadsFinalHead, ReadsBehindResponse, ResponseReading, with_response, response, truncated, bad, ReadsResponseMessage}
+use Rattle.std.specs.Prelude.{◌≡◌, ℕ, ◌≤◌, ◌⊎◌, Bool, true, false, List, [], ◌++◌, length, Option, None, Result, Ok, Err, ⊤}
+use Rattle.http_message.specs.HeadReadings.{HeadReading, headed, nothing, cut, faulty}
+use Rattle.http_message.specs.ResponseMessages.{ReadsFinalHead, ResponseReading, response, truncated, bad, ReadsResponseMessage}
+use Rattle.http_message.specs.Responses.{response_form}
+use Rattle.http_message.specs.declared.refusal.Flaw.{Flaw}
 use Rattle.http_message.specs.declared.response.ResponseHead.{ResponseHead}
-use Rattle.http_wire.specs.Rests.{GoesOn, ReadsRest}
-use Rattle.http_wire.specs.Streams.{Moves}
-use Rattle.http_wire.specs.declared.begun.BegunResponse.{BegunResponse}
-use Rattle.http_wire.specs.declared.begun.BegunResponse.TheVariants as begun
-use Rattle.http_wire.specs.declared.reply.Reply.{Reply}
-use Rattle.http_wire.specs.declared.reply.Reply.TheVariants as reply
+use Rattle.http_wire.specs.Streams.{IsEnd, Moves}
+use Rattle.http_wire.specs.declared.responses.FinalHead.{FinalHead}
+use Rattle.http_wire.specs.declared.responses.FinalHead.TheVariants as final
+use Rattle.http_wire.specs.declared.responses.Reply.{Reply}
+use Rattle.http_wire.specs.declared.responses.Reply.TheVariants as reply
 
--- a fault of reading comes only where the count rose
-abbrev pub RoseAtReplyFault : ℕ → ℕ → Result Reply AllocError → Type 0
-RoseAtReplyFault n m (Ok reply.ReadFault) = Rose n m
-RoseAtReplyFault n m (Ok (reply.Response status fields body)) = ⊤
-RoseAtReplyFault n m (Ok (reply.Bad at)) = ⊤
-RoseAtReplyFault n m (Ok (reply.Truncated at)) = ⊤
-RoseAtReplyFault n m (Err e) = ⊤
+abbrev pub is_fault : {E : Type 0} → Result Reply E → Bool
+is_fault (Ok reply.ReadFault) = true
+is_fault (Ok (reply.Response at status fields body)) = false
+is_fault (Ok (reply.Truncated at)) = false
+is_fault (Ok (reply.Bad at)) = false
+is_fault (Err e) = false
 
--- heads of at most so many bytes, and a body of at most 256 MiB
-abbrev pub ReadsHeads : ℕ → List ℕ → ResponseReading → Type 0
-ReadsHeads room stream reading = (head : HeadReading ResponseHead) × ReadsFinalHead room stream head × ReadsBehindResponse 268435456 head reading
+abbrev pub is_response : {E : Type 0} → Result Reply E → Bool
+is_response (Ok (reply.Response at status fields body)) = true
+is_response (Ok (reply.Truncated at)) = false
+is_response (Ok (reply.Bad at)) = false
+is_response (Ok reply.ReadFault) = false
+is_response (Err e) = false
 
--- what the stream is read as: a response, or what is left of the one that was begun before
-abbrev pub ReadsResponseFrom : Option BegunResponse → List ℕ → ResponseReading → Type 0
-ReadsResponseFrom None stream reading = ReadsResponseMessage stream reading
-ReadsResponseFrom (Some (begun.Heads at room)) stream reading = ReadsHeads room stream reading
-ReadsResponseFrom (Some (begun.Body at head body)) stream reading =
-    (b : BodyReading) × ReadsRest 268435456 body stream b × (reading ≡ with_response head b)
+-- P holds of the body of a response
+abbrev pub OnResponse : {E : Type 0} → Result Reply E → (List ℕ → Type 0) → Type 0
+OnResponse (Ok (reply.Response at status fields body)) P = P body.items
+OnResponse (Ok (reply.Truncated at)) P = ⊤
+OnResponse (Ok (reply.Bad at)) P = ⊤
+OnResponse (Ok reply.ReadFault) P = ⊤
+OnResponse (Err e) P = ⊤
 
--- the place of the response's first byte, where the bytes that were not used begin at place p
-abbrev pub response_place : Option BegunResponse → ℕ → ℕ
-response_place None p = p
-response_place (Some (begun.Heads at room)) p = at
-response_place (Some (begun.Body at head body)) p = at
+-- ---- where the stream is told
 
--- The answer at that place is a reading that holds, with what stands behind it; after a fault and want of memory Left holds of
--- readings that do.
-abbrev pub Replies : (Reads Left : ResponseReading → Type 0) → ℕ → List ℕ → Result Reply AllocError → Type 0
-Replies Reads Left place ys (Ok (reply.Response status fields body)) = Reads (response status fields body.items ys)
-Replies Reads Left place ys (Ok (reply.Truncated at)) = (at ≡ place) × Reads truncated
-Replies Reads Left place ys (Ok (reply.Bad at)) = (at ≡ place) × Reads bad
-Replies Reads Left place ys (Ok reply.ReadFault) = GoesOn Reads Left
-Replies Reads Left place ys (Err e) = GoesOn Reads Left
+-- The answer at that place is a reading that holds, with what stands behind it.
+abbrev pub Replies : {E : Type 0} → (Reads : ResponseReading → Type 0) → ℕ → List ℕ → Result Reply E → Type 0
+Replies Reads place ys (Ok (reply.Response at status fields body)) = (at ≡ place) × Reads (response status fields body.items ys)
+Replies Reads place ys (Ok (reply.Truncated at)) = (at ≡ place) × Reads truncated
+Replies Reads place ys (Ok (reply.Bad at)) = (at ≡ place) × Reads bad
+Replies Reads place ys (Ok reply.ReadFault) = ⊤
+Replies Reads place ys (Err e) = ⊤
 
--- Of the stream xs from place p, with what was begun before: the answer is its reading as a response, and ys stands behind what was
--- used, at place q. After a fault and want of memory no reading is lost: what ys is read as, with what is begun now, xs was read as.
-pub record TellsReply (old new : Option BegunResponse) (xs : List ℕ) (p : ℕ) (ys : List ℕ) (q : ℕ) (r : Result Reply AllocError) : Type 0 where
+-- Of the stream xs from place p, where the request was HEAD or not: the answer is its reading as a response, and ys stands behind what
+-- was used, at place q.
+pub record TellsReply {E : Type 0} (to_head : Bool) (xs : List ℕ) (p : ℕ) (ys : List ℕ) (q : ℕ) (r : Result Reply E) : Type 0 where
   pub moves : Moves xs p ys q
-  pub replies : Replies (ReadsResponseFrom old xs) (ReadsResponseFrom new ys) (response_place old p) ys r
+  pub replies : Replies (ReadsResponseMessage to_head xs) p ys r
 
--- after a fault and want of memory the response's place is that place still; after each other answer nothing is begun
-abbrev pub IsReplyAfter : (place : ℕ) (new : Option BegunResponse) (q : ℕ) → Result Reply AllocError → Type 0
-IsReplyAfter place new q (Ok reply.ReadFault) = response_place new q ≡ place
-IsReplyAfter place new q (Err e) = response_place new q ≡ place
-IsReplyAfter place new q (Ok (reply.Response status fields body)) = new ≡ None
-IsReplyAfter place new q (Ok (reply.Truncated at)) = new ≡ None
-IsReplyAfter place new q (Ok (reply.Bad at)) = new ≡ None
+-- ---- of every source
 
--- a fault, or want of memory
-abbrev pub IsWithoutReply : Result Reply AllocError → Type 0
-IsWithoutReply (Ok reply.ReadFault) = ⊤
-IsWithoutReply (Err e) = ⊤
-IsWithoutReply (Ok (reply.Response status fields body)) = ⊥
-IsWithoutReply (Ok (reply.Truncated at)) = ⊥
-IsWithoutReply (Ok (reply.Bad at)) = ⊥
+-- Of a stream that begins with the used bytes and the rest: the answer at that place is its reading as a response. A response and a
+-- refusal are told whatever follows, an end where nothing does, and so is a response whose body goes on to the end of the stream.
+abbrev pub IsReply : {E : Type 0} → Bool → ℕ → (used rest : List ℕ) → Option (List ℕ) → Result Reply E → Type 0
+IsReply to_head place used rest left (Ok (reply.Response at status fields body)) =
+    (at ≡ place)
+    × (((ys : List ℕ) → ReadsResponseMessage to_head (used ++ ys) (response status fields body.items ys))
+    ⊎ (IsEnd left × (rest ≡ []) × ReadsResponseMessage to_head (used ++ rest) (response status fields body.items [])))
+IsReply to_head place used rest left (Ok (reply.Truncated at)) = (at ≡ place) × IsEnd left × ReadsResponseMessage to_head (used ++ rest) truncated
+IsReply to_head place used rest left (Ok (reply.Bad at)) = (at ≡ place) × ((ys : List ℕ) → ReadsResponseMessage to_head (used ++ (rest ++ ys)) bad)
+IsReply to_head place used rest left (Ok reply.ReadFault) = ⊤
+IsReply to_head place used rest left (Err e) = ⊤
 
--- the same behind the last head of the response that began at that place
-pub record TellsResponse (head : ResponseHead) (place : ℕ) (new : Option BegunResponse) (xs : List ℕ) (p : ℕ) (ys : List ℕ) (q : ℕ) (r : Result Reply AllocError) : Type 0 where
+-- the body goes on to the end of the stream, and these bytes of it may all belong to it
+abbrev pub GoesToEnd : Bool → List ℕ → Type 0
+GoesToEnd to_head bytes =
+    (head : ResponseHead) × (rest : List ℕ) × ReadsFinalHead 16384 bytes (headed head rest)
+    × (response_form 268435456 to_head head ≡ Ok None) × (length rest ≤ 268435456)
+
+-- No response and no refusal is there yet: a stream of these bytes alone ends before the response or inside it, or it is one whose body
+-- goes on to the end.
+abbrev pub IsReplyShort : Bool → List ℕ → Type 0
+IsReplyShort to_head bytes = ReadsResponseMessage to_head bytes truncated ⊎ GoesToEnd to_head bytes
+
+-- ---- a head alone
+
+abbrev pub is_head_fault : {E : Type 0} → Result FinalHead E → Bool
+is_head_fault (Ok final.ReadFault) = true
+is_head_fault (Ok (final.Head at head)) = false
+is_head_fault (Ok (final.Truncated at)) = false
+is_head_fault (Ok (final.Bad at)) = false
+is_head_fault (Err e) = false
+
+abbrev pub TellsHeadAt : {E : Type 0} → (Reads : HeadReading ResponseHead → Type 0) → ℕ → List ℕ → Result FinalHead E → Type 0
+TellsHeadAt Reads place ys (Ok (final.Head at head)) = (at ≡ place) × Reads (headed head ys)
+TellsHeadAt Reads place ys (Ok (final.Truncated at)) = (at ≡ place) × (Reads nothing ⊎ Reads cut)
+TellsHeadAt Reads place ys (Ok (final.Bad at)) = (at ≡ place) × (flaw : Flaw) × Reads (faulty flaw)
+TellsHeadAt Reads place ys (Ok final.ReadFault) = ⊤
+TellsHeadAt Reads place ys (Err e) = ⊤
+
+-- the same of the last head of a response, which is left unread behind it
+pub record TellsFinalHead {E : Type 0} (xs : List ℕ) (p : ℕ) (ys : List ℕ) (q : ℕ) (r : Result FinalHead E) : Type 0 where
   pub moves : Moves xs p ys q
-  pub replies : Replies (ReadsBehindResponse 268435456 (headed head xs)) (ReadsResponseFrom new ys) place ys r
+  pub tells : TellsHeadAt (ReadsFinalHead 16384 xs) p ys r
 
--- interim heads were passed over, and the rest goes on: room is left for so many bytes of heads
-pub record IsPassing (most room : ℕ) (xs : List ℕ) (p : ℕ) (ys : List ℕ) (q : ℕ) : Type 0 where
-  pub moves : Moves xs p ys q
-  pub goes : GoesOn (ReadsFinalHead most xs) (ReadsFinalHead room ys)
+abbrev pub IsHeadShortOf : List ℕ → Type 0
+IsHeadShortOf bytes = ReadsFinalHead 16384 bytes nothing ⊎ ReadsFinalHead 16384 bytes cut
+
+abbrev pub IsFinalHead : {E : Type 0} → ℕ → (used rest : List ℕ) → Option (List ℕ) → Result FinalHead E → Type 0
+IsFinalHead place used rest left (Ok (final.Head at head)) = (at ≡ place) × ((ys : List ℕ) → ReadsFinalHead 16384 (used ++ ys) (headed head ys))
+IsFinalHead place used rest left (Ok (final.Truncated at)) = (at ≡ place) × IsEnd left × IsHeadShortOf (used ++ rest)
+IsFinalHead place used rest left (Ok (final.Bad at)) = (at ≡ place) × (flaw : Flaw) × ((ys : List ℕ) → ReadsFinalHead 16384 (used ++ (rest ++ ys)) (faulty flaw))
+IsFinalHead place used rest left (Ok final.ReadFault) = ⊤
+IsFinalHead place used rest left (Err e) = ⊤

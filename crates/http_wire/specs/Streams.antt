@@ -1,9 +1,7 @@
 -- Bytes between a source and a reader.
-use Rattle.std.specs.Prelude.{◌≡◌, ℕ, ◌+◌, ◌-◌, ◌^◌, ◌<◌, min, List, [], ◌++◌, length, Option, Some, IfSome, Result, Ok, Err, ⊤}
+use Rattle.std.specs.Prelude.{◌≡◌, ℕ, ◌^◌, ◌<◌, ◌≤◌, List, [], ◌∷◌, ◌++◌, length, Option, Some, IfSome, ⊤}
 use Rattle.std.specs.Io.KnownBytes.{prepend_known}
-use Rattle.edge_core.specs.Faults.{Rose}
-use Rattle.http_wire.specs.declared.inbox.Filled.{Filled}
-use Rattle.http_wire.specs.declared.inbox.Filled.TheVariants as filled
+use Rattle.http_message.specs.Sessions.{place_behind}
 
 -- the bytes that were read and not used, and the place of the first of them
 abbrev pub Buffer : Type 0
@@ -13,28 +11,40 @@ Buffer = List ℕ × ℕ
 abbrev pub stream : Buffer → Option (List ℕ) → Option (List ℕ)
 stream buffer left = prepend_known buffer.0 left
 
-abbrev pub IsEnd : Option (List ℕ) → Type 0
-IsEnd left = IfSome left (λ xs. xs ≡ [])
-
--- bytes came behind those that were there, and the place is the same
-pub record Grows (old new : Buffer) (left left_new : Option (List ℕ)) : Type 0 where
-  pub stream_is : stream new left_new ≡ stream old left
-  pub place : new.1 ≡ old.1
-  pub more : List ℕ
-  pub front : new.0 ≡ old.0 ++ more
-
--- what one read did
-abbrev pub Fills : {E : Type 0} → List ℕ → List ℕ → Option (List ℕ) → ℕ → ℕ → Result Filled E → Type 0
-Fills old new left n m (Ok filled.More) = length old < length new
-Fills old new left n m (Ok filled.End) = (new ≡ old) × IsEnd left
-Fills old new left n m (Ok filled.Failed) = Rose n m
-Fills old new left n m (Err e) = ⊤
-
--- The first bytes of the stream were used. The place is a number of 64 bits, which stands still at the greatest.
-abbrev pub Moves : List ℕ → ℕ → List ℕ → ℕ → Type 0
-Moves xs place ys place_new =
-    (taken : List ℕ) × (xs ≡ taken ++ ys) × (place < 2 ^ 64 → place_new ≡ min (place + length taken) (2 ^ 64 - 1))
-
 -- where the stream is told it was xs, it is told as some ys, and this holds of both
 abbrev pub Told : Option (List ℕ) → Option (List ℕ) → (List ℕ → List ℕ → Type 0) → Type 0
 Told old new P = (xs : List ℕ) → old ≡ Some xs → (ys : List ℕ) × (new ≡ Some ys) × P xs ys
+
+-- where the source tells, nothing is left
+abbrev pub IsEnd : Option (List ℕ) → Type 0
+IsEnd left = IfSome left (λ xs. xs ≡ [])
+
+-- the first bytes of the stream were used
+abbrev pub Moves : List ℕ → ℕ → List ℕ → ℕ → Type 0
+Moves xs place ys place_new = (taken : List ℕ) × (xs ≡ taken ++ ys) × (place < 2 ^ 64 → place_new ≡ place_behind place taken)
+
+-- ---- of every source, told or not
+
+-- the bytes of some reads
+abbrev pub all_of : List (List ℕ) → List ℕ
+all_of [] = []
+all_of (piece ∷ pieces) = piece ++ all_of pieces
+
+-- Each of these reads was made while the bytes at hand were Short, and gave at most 8,192 bytes.
+abbrev pub EachShort : (List ℕ → Type 0) → (bytes : List ℕ) (pieces : List (List ℕ)) → Type 0
+EachShort Short bytes [] = ⊤
+EachShort Short bytes (piece ∷ pieces) = Short bytes × (length piece ≤ 8192) × EachShort Short (bytes ++ piece) pieces
+
+-- What a call did with its source: it made these reads, each while the bytes at hand were Short of what was asked for, and of all bytes
+-- the first were used. Without a read the source is as it was.
+pub record Draws {S : Type 0} (left : S → Option (List ℕ)) (Short : List ℕ → Type 0) (old new : Buffer) (source source_new : S) (pieces : List (List ℕ)) (used : List ℕ) : Type 0 where
+  pub came : left source ≡ prepend_known (all_of pieces) (left source_new)
+  pub spelled : old.0 ++ all_of pieces ≡ used ++ new.0
+  pub place : old.1 < 2 ^ 64 → new.1 ≡ place_behind old.1 used
+  pub each : EachShort Short old.0 pieces
+  pub spared : pieces ≡ [] → source_new ≡ source
+
+-- there are such reads and such bytes, and P holds of the bytes that were used
+abbrev pub Drew : {S : Type 0} → (S → Option (List ℕ)) → (List ℕ → Type 0) → (old new : Buffer) → (source source_new : S) → (List ℕ → Type 0) → Type 0
+Drew left Short old new source source_new P =
+    (pieces : List (List ℕ)) × (used : List ℕ) × Draws left Short old new source source_new pieces used × P used

@@ -1,71 +1,101 @@
 -- What the next message of a connection is.
-use Rattle.std.specs.Prelude.{◌≡◌, ℕ, List, Option, Some, None, Result, Ok, Err, ⊤}
-use Rattle.std.specs.declared.alloc.AllocError.{AllocError}
-use Rattle.edge_core.specs.Faults.{Rose}
-use Rattle.http_message.specs.Bodies.{BodyReading}
-use Rattle.http_message.specs.HeadReadings.{headed}
-use Rattle.http_message.specs.Messages.{ReadsBehindHead, Reading, with_head, request, ended, truncated, bad, ReadsMessage}
-use Rattle.http_message.specs.declared.head.Head.{Head}
-use Rattle.http_wire.specs.Rests.{GoesOn, ReadsRest}
-use Rattle.http_wire.specs.Streams.{Moves}
-use Rattle.http_wire.specs.declared.begun.BegunRequest.{BegunRequest}
+use Rattle.std.specs.Prelude.{◌≡◌, ℕ, ◌⊎◌, Bool, true, false, List, ◌++◌, Option, Some, None, Result, Ok, Err, ⊤}
+use Rattle.http_message.specs.Messages.{Reading, request, ended, truncated, bad, ReadsMessage}
+use Rattle.http_message.specs.Sessions.{Request, Stop}
+use Rattle.http_message.specs.Sessions as stop
+use Rattle.http_wire.specs.Streams.{Buffer, IsEnd, Moves}
 use Rattle.http_wire.specs.declared.wire.Message.{Message}
 use Rattle.http_wire.specs.declared.wire.Message.TheVariants as message
 
--- a fault of reading comes only where the count rose
-abbrev pub RoseAtFault : ℕ → ℕ → Result Message AllocError → Type 0
-RoseAtFault n m (Ok message.ReadFault) = Rose n m
-RoseAtFault n m (Ok (message.Request head body close)) = ⊤
-RoseAtFault n m (Ok message.End) = ⊤
-RoseAtFault n m (Ok (message.Truncated at)) = ⊤
-RoseAtFault n m (Ok (message.Bad at refusal)) = ⊤
-RoseAtFault n m (Err e) = ⊤
+-- what contracts see of the reading side of a connection: the bytes that were read and not used, with the place of the first of
+-- them, and whether it is still open
+pub record Connection : Type 0 where
+  pub buffer : Buffer
+  pub is_open : Bool
 
--- what the stream is read as: a message, or what is left of the request that was begun before, of at most 16 MiB
-abbrev pub ReadsFrom : Option BegunRequest → List ℕ → Reading → Type 0
-ReadsFrom None stream reading = ReadsMessage stream reading
-ReadsFrom (Some begun) stream reading = (b : BodyReading) × ReadsRest 16777216 begun.body stream b × (reading ≡ with_head begun.head b)
+abbrev pub is_fault : {E : Type 0} → Result Message E → Bool
+is_fault (Ok message.ReadFault) = true
+is_fault (Ok (message.Request at head body closes)) = false
+is_fault (Ok message.End) = false
+is_fault (Ok (message.Truncated at)) = false
+is_fault (Ok (message.Bad at flaw)) = false
+is_fault (Err e) = false
 
--- the place of the message's first byte, where the bytes that were not used begin at place p
-abbrev pub place_of : Option BegunRequest → ℕ → ℕ
-place_of None p = p
-place_of (Some begun) p = begun.at
+abbrev pub is_request : {E : Type 0} → Result Message E → Bool
+is_request (Ok (message.Request at head body closes)) = true
+is_request (Ok message.End) = false
+is_request (Ok (message.Truncated at)) = false
+is_request (Ok (message.Bad at flaw)) = false
+is_request (Ok message.ReadFault) = false
+is_request (Err e) = false
 
--- The answer at that place is a reading that holds, with what stands behind it; after a fault and want of memory Left holds of
--- readings that do.
-abbrev pub Answers : (Reads Left : Reading → Type 0) → ℕ → List ℕ → Result Message AllocError → Type 0
-Answers Reads Left place ys (Ok (message.Request head body close)) = Reads (request head body.items close ys)
-Answers Reads Left place ys (Ok message.End) = Reads ended
-Answers Reads Left place ys (Ok (message.Truncated at)) = (at ≡ place) × Reads truncated
-Answers Reads Left place ys (Ok (message.Bad at refusal)) = (at ≡ place) × Reads (bad refusal)
-Answers Reads Left place ys (Ok message.ReadFault) = GoesOn Reads Left
-Answers Reads Left place ys (Err e) = GoesOn Reads Left
+-- P holds of the body of a request
+abbrev pub OnRequest : {E : Type 0} → Result Message E → (List ℕ → Type 0) → Type 0
+OnRequest (Ok (message.Request at head body closes)) P = P body.items
+OnRequest (Ok message.End) P = ⊤
+OnRequest (Ok (message.Truncated at)) P = ⊤
+OnRequest (Ok (message.Bad at flaw)) P = ⊤
+OnRequest (Ok message.ReadFault) P = ⊤
+OnRequest (Err e) P = ⊤
 
--- Of the stream xs from place p, with what was begun before: the answer is its reading, and ys stands behind what was used, at place
--- q. After a fault and want of memory no reading is lost: what ys is read as, with what is begun now, xs was read as.
-pub record TellsMessage (old new : Option BegunRequest) (xs : List ℕ) (p : ℕ) (ys : List ℕ) (q : ℕ) (r : Result Message AllocError) : Type 0 where
+-- the request that the answer tells
+abbrev pub request_of : {E : Type 0} → Result Message E → Option Request
+request_of (Ok (message.Request at head body closes)) = Some (record { at = at; head = head; body = body.items; closes = closes })
+request_of (Ok message.End) = None
+request_of (Ok (message.Truncated at)) = None
+request_of (Ok (message.Bad at flaw)) = None
+request_of (Ok message.ReadFault) = None
+request_of (Err e) = None
+
+-- what ends the messages, by the answer; a fault and want of memory say nothing of the stream
+abbrev pub stop_of : {E : Type 0} → Result Message E → Option Stop
+stop_of (Ok (message.Request at head body closes)) = None
+stop_of (Ok message.End) = Some stop.ended
+stop_of (Ok (message.Truncated at)) = Some (stop.truncated at)
+stop_of (Ok (message.Bad at flaw)) = Some (stop.bad at flaw)
+stop_of (Ok message.ReadFault) = None
+stop_of (Err e) = None
+
+-- ---- where the stream is told
+
+-- The answer at that place is a reading that holds, with what stands behind it.
+abbrev pub Answers : {E : Type 0} → (Reads : Reading → Type 0) → ℕ → List ℕ → Result Message E → Type 0
+Answers Reads place ys (Ok (message.Request at head body closes)) = (at ≡ place) × Reads (request head body.items closes ys)
+Answers Reads place ys (Ok message.End) = Reads ended
+Answers Reads place ys (Ok (message.Truncated at)) = (at ≡ place) × Reads truncated
+Answers Reads place ys (Ok (message.Bad at flaw)) = (at ≡ place) × Reads (bad flaw)
+Answers Reads place ys (Ok message.ReadFault) = ⊤
+Answers Reads place ys (Err e) = ⊤
+
+-- Of the stream xs from place p: the answer is its reading, and ys stands behind what was used, at place q.
+pub record TellsMessage {E : Type 0} (xs : List ℕ) (p : ℕ) (ys : List ℕ) (q : ℕ) (r : Result Message E) : Type 0 where
   pub moves : Moves xs p ys q
-  pub answers : Answers (ReadsFrom old xs) (ReadsFrom new ys) (place_of old p) ys r
+  pub answers : Answers (ReadsMessage xs) p ys r
 
--- after a fault and want of memory the message's place is that place still; after each other answer nothing is begun
-abbrev pub IsBegunAfter : (place : ℕ) (new : Option BegunRequest) (q : ℕ) → Result Message AllocError → Type 0
-IsBegunAfter place new q (Ok message.ReadFault) = place_of new q ≡ place
-IsBegunAfter place new q (Err e) = place_of new q ≡ place
-IsBegunAfter place new q (Ok (message.Request head body close)) = new ≡ None
-IsBegunAfter place new q (Ok message.End) = new ≡ None
-IsBegunAfter place new q (Ok (message.Truncated at)) = new ≡ None
-IsBegunAfter place new q (Ok (message.Bad at refusal)) = new ≡ None
+-- ---- of every source
 
--- a fault, or want of memory
-abbrev pub IsWithoutAnswer : Result Message AllocError → Type 0
-IsWithoutAnswer (Ok message.ReadFault) = ⊤
-IsWithoutAnswer (Err e) = ⊤
-IsWithoutAnswer (Ok (message.Request head body close)) = ⊥
-IsWithoutAnswer (Ok message.End) = ⊥
-IsWithoutAnswer (Ok (message.Truncated at)) = ⊥
-IsWithoutAnswer (Ok (message.Bad at refusal)) = ⊥
+-- Of a stream that begins with the used bytes and the rest: the answer at that place is its reading. A request and a refusal are told
+-- whatever follows, an end where nothing does.
+abbrev pub IsAnswer : {E : Type 0} → ℕ → (used rest : List ℕ) → Option (List ℕ) → Result Message E → Type 0
+IsAnswer place used rest left (Ok (message.Request at head body closes)) =
+    (at ≡ place) × ((ys : List ℕ) → ReadsMessage (used ++ ys) (request head body.items closes ys))
+IsAnswer place used rest left (Ok message.End) = IsEnd left × ReadsMessage (used ++ rest) ended
+IsAnswer place used rest left (Ok (message.Truncated at)) = (at ≡ place) × IsEnd left × ReadsMessage (used ++ rest) truncated
+IsAnswer place used rest left (Ok (message.Bad at flaw)) = (at ≡ place) × ((ys : List ℕ) → ReadsMessage (used ++ (rest ++ ys)) (bad flaw))
+IsAnswer place used rest left (Ok message.ReadFault) = ⊤
+IsAnswer place used rest left (Err e) = ⊤
 
--- the same behind the head of the message that began at that place
-pub record TellsRequest (head : Head) (place : ℕ) (new : Option BegunRequest) (xs : List ℕ) (p : ℕ) (ys : List ℕ) (q : ℕ) (r : Result Message AllocError) : Type 0 where
-  pub moves : Moves xs p ys q
-  pub answers : Answers (ReadsBehindHead 16777216 (headed head xs)) (ReadsFrom new ys) place ys r
+-- no message and no refusal is there yet: a stream of these bytes alone ends between messages, or inside one
+abbrev pub IsShort : List ℕ → Type 0
+IsShort bytes = ReadsMessage bytes ended ⊎ ReadsMessage bytes truncated
+
+-- a request, or a refusal
+abbrev pub is_settled : Reading → Bool
+is_settled (request head body closes rest) = true
+is_settled ended = false
+is_settled truncated = false
+is_settled (bad flaw) = true
+
+-- the bytes begin with a whole request, or with what is refused
+abbrev pub HoldsAnswer : List ℕ → Type 0
+HoldsAnswer bytes = (reading : Reading) × ReadsMessage bytes reading × (is_settled reading ≡ true)

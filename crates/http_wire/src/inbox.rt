@@ -1,11 +1,8 @@
 // The bytes that were read from a source and not yet used.
-ghost use Rattle.std.specs.Prelude.{◌≡◌, ◌≤◌, ◌<◌, ◌+◌, ◌-◌, ◌^◌, ◌*◌, ◌∷◌, [], OnOk, drop, length, max, min, take, vec_capacity};
-ghost use Rattle.http_message.specs.Ends.{blank_len, HasNoEnd, HasNoEndTo};
-ghost use Rattle.http_wire.specs.Looks.{IsLooked};
-ghost use Rattle.http_wire.specs.Pours.{IsDrained, OnMoreFilled, RoseWhereFillFailed, TellsPour};
-ghost use Rattle.http_wire.specs.Streams.{stream, Fills, Grows, Told};
+ghost use Rattle.std.specs.Prelude.{◌≡◌, ◌≤◌, ◌<◌, ◌+◌, ◌-◌, ◌^◌, ◌*◌, [], OnOk, drop, length, max, min, vec_capacity};
+ghost use Rattle.http_wire.specs.Fills.{Awaits, Fills, GoesBehind, IsDrained, MovesSome, RoseAtFault};
+ghost use Rattle.http_wire.specs.Streams.{Drew};
 
-use crate::reading::MOST;
 use edge_core::{Source, Took};
 use std::alloc::{AllocError, Global};
 use std::marker::Model;
@@ -20,42 +17,35 @@ pub(crate) enum Filled {
     More,
     /// The source has ended.
     End,
-    /// The read failed.
-    Failed,
 }
 
-// How far the bytes were looked through for a head's end and for that of trailers, so that after a fault no byte is looked at
-// again.
-#[derive(Clone, Copy)]
-pub(crate) struct Looked {
-    // Within how many bytes a head's end was looked for.
-    most: usize,
-    // So many bytes are empty lines.
-    blank: usize,
-    // Behind this place no empty line ends,
-    start: usize,
-    // up to this one.
-    searched: usize,
-    // Up to this place no empty line of trailers ends.
-    trailers: usize,
+/// Why reading halted.
+#[derive(Clone, Copy, Debug, PartialEq, Eq)]
+pub(crate) enum Halt {
+    /// Memory was wanting.
+    NoMemory,
+    /// A read failed.
+    Fault,
 }
 
-const UNSEEN: Looked = Looked {
-    most: 0,
-    blank: 0,
-    start: 0,
-    searched: 0,
-    trailers: 0,
-};
+impl From<AllocError> for Halt {
+    ghost use Rattle.std.specs.Prelude.{◌≡◌};
+    ghost use Rattle.http_wire.specs.declared.inbox.Halt.TheVariants.{NoMemory};
+
+    ghost from_gives = { λ _ e. e ≡ NoMemory };
+
+    fn from(_error: AllocError) -> Halt {
+        Halt::NoMemory
+    }
+}
 
 /// Bytes that were read and not yet used, and the place of the first of them in the stream, which stands still at 2^64 - 1.
-/// Contracts see both, and not how far the bytes were looked through.
+/// Contracts see both.
 #[derive(Drop)]
 pub(crate) struct Inbox {
     buffer: Vec<u8>,
     at: usize,
     place: u64,
-    looked: Looked,
 }
 
 impl Model for Inbox {
@@ -65,9 +55,7 @@ impl Model for Inbox {
 
     ghost view = { λ i. (drop i.at i.buffer.items, i.place) };
 
-    ghost use Rattle.http_wire.specs.Looks.{IsLooked};
-
-    ghost invariant = { λ i. (i.at ≤ length i.buffer.items) × IsLooked (drop i.at i.buffer.items) i.looked };
+    ghost invariant = { λ i. i.at ≤ length i.buffer.items };
 }
 
 impl Inbox {
@@ -78,7 +66,6 @@ impl Inbox {
             buffer: Vec::new(alloc),
             at: 0,
             place: 0,
-            looked: UNSEEN,
         }
     }
 
@@ -104,88 +91,6 @@ impl Inbox {
     {
         self.at += count;
         self.place = self.place.saturating_add(count as u64);
-        self.looked = UNSEEN;
-    }
-
-    // How far the bytes were looked through within `most` bytes.
-    fn looked(&self, most: usize) -> Looked
-        ensures most { result.most ≡ most }
-        ensures looked { IsLooked self.now.0 result }
-    {
-        if self.looked.most == most {
-            return self.looked;
-        }
-        Looked {
-            most,
-            trailers: self.looked.trailers,
-            ..UNSEEN
-        }
-    }
-
-    /// How many bytes at the front are known to be empty lines, of the first `most` bytes.
-    pub(crate) fn known_blank(&self, most: usize) -> usize
-        ensures within { result ≤ length (take most self.now.0) }
-        ensures known { result + blank_len (drop result (take most self.now.0)) ≡ blank_len (take most self.now.0) }
-    {
-        self.looked(most).blank
-    }
-
-    /// Keeps how many bytes at the front are empty lines, of the first `most` bytes.
-    pub(crate) fn keep_blank(&mut self, most: usize, blank: usize)
-        requires value { blank ≡ blank_len (take most self.old.0) }
-        requires within { blank ≤ length (take most self.old.0) }
-        ensures { self.new ≡ self.old }
-    {
-        let looked = self.looked(most);
-        self.looked = Looked { blank, ..looked };
-    }
-
-    /// Up to where no empty line is known to end behind a place, in the first `most` bytes.
-    pub(crate) fn known_open(&self, most: usize, start: usize) -> usize
-        requires { start ≤ length (take most self.now.0) }
-        ensures order { start ≤ result }
-        ensures within { result ≤ length (take most self.now.0) }
-        ensures none { HasNoEndTo (take most self.now.0) start result }
-    {
-        let looked = self.looked(most);
-        if looked.start == start {
-            looked.searched
-        } else {
-            start
-        }
-    }
-
-    /// Keeps that no empty line ends behind a place in the first `most` bytes.
-    pub(crate) fn keep_open(&mut self, most: usize, start: usize)
-        requires order { start ≤ length (take most self.old.0) }
-        requires none { HasNoEnd (take most self.old.0) start }
-        ensures { self.new ≡ self.old }
-    {
-        let searched = self.bytes().len().min(most);
-        let looked = self.looked(most);
-        self.looked = Looked {
-            start,
-            searched,
-            ..looked
-        };
-    }
-
-    /// Up to where no empty line of trailers is known to end, in the first 16,384 bytes.
-    pub(crate) fn known_trailers(&self) -> usize
-        ensures within { result ≤ length (take 16384 self.now.0) }
-        ensures none { HasNoEndTo (10 ∷ take 16384 self.now.0) 1 (result + 1) }
-    {
-        self.looked.trailers
-    }
-
-    /// Keeps that no empty line of trailers ends in the first 16,384 bytes.
-    pub(crate) fn keep_trailers(&mut self)
-        requires { HasNoEnd (10 ∷ take 16384 self.old.0) 1 }
-        ensures { self.new ≡ self.old }
-    {
-        let trailers = self.bytes().len().min(MOST);
-        let looked = self.looked;
-        self.looked = Looked { trailers, ..looked };
     }
 
     // Moves the bytes to the front of the buffer, where no more of them are left than were used.
@@ -201,10 +106,11 @@ impl Inbox {
     }
 
     /// Reads once. Want of memory comes before the read.
-    pub(crate) fn fill<S: Source>(&mut self, source: &mut S) -> Result<Filled, AllocError>
-        ensures grows { Grows self.old self.new (S.left source.old) (S.left source.new) }
-        ensures told { Fills self.old.0 self.new.0 (S.left source.new) (S.faults source.old) (S.faults source.new) result }
+    pub(crate) fn fill<S: Source>(&mut self, source: &mut S) -> Result<Filled, Halt>
+        ensures draws { Awaits S.left (λ b. b ≡ self.old.0) self.old self.new source.old source.new }
+        ensures told { Fills self.old.0 self.new.0 (S.left source.new) result }
         ensures later { S.faults source.old ≤ S.faults source.new }
+        ensures cause { RoseAtFault (S.faults source.old) (S.faults source.new) result }
     {
         let mut piece = [0u8; PIECE];
         self.compact();
@@ -215,12 +121,12 @@ impl Inbox {
                 Ok(Filled::More)
             }
             Took::End => Ok(Filled::End),
-            Took::Failed => Ok(Filled::Failed),
+            Took::Failed => Err(Halt::Fault),
         }
     }
 
     // Puts the first bytes behind the body, at most so many, and uses them.
-    fn drain(&mut self, most: usize, body: &mut Vec<u8>) -> Result<(), AllocError>
+    fn drain(&mut self, most: usize, body: &mut Vec<u8>) -> Result<(), Halt>
         ensures { IsDrained most self.old self.new body.old.items body.new.items result }
     {
         let count = self.bytes().len().min(most);
@@ -236,14 +142,12 @@ impl Inbox {
         source: &mut S,
         most: usize,
         body: &mut Vec<u8>,
-    ) -> Result<Filled, AllocError>
+    ) -> Result<Filled, Halt>
         requires empty { self.old.0 ≡ [] }
         requires some { 0 < most }
         ensures later { S.faults source.old ≤ S.faults source.new }
-        ensures cause { RoseWhereFillFailed (S.faults source.old) (S.faults source.new) result }
-        ensures told { Told (stream self.old (S.left source.old)) (stream self.new (S.left source.new)) (λ xs ys. TellsPour xs self.old.1 ys self.new.1 body.old.items body.new.items result) }
-        ensures grows { OnMoreFilled result (length body.old.items < length body.new.items) }
-        ensures fits { length body.new.items ≤ length body.old.items + most }
+        ensures cause { RoseAtFault (S.faults source.old) (S.faults source.new) result }
+        ensures moved { Drew S.left (λ b. b ≡ []) self.old self.new source.old source.new (λ used. GoesBehind most body.old.items body.new.items used × MovesSome used self.new.0 (S.left source.new) result) }
     {
         let mut piece = [0u8; PIECE];
         let size = most.min(PIECE);
@@ -255,7 +159,7 @@ impl Inbox {
                 Ok(Filled::More)
             }
             Took::End => Ok(Filled::End),
-            Took::Failed => Ok(Filled::Failed),
+            Took::Failed => Err(Halt::Fault),
         }
     }
 
@@ -266,13 +170,11 @@ impl Inbox {
         source: &mut S,
         most: usize,
         body: &mut Vec<u8>,
-    ) -> Result<Filled, AllocError>
+    ) -> Result<Filled, Halt>
         requires { 0 < most }
         ensures later { S.faults source.old ≤ S.faults source.new }
-        ensures cause { RoseWhereFillFailed (S.faults source.old) (S.faults source.new) result }
-        ensures told { Told (stream self.old (S.left source.old)) (stream self.new (S.left source.new)) (λ xs ys. TellsPour xs self.old.1 ys self.new.1 body.old.items body.new.items result) }
-        ensures grows { OnMoreFilled result (length body.old.items < length body.new.items) }
-        ensures fits { length body.new.items ≤ length body.old.items + most }
+        ensures cause { RoseAtFault (S.faults source.old) (S.faults source.new) result }
+        ensures moved { Drew S.left (λ b. b ≡ []) self.old self.new source.old source.new (λ used. GoesBehind most body.old.items body.new.items used × MovesSome used self.new.0 (S.left source.new) result) }
     {
         if self.bytes().is_empty() {
             if most >= PIECE {
@@ -281,7 +183,6 @@ impl Inbox {
             match self.fill(source)? {
                 Filled::More => {}
                 Filled::End => return Ok(Filled::End),
-                Filled::Failed => return Ok(Filled::Failed),
             }
         }
         self.drain(most, body)?;

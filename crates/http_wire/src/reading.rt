@@ -1,14 +1,14 @@
 // Reading as far as a part of a message needs. Nothing is used here.
-ghost use Rattle.std.specs.Prelude.{◌≡◌, ◌≤◌, ◌+◌, ◌∷◌, MatchOption, length, take};
+ghost use Rattle.std.specs.Prelude.{◌≡◌, ◌≤◌, ◌<◌, ◌+◌, ◌∷◌, MatchOption, length, take};
 ghost use Rattle.http_message.specs.Ends.{ends_empty, HasNoEnd, HasNoEndTo, IsFirstEnd};
-ghost use Rattle.http_wire.specs.Streams.{Grows};
-ghost use Rattle.http_wire.specs.Parts.{TellsBlank, TellsEndIn, TellsLine, TellsNeed, TellsTrailersEnd};
+ghost use Rattle.http_message.specs.Lines.{IsOpenLine};
+ghost use Rattle.http_wire.specs.Fills.{Awaits, RoseAtFault};
+ghost use Rattle.http_wire.specs.Parts.{IsBlankOpen, IsEndOpen, IsFewer, IsTrailersOpen, TellsBlank, TellsEndIn, TellsLine, TellsNeed, TellsTrailersEnd};
 
-use crate::inbox::{Filled, Inbox};
+use crate::inbox::{Filled, Halt, Inbox};
 use edge_core::Source;
 use http_message::chunk::chunk_line;
 use http_message::ends::{blank_len_from, end_after};
-use std::alloc::AllocError;
 
 /// The most bytes of a message's heads, and of trailers.
 pub(crate) const MOST: usize = 16_384;
@@ -22,8 +22,6 @@ pub(crate) enum Blank {
     TooLarge,
     /// The input ended, and fewer than two bytes follow.
     Ended,
-    /// A read failed.
-    Failed,
 }
 
 /// The first empty line behind a place.
@@ -35,8 +33,6 @@ pub(crate) enum EndIn {
     TooLarge,
     /// The input ended, and none had.
     Ended,
-    /// A read failed.
-    Failed,
 }
 
 /// The line in front of a chunk.
@@ -48,8 +44,6 @@ pub(crate) enum Line {
     Ended,
     /// It is none.
     Bad,
-    /// A read failed.
-    Failed,
 }
 
 /// Whether so many bytes are there.
@@ -59,8 +53,6 @@ pub(crate) enum Need {
     Enough,
     /// The input ended before.
     Ended,
-    /// A read failed.
-    Failed,
 }
 
 /// Reads until so many bytes are there.
@@ -68,10 +60,11 @@ pub(crate) fn await_bytes<S: Source>(
     inbox: &mut Inbox,
     source: &mut S,
     size: usize,
-) -> Result<Need, AllocError>
-    ensures grows { Grows inbox.old inbox.new (S.left source.old) (S.left source.new) }
+) -> Result<Need, Halt>
+    ensures draws { Awaits S.left (IsFewer size inbox.old.0) inbox.old inbox.new source.old source.new }
     ensures later { S.faults source.old ≤ S.faults source.new }
-    ensures told { TellsNeed size inbox.new.0 (S.left source.new) (S.faults source.old) (S.faults source.new) result }
+    ensures cause { RoseAtFault (S.faults source.old) (S.faults source.new) result }
+    ensures told { TellsNeed size inbox.new.0 (S.left source.new) result }
 {
     'turns: loop {
         if inbox.bytes().len() >= size {
@@ -80,16 +73,16 @@ pub(crate) fn await_bytes<S: Source>(
         match inbox.fill(source)? {
             Filled::More => {}
             Filled::End => return Ok(Need::Ended),
-            Filled::Failed => return Ok(Need::Failed),
         }
     }
 }
 
 /// Reads until the line in front of a chunk is there.
-pub(crate) fn await_line<S: Source>(inbox: &mut Inbox, source: &mut S) -> Result<Line, AllocError>
-    ensures grows { Grows inbox.old inbox.new (S.left source.old) (S.left source.new) }
+pub(crate) fn await_line<S: Source>(inbox: &mut Inbox, source: &mut S) -> Result<Line, Halt>
+    ensures draws { Awaits S.left IsOpenLine inbox.old inbox.new source.old source.new }
     ensures later { S.faults source.old ≤ S.faults source.new }
-    ensures told { TellsLine inbox.new.0 (S.left source.new) (S.faults source.old) (S.faults source.new) result }
+    ensures cause { RoseAtFault (S.faults source.old) (S.faults source.new) result }
+    ensures told { TellsLine inbox.new.0 (S.left source.new) result }
 {
     'turns: loop {
         match chunk_line(inbox.bytes()) {
@@ -100,7 +93,6 @@ pub(crate) fn await_line<S: Source>(inbox: &mut Inbox, source: &mut S) -> Result
         match inbox.fill(source)? {
             Filled::More => {}
             Filled::End => return Ok(Line::Ended),
-            Filled::Failed => return Ok(Line::Failed),
         }
     }
 }
@@ -112,22 +104,22 @@ fn front<'a>(bytes: &'a [u8], most: usize) -> &'a [u8]
     &bytes[..bytes.len().min(most)]
 }
 
-/// Reads until two bytes are there behind the empty lines in front, within so many bytes. Each empty line is looked at once, over
-/// all calls.
+/// Reads until two bytes are there behind the empty lines in front, within so many bytes. Each empty line is looked at once.
 pub(crate) fn await_start<S: Source>(
     inbox: &mut Inbox,
     source: &mut S,
     most: usize,
-) -> Result<Blank, AllocError>
-    ensures grows { Grows inbox.old inbox.new (S.left source.old) (S.left source.new) }
+) -> Result<Blank, Halt>
+    ensures draws { Awaits S.left (IsBlankOpen most) inbox.old inbox.new source.old source.new }
     ensures later { S.faults source.old ≤ S.faults source.new }
-    ensures told { TellsBlank most inbox.new.0 (S.left source.new) (S.faults source.old) (S.faults source.new) result }
+    ensures cause { RoseAtFault (S.faults source.old) (S.faults source.new) result }
+    ensures told { TellsBlank most inbox.new.0 (S.left source.new) result }
 {
+    let mut known = 0;
     'turns: loop {
         let front = front(inbox.bytes(), most);
         let size = front.len();
-        let known = blank_len_from(front, inbox.known_blank(most));
-        inbox.keep_blank(most, known);
+        known = blank_len_from(front, known);
         if known + 2 <= size {
             return Ok(Blank::Start(known));
         }
@@ -137,37 +129,37 @@ pub(crate) fn await_start<S: Source>(
         match inbox.fill(source)? {
             Filled::More => {}
             Filled::End => return Ok(Blank::Ended),
-            Filled::Failed => return Ok(Blank::Failed),
         }
     }
 }
 
-/// Reads until the first empty line behind a place has ended, within so many bytes. Each byte is looked at once, over all calls.
+/// Reads until the first empty line behind a place has ended, within so many bytes. Each byte is looked at once.
 pub(crate) fn await_end<S: Source>(
     inbox: &mut Inbox,
     source: &mut S,
     most: usize,
     start: usize,
-) -> Result<EndIn, AllocError>
+) -> Result<EndIn, Halt>
     requires order { start ≤ most }
     requires within { start ≤ length inbox.old.0 }
-    ensures grows { Grows inbox.old inbox.new (S.left source.old) (S.left source.new) }
+    ensures draws { Awaits S.left (IsEndOpen most start inbox.old.0) inbox.old inbox.new source.old source.new }
     ensures later { S.faults source.old ≤ S.faults source.new }
-    ensures told { TellsEndIn most start inbox.new.0 (S.left source.new) (S.faults source.old) (S.faults source.new) result }
+    ensures cause { RoseAtFault (S.faults source.old) (S.faults source.new) result }
+    ensures told { TellsEndIn most start inbox.new.0 (S.left source.new) result }
 {
+    let mut searched = start;
     'turns: loop {
         let front = front(inbox.bytes(), most);
-        if let Some(end) = end_after(front, start, inbox.known_open(most, start)) {
+        if let Some(end) = end_after(front, start, searched) {
             return Ok(EndIn::At(end));
         }
         if front.len() == most {
             return Ok(EndIn::TooLarge);
         }
-        inbox.keep_open(most, start);
+        searched = front.len();
         match inbox.fill(source)? {
             Filled::More => {}
             Filled::End => return Ok(EndIn::Ended),
-            Filled::Failed => return Ok(EndIn::Failed),
         }
     }
 }
@@ -198,29 +190,26 @@ fn end_behind(bytes: &[u8], searched: usize) -> Option<usize>
     None
 }
 
-/// Reads until the empty line of trailers has ended, behind the line of the last chunk. Each byte is looked at once, over all
-/// calls.
-pub(crate) fn await_trailers<S: Source>(
-    inbox: &mut Inbox,
-    source: &mut S,
-) -> Result<EndIn, AllocError>
-    ensures grows { Grows inbox.old inbox.new (S.left source.old) (S.left source.new) }
+/// Reads until the empty line of trailers has ended, behind the line of the last chunk. Each byte is looked at once.
+pub(crate) fn await_trailers<S: Source>(inbox: &mut Inbox, source: &mut S) -> Result<EndIn, Halt>
+    ensures draws { Awaits S.left IsTrailersOpen inbox.old inbox.new source.old source.new }
     ensures later { S.faults source.old ≤ S.faults source.new }
-    ensures told { TellsTrailersEnd inbox.new.0 (S.left source.new) (S.faults source.old) (S.faults source.new) result }
+    ensures cause { RoseAtFault (S.faults source.old) (S.faults source.new) result }
+    ensures told { TellsTrailersEnd inbox.new.0 (S.left source.new) result }
 {
+    let mut searched = 0;
     'turns: loop {
         let front = front(inbox.bytes(), MOST);
-        if let Some(end) = end_behind(front, inbox.known_trailers()) {
+        if let Some(end) = end_behind(front, searched) {
             return Ok(EndIn::At(end));
         }
         if front.len() == MOST {
             return Ok(EndIn::TooLarge);
         }
-        inbox.keep_trailers();
+        searched = front.len();
         match inbox.fill(source)? {
             Filled::More => {}
             Filled::End => return Ok(EndIn::Ended),
-            Filled::Failed => return Ok(EndIn::Failed),
         }
     }
 }

@@ -35,8 +35,11 @@ pub fn read_all<S: Source>(alloc: Global, source: &mut S) -> Result<Seen, Stop> 
         bytes: 0,
     };
     for _ in 0..u64::MAX {
+        if !wire.is_open() {
+            break;
+        }
         match wire.next(alloc, source)? {
-            Message::Request(_, body, _) => {
+            Message::Request { body, .. } => {
                 seen.requests = seen.requests.saturating_add(1);
                 seen.bytes = seen.bytes.saturating_add(body.len() as u64);
             }

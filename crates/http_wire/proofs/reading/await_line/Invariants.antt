@@ -1,10 +1,11 @@
 use Rattle.std.proofs.Common.{◌-◌, ◌≤◌, length}
-use Rattle.http_wire.specs.Streams.{Grows}
+use Rattle.http_message.specs.Lines.{IsOpenLine}
+use Rattle.http_wire.specs.Fills.{Awaits}
 use Rattle.http_wire.proofs.reading.await_line.Given as goal
 
 abbrev pub invariant-turns : goal.invariant-turns
 invariant-turns g l = record {
-  grows : Grows l.initial.inbox l.inbox (g.S.Source.left l.initial.source) (g.S.Source.left l.source);
+  draws : Awaits g.S.Source.left IsOpenLine l.initial.inbox l.inbox l.initial.source l.source;
   later : g.S.Source.faults l.initial.source ≤ g.S.Source.faults l.source;
 }
 

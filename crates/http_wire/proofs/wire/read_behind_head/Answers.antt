@@ -1,12 +1,32 @@
-use Rattle.std.proofs.Common.{sym, ◌∙◌}
-use Rattle.http_wire.proofs.Wires.{unformed_request, formed_request}
+use Rattle.std.proofs.Common.{◌≡◌, Ok, Err, rules}
+use Rattle.std.proofs.lemmas.Result.{err_from_is_err_and}
+use Rattle.http_message.specs.Framing.{request_form}
+use Rattle.http_wire.specs.declared.body.BodyRead.TheVariants as body
+use Rattle.http_wire.proofs.Wires.{unformed, formed}
 use Rattle.http_wire.proofs.wire.read_behind_head.Goals as goal
 
-pub returns-in-Ok-clause-told : goal.returns-in-Ok-clause-told
-returns-in-Ok-clause-told g c =
-    formed_request c.args.inbox.now c.read_request.new.inbox (g.S.Source.left c.args.source.now) (g.S.Source.left c.read_request.new.source) c.args.head c.args.at c.in-Ok.form c.new-body.result c.read_request.new.begun c.read_request.result
-    (sym c.request_form.ensures ∙ c.in-Ok.is) c.new-body.ensures.content c.new-body.ensures.expected c.read_request.ensures.told
+pub returns-in-Err-clause-read : goal.returns-in-Err-clause-read
+returns-in-Err-clause-read g c =
+    let is : request_form 16777216 c.args.head ≡ Err c.in-Err.flaw = search rules in
+    unformed g.S.Source.left c.args.head c.args.at c.args.inbox.now c.args.source.now c.in-Err.flaw is
 
-pub returns-in-Err-clause-told : goal.returns-in-Err-clause-told
-returns-in-Err-clause-told g c =
-    unformed_request c.args.inbox.now (g.S.Source.left c.args.source.now) c.args.head c.args.at c.in-Err.refusal c.args.begun.now (sym c.request_form.ensures ∙ c.in-Err.is)
+pub returns-in_err-read_body-clause-read : goal.returns-in_err-read_body-clause-read
+returns-in_err-read_body-clause-read g c =
+    let is : request_form 16777216 c.args.head ≡ Ok c.in-Ok.form = search rules in
+    let p = err_from_is_err_and c.from_residual.result c.from_residual.ensures.1 in
+    rw p.1 (formed g.S.Source.left c.in-Ok.form c.args.head c.args.at c.read_body.new.body _ _ _ _ (Err p.0) is c.in_err-read_body.ensures.read)
+
+pub returns-in-Whole-clause-read : goal.returns-in-Whole-clause-read
+returns-in-Whole-clause-read g c =
+    let is : request_form 16777216 c.args.head ≡ Ok c.in-Ok.form = search rules in
+    rw c.closes-closes.ensures (formed g.S.Source.left c.in-Ok.form c.args.head c.args.at c.read_body.new.body _ _ _ _ (Ok body.Whole) is (rw c.in-Whole.is at c.in_ok-read_body.ensures.read))
+
+pub returns-in-Ended-clause-read : goal.returns-in-Ended-clause-read
+returns-in-Ended-clause-read g c =
+    let is : request_form 16777216 c.args.head ≡ Ok c.in-Ok.form = search rules in
+    formed g.S.Source.left c.in-Ok.form c.args.head c.args.at c.read_body.new.body _ _ _ _ (Ok body.Ended) is (rw c.in-Ended.is at c.in_ok-read_body.ensures.read)
+
+pub returns-in-Refused-clause-read : goal.returns-in-Refused-clause-read
+returns-in-Refused-clause-read g c =
+    let is : request_form 16777216 c.args.head ≡ Ok c.in-Ok.form = search rules in
+    formed g.S.Source.left c.in-Ok.form c.args.head c.args.at c.read_body.new.body _ _ _ _ (Ok (body.Refused c.in-Refused.flaw)) is (rw c.in-Refused.is at c.in_ok-read_body.ensures.read)
