@@ -1,4 +1,6 @@
 // Streams over fakes that give and take pieces, and fail.
+ghost use Rattle.std.specs.Prelude.{◌≤◌, length};
+
 use crate::{StdSink, StdSource};
 use edge_core::{Gave, Sink, Source, Took};
 use std::io;
@@ -11,7 +13,9 @@ struct Given {
     calls: u32,
 }
 
-fn put(out: &mut [u8], bytes: &[u8]) -> usize {
+fn put(out: &mut [u8], bytes: &[u8]) -> usize
+    ensures { result ≤ length out.new }
+{
     let mut n = 0usize;
     for (place, byte) in out.iter_mut().zip(bytes) {
         *place = *byte;
