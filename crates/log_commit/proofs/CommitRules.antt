@@ -1,17 +1,17 @@
 -- A list of actions keeps the rules of a commit exactly where none of them breaks one after those before it.
-use Rattle.std.proofs.Common.{◌≡◌, ℕ, ◌+◌, ◌≤◌, List, [], ◌∷◌, ◌++◌, length, Option, Some, None, refl, sym, ap, ◌∙◌, subst, Bool, true, false, cond, not, arith, true≢false, bytes_eq, nat_le, append_assoc}
+use Rattle.std.proofs.Common.{◌≡◌, ℕ, zero, suc, ◌+◌, ◌≤◌, List, [], ◌∷◌, ◌++◌, length, Option, Some, None, Ok, is_ok, refl, sym, ap, ◌∙◌, subst, Bool, true, false, cond, not, arith, true≢false, bytes_eq, nat_le, append_assoc}
 use Rattle.std.specs.Prelude.{◌&&◌, filter_map}
-use Rattle.std.specs.List.{count_by, list_any, list_all, cons_option}
+use Rattle.std.specs.List.{count_by, list_any, list_all, cons_option, range_with_len}
 use Rattle.std.specs.Option.{option_map_or}
 use Rattle.std.proofs.lemmas.Bool.{and_parts, le-leb, leb-true}
 use Rattle.std.proofs.lemmas.List.{append-nil}
 use Rattle.std.proofs.lemmas.List.Elements.{filter_map-append}
+use Rattle.std.proofs.lemmas.List.FromFn.{length-range_with_len}
 use Rattle.std.proofs.lemmas.List.Folds.{list_all-append}
 use Rattle.std.proofs.lemmas.List.Sums.{sum_by-append}
 use Rattle.log_actions.specs.Commits.{IsCommit, is_protocol, is_meta_data, has_good_path, counted_path, are_distinct}
 use Rattle.log_actions.specs.declared.actions.Action.{Action}
-use Rattle.log_commit.specs.Texts.{broken_rule, has_path_again}
-use Rattle.log_commit.specs.Passes.{first_broken, or_else}
+use Rattle.log_commit.specs.Rules.{broken_rule, commit_from, first_broken, has_path_again, or_else, unless_broken}
 use Rattle.log_commit.specs.declared.faults.CommitFault.{CommitFault}
 use Rattle.log_commit.specs.declared.faults.CommitFault.TheVariants as fault
 use Rattle.log_commit.proofs.Distinct.{weight, count_more, counts, counts-none, any-flip, twice, one_more}
@@ -30,8 +30,8 @@ rules_of actions is =
     let c = and_parts (list_all has_good_path actions) (are_distinct (filter_map counted_path actions)) b.1 in
     record { protocols = leb-true _ _ a.0; meta_data = leb-true _ _ b.0; paths = c.0; distinct = c.1 }
 
-pub commit_from : (actions : List Action) → Rules actions → IsCommit actions
-commit_from actions r =
+pub by_rules : (actions : List Action) → Rules actions → IsCommit actions
+by_rules actions r =
     let p : nat_le (count_by is_protocol actions) 1 ≡ true = le-leb (count_by is_protocol actions) 1 r.protocols in
     let m : nat_le (count_by is_meta_data actions) 1 ≡ true = le-leb (count_by is_meta_data actions) 1 r.meta_data in
     rw (p, m, r.paths, r.distinct) refl
@@ -139,7 +139,23 @@ all_none front (n ∷ ns) (a ∷ actions) r =
 
 -- where no action breaks a rule, they are a commit's
 pub commit_unbroken : (ns : List ℕ) (actions : List Action) → first_broken [] ns actions ≡ None → length ns ≡ length actions → IsCommit actions
-commit_unbroken ns actions e same = commit_from actions (none_first [] ns actions e same (rules_of [] refl))
+commit_unbroken ns actions e same = by_rules actions (none_first [] ns actions e same (rules_of [] refl))
 
 pub unbroken_commit : (ns : List ℕ) (actions : List Action) → IsCommit actions → first_broken [] ns actions ≡ None
 unbroken_commit ns actions is = all_none [] ns actions (rules_of actions is)
+
+broken_none : (o : Option CommitFault) (actions : List Action) → unless_broken o actions ≡ Ok actions → o ≡ None
+broken_none None actions is = refl
+broken_none (Some e) actions is = absurd (true≢false (sym (ap is_ok is)))
+
+-- actions are a commit's exactly where none of them breaks a rule
+pub from_gives : (actions : List Action) → commit_from actions ≡ Ok actions → IsCommit actions
+from_gives actions is = commit_unbroken (range_with_len 1 (length actions)) actions (broken_none (first_broken [] (range_with_len 1 (length actions)) actions) actions is) (length-range_with_len 1 (length actions))
+
+pub from_commit : (actions : List Action) → IsCommit actions → commit_from actions ≡ Ok actions
+from_commit actions is = ap (λ o. unless_broken o actions) (unbroken_commit (range_with_len 1 (length actions)) actions is)
+
+-- the numbers from one on, with one more at the end
+pub range_more : (a n : ℕ) → range_with_len a (suc n) ≡ range_with_len a n ++ (a + n) ∷ []
+range_more a zero = let e : a ≡ a + 0 = omega arith in ap (λ v. v ∷ []) e
+range_more a (suc n) = let e : a + 1 + n ≡ a + suc n = omega arith in ap (λ vs. a ∷ vs) (range_more (a + 1) n ∙ ap (λ v. range_with_len (a + 1) n ++ v ∷ []) e)

@@ -11,8 +11,8 @@ use Rattle.std.proofs.lemmas.List.Elements.{filter_map-append}
 use Rattle.std.proofs.lemmas.List.Folds.{list_any-append}
 use Rattle.log_actions.specs.Commits.{counted_path, is_meta_data, is_protocol}
 use Rattle.log_actions.specs.declared.actions.Action.{Action}
-use Rattle.log_commit.specs.Texts.{broken_rule}
-use Rattle.log_commit.specs.Passes.{broken, first_broken, holds, or_else}
+use Rattle.log_commit.specs.Rules.{broken_rule, first_broken, or_else}
+use Rattle.log_commit.specs.Passes.{broken, holds}
 use Rattle.log_commit.specs.Seen.{Knows, Records}
 use Rattle.log_commit.specs.declared.faults.CommitFault.{CommitFault}
 use Rattle.log_commit.specs.declared.rules.Seen.{Seen}

@@ -10,10 +10,12 @@ use Rattle.log_actions.specs.declared.actions.Action.{Action}
 use Rattle.log_actions.specs.declared.line_fault.LineFault.{LineFault}
 use Rattle.json_print.specs.Lines.{lines}
 use Rattle.log_commit.specs.Lines.{actions_of, action_or_none, given, is_read, line_action}
-use Rattle.log_commit.specs.Texts.{Answers, Fails, IsCommitText, broken_rule, commit_in, fault_at, fault_given, faults, places, unless_faulty}
-use Rattle.log_commit.specs.Passes.{action_first, fault_first, first_broken, line_fault, number_first, or_else, read_actions, read_numbers}
+use Rattle.log_commit.specs.Texts.{Answers, IsCommitText, commit_in, fault_at, fault_given, faults, places, unless_faulty}
+use Rattle.log_commit.specs.Rules.{broken_rule, first_broken, or_else}
+use Rattle.log_commit.specs.Passes.{action_first, fault_first, line_fault, number_first, read_actions, read_numbers}
 use Rattle.log_commit.specs.Seen.{AreRead}
 use Rattle.log_commit.specs.declared.faults.CommitFault.{CommitFault}
+use Rattle.log_commit.specs.declared.faults.NoCommit.{NoCommit}
 use Rattle.log_commit.specs.declared.faults.CommitFault.TheVariants as fault
 use Rattle.log_commit.specs.declared.lines.Found.{Found}
 use Rattle.log_commit.proofs.CommitRules.{commit_unbroken, unbroken_commit}
@@ -127,26 +129,17 @@ faultless (f ∷ es) actions h = absurd (some_fault f h)
 within : (bytes : List ℕ) → length bytes ≤ 2 ^ 24 → commit_in bytes ≡ unless_faulty (faults (lines bytes)) (actions_of (lines bytes))
 within bytes fits = ap (λ b. cond b (unless_faulty (faults (lines bytes)) (actions_of (lines bytes))) (Err fault.TooLarge)) (le-leb (length bytes) (2 ^ 24) fits)
 
-fails : (e : CommitFault) (what : Result (List Action) CommitFault) → what ≡ Err e → Fails e what
-fails fault.TooLarge what is = is
-fails (fault.Line n f) what is = is
-fails (fault.TwoProtocols n) what is = is
-fails (fault.TwoMetaData n) what is = is
-fails (fault.BadPath n) what is = is
-fails (fault.PathTwice n) what is = is
-fails fault.NoMemory what is = tt
-
 -- the parts of what was read belong together
 pub found_same : (ls : List (List ℕ)) (found : Found) (stop : Option CommitFault) → AreRead ls found stop → length found.numbers.items ≡ length found.actions.items
 found_same ls found stop r = ap length r.numbers ∙ same_length 1 ls ∙ sym (ap length r.actions)
 
 -- a rule is broken
-pub breaks : (bytes : List ℕ) (found : Found) (stop : Option CommitFault) (e : CommitFault) → length bytes ≤ 2 ^ 24 → AreRead (lines bytes) found stop → Some e ≡ first_broken [] found.numbers.items found.actions.items → Fails e (commit_in bytes)
+pub breaks : (bytes : List ℕ) (found : Found) (stop : Option CommitFault) (e : CommitFault) → length bytes ≤ 2 ^ 24 → AreRead (lines bytes) found stop → Some e ≡ first_broken [] found.numbers.items found.actions.items → commit_in bytes ≡ Err e
 breaks bytes found stop e fits r is =
     let ls = lines bytes in
     let here : first_broken [] (read_numbers 1 ls) (read_actions ls) ≡ Some e = ap (λ ns. first_broken [] ns (read_actions ls)) (sym r.numbers) ∙ ap (first_broken [] found.numbers.items) (sym r.actions) ∙ sym is in
     let first : head (faults ls) ≡ Some e = first_is ls ∙ ap (λ o. or_else o (line_fault 1 ls)) here in
-    fails e (commit_in bytes) (within bytes fits ∙ faulty (faults ls) (actions_of ls) e first)
+    within bytes fits ∙ faulty (faults ls) (actions_of ls) e first
 
 none_broken : (ls : List (List ℕ)) (found : Found) (stop : Option CommitFault) → AreRead ls found stop → None ≡ first_broken [] found.numbers.items found.actions.items → head (faults ls) ≡ stop
 none_broken ls found stop r is =
@@ -154,8 +147,8 @@ none_broken ls found stop r is =
     first_is ls ∙ ap (λ o. or_else o (line_fault 1 ls)) here ∙ sym r.fault
 
 -- a line isn't read
-pub stops : (bytes : List ℕ) (found : Found) (stop : Option CommitFault) (e : CommitFault) → length bytes ≤ 2 ^ 24 → AreRead (lines bytes) found stop → None ≡ first_broken [] found.numbers.items found.actions.items → stop ≡ Some e → Fails e (commit_in bytes)
-stops bytes found stop e fits r is at = fails e (commit_in bytes) (within bytes fits ∙ faulty (faults (lines bytes)) (actions_of (lines bytes)) e (none_broken (lines bytes) found stop r is ∙ at))
+pub stops : (bytes : List ℕ) (found : Found) (stop : Option CommitFault) (e : CommitFault) → length bytes ≤ 2 ^ 24 → AreRead (lines bytes) found stop → None ≡ first_broken [] found.numbers.items found.actions.items → stop ≡ Some e → commit_in bytes ≡ Err e
+stops bytes found stop e fits r is at = within bytes fits ∙ faulty (faults (lines bytes)) (actions_of (lines bytes)) e (none_broken (lines bytes) found stop r is ∙ at)
 
 -- nothing is wrong
 pub stands : (bytes : List ℕ) (found : Found) (stop : Option CommitFault) → length bytes ≤ 2 ^ 24 → AreRead (lines bytes) found stop → None ≡ first_broken [] found.numbers.items found.actions.items → stop ≡ None → commit_in bytes ≡ Ok found.actions.items
@@ -209,6 +202,6 @@ text_case bytes actions true e h =
 pub text_of : (bytes : List ℕ) (actions : List Action) → commit_in bytes ≡ Ok actions → IsCommitText bytes actions
 text_of bytes actions h = text_case bytes actions (nat_le (length bytes) (2 ^ 24)) refl h
 
-pub answer_text : (bytes : List ℕ) (r : Result (List Action) CommitFault) → Answers r (commit_in bytes) → IfOk r (λ commit. IsCommitText bytes commit)
+pub answer_text : (bytes : List ℕ) (r : Result (List Action) NoCommit) → Answers r (commit_in bytes) → IfOk r (λ commit. IsCommitText bytes commit)
 answer_text bytes (Ok actions) is = text_of bytes actions is
 answer_text bytes (Err e) is = tt

@@ -1,5 +1,5 @@
 -- Words for the two passes of the reading: lines up to the first that isn't read, and the rules over their actions.
-use Rattle.std.specs.Prelude.{ℕ, ◌+◌, ◌&&◌, not, List, [], ◌∷◌, ◌++◌, Bool, Option, Some, None, Result, Ok, Err, is_some, if◌then◌else◌}
+use Rattle.std.specs.Prelude.{ℕ, ◌+◌, ◌&&◌, not, List, [], ◌∷◌, Bool, Option, Some, None, Result, Ok, Err, is_some, if◌then◌else◌}
 use Rattle.std.specs.Borrow.{Bor}
 use Rattle.std.specs.BTreeMap.{BTreeMap, get_by}
 use Rattle.std.specs.Ordering.{nat_cmp}
@@ -9,7 +9,6 @@ use Rattle.log_actions.specs.Commits.{has_good_path, is_meta_data, is_protocol}
 use Rattle.log_actions.specs.declared.actions.Action.{Action}
 use Rattle.log_actions.specs.declared.line_fault.LineFault.{LineFault}
 use Rattle.log_commit.specs.Lines.{given}
-use Rattle.log_commit.specs.Texts.{broken_rule}
 use Rattle.log_commit.specs.declared.faults.CommitFault.{CommitFault}
 use Rattle.log_commit.specs.declared.faults.CommitFault.TheVariants as fault
 
@@ -41,16 +40,6 @@ fault_first n (Ok o) rest = rest
 abbrev pub line_fault : ℕ → List (List ℕ) → Option CommitFault
 line_fault n [] = None
 line_fault n (l ∷ ls) = fault_first n (given l) (line_fault (n + 1) ls)
-
-abbrev pub or_else : Option CommitFault → Option CommitFault → Option CommitFault
-or_else (Some e) rest = Some e
-or_else None rest = rest
-
--- the first rule that an action of numbered lines breaks, after those in front
-abbrev pub first_broken : List Action → List ℕ → List Action → Option CommitFault
-first_broken front [] actions = None
-first_broken front (n ∷ ns) [] = None
-first_broken front (n ∷ ns) (a ∷ actions) = or_else (broken_rule n front a) (first_broken (front ++ a ∷ []) ns actions)
 
 -- whether a map has a path
 abbrev pub holds : BTreeMap (Bor (List ℕ)) (Unit {0}) → List ℕ → Bool

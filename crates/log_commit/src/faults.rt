@@ -1,6 +1,6 @@
 // Why bytes are no text of a commit.
 ghost use Rattle.std.specs.Prelude.{◌≡◌};
-ghost use Rattle.log_commit.specs.declared.faults.CommitFault.TheVariants.{NoMemory};
+ghost use Rattle.log_commit.specs.declared.faults.NoCommit.TheVariants.{NoMemory};
 
 use log_actions::LineFault;
 use std::alloc::AllocError;
@@ -21,14 +21,21 @@ pub enum CommitFault {
     BadPath { n: u64 },
     /// Line n is an add or a remove without a deletion vector, and so is an earlier line with its path.
     PathTwice { n: u64 },
-    /// Memory is wanting.
+}
+
+/// Why no commit was read.
+#[derive(Clone, Copy, Debug, PartialEq, Eq)]
+pub enum NoCommit {
+    /// The bytes are no text of a commit.
+    Fault(CommitFault),
+    /// Memory is wanting. It says nothing of the bytes.
     NoMemory,
 }
 
-impl From<AllocError> for CommitFault {
+impl From<AllocError> for NoCommit {
     ghost from_gives = { λ _ e. e ≡ NoMemory };
 
     fn from(_: AllocError) -> Self {
-        CommitFault::NoMemory
+        NoCommit::NoMemory
     }
 }

@@ -8,9 +8,10 @@ mod print;
 mod rules;
 mod text;
 
-pub use faults::CommitFault;
+pub use faults::{CommitFault, NoCommit};
 pub use names::{name_of, version_of};
 pub use print::{bytes_of, text_len};
+pub use rules::commit_from;
 pub use text::{MOST_BYTES, commit_of};
 
 #[cfg(test)]

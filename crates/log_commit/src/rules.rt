@@ -1,12 +1,16 @@
 // The rules that the actions of a commit keep.
-ghost use Rattle.std.specs.Prelude.{◌≡◌, ◌&&◌, ◌||◌, ℕ, List, [], IfOk, OnOk, false, length, bytes_eq, option_map};
+ghost use Rattle.std.specs.Prelude.{◌≡◌, ◌↔◌, ◌&&◌, ◌||◌, ℕ, List, [], Ok, IfOk, OnOk, false, length, bytes_eq, option_map};
+ghost use Rattle.std.specs.List.{range_with_len};
 ghost use Rattle.std.specs.Option.{option_map_or};
+ghost use Rattle.log_actions.specs.Commits.{IsCommit};
 ghost use Rattle.log_actions.specs.Commits as rule;
-ghost use Rattle.log_commit.specs.Passes.{broken, first_broken as first_broken_of, holds};
+ghost use Rattle.log_commit.specs.Passes.{broken, holds};
+ghost use Rattle.log_commit.specs.Rules.{commit_from, first_broken as first_broken_of};
 ghost use Rattle.log_commit.specs.Seen.{Records};
+ghost use Rattle.log_commit.specs.Texts.{Answers};
 
-use crate::CommitFault;
-use log_actions::{Action, is_good_path};
+use crate::{CommitFault, NoCommit};
+use log_actions::{Action, Actions, Commit, is_good_path};
 use std::alloc::{AllocError, Global};
 use std::collections::BTreeMap;
 
@@ -158,4 +162,34 @@ pub(crate) fn first_broken(
         }
     }
     Ok(None)
+}
+
+// The numbers 1 to n.
+fn numbers_to(alloc: Global, n: usize) -> Result<Vec<u64>, AllocError>
+    ensures { IfOk result (λ numbers. numbers.items ≡ range_with_len 1 n) }
+{
+    let mut numbers = Vec::with_capacity(alloc, n)?;
+    for place in 0..n {
+        numbers.push(place as u64 + 1)?;
+    }
+    Ok(numbers)
+}
+
+fn made(alloc: Global, actions: Actions) -> Result<Commit, NoCommit>
+    ensures { Answers result (commit_from actions) }
+{
+    let numbers = numbers_to(alloc, actions.items().len())?;
+    match first_broken(alloc, &numbers, actions.items())? {
+        Some(fault) => Err(NoCommit::Fault(fault)),
+        None => Ok(Commit::of(actions)),
+    }
+}
+
+/// The commit of these actions, in their order, or the first rule that one of them breaks: its
+/// `n` is the action's place among them, counted from 1.
+pub fn commit_from(alloc: Global, actions: Actions) -> Result<Commit, NoCommit>
+    ensures value { Answers result (commit_from actions) }
+    ensures law { (commit_from actions ≡ Ok actions) ↔ IsCommit actions }
+{
+    made(alloc, actions)
 }

@@ -6,7 +6,7 @@ ghost use Rattle.std.specs.Cmp.Lexicographic.{slice_cmp};
 ghost use Rattle.log_actions.specs.declared.actions.Action.{Action};
 ghost use Rattle.log_actions.specs.declared.actions.Action.TheVariants as action;
 
-use crate::refusal::ReplayRefusal;
+use crate::refusal::{NoState, ReplayRefusal};
 use crate::snapshot::{Parts, Snapshot};
 use log_actions::{Action, AddFile, MetaData, Protocol, Txn};
 use std::alloc::{AllocError, Global};
@@ -151,16 +151,16 @@ impl<'a> Held<'a> {
     }
 
     // All that is in force.
-    pub fn parts(&self, alloc: Global) -> Result<Parts<'a>, ReplayRefusal>
+    pub fn parts(&self, alloc: Global) -> Result<Parts<'a>, NoState>
         ensures { (actions : List Action) → Holds self.now actions → AreParts actions result }
     {
         let files = self.files(alloc)?;
         let txns = self.txns(alloc)?;
         let Some(protocol) = self.protocol else {
-            return Err(ReplayRefusal::NoProtocol);
+            return Err(ReplayRefusal::NoProtocol.into());
         };
         let Some(meta) = self.meta else {
-            return Err(ReplayRefusal::NoMetaData);
+            return Err(ReplayRefusal::NoMetaData.into());
         };
         Ok(Parts {
             files,

@@ -14,7 +14,7 @@ mod time_tests;
 mod times;
 
 pub use commits::{advance, replay, replay_ref};
-pub use refusal::{Cause, ReplayRefusal};
+pub use refusal::{Cause, NoState, ReplayRefusal};
 pub use snapshot::{Snapshot, SnapshotRef};
 pub use standing::Support;
 pub use times::{Bound, Mark, Unresolved, mark_of, marks_of, resolve};

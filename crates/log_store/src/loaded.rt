@@ -57,9 +57,9 @@ pub enum BlockCause {
     },
     /// The version is missing below the greatest that the folder names.
     Gap,
-    /// The stored bytes aren't the text of a commit. It is never for want of memory.
+    /// The stored bytes aren't the text of a commit.
     Commit(CommitFault),
-    /// The table isn't read at this version. It is never for want of memory.
+    /// The table isn't read at this version.
     Replay(ReplayRefusal),
     /// The printed texts of versions 0 to this one pass 64 MiB in sum.
     TooLarge,

@@ -2,11 +2,11 @@
 ghost use Rattle.std.specs.Prelude.{◌≡◌};
 ghost use Rattle.log_store.specs.declared.refusal.LoadRefusal.TheVariants as load;
 ghost use Rattle.log_store.specs.declared.refusal.Stop.TheVariants as stop;
-ghost use Rattle.log_store.specs.Refusals.{stop_of_fault, stop_of_refusal};
+ghost use Rattle.log_store.specs.Refusals.{stop_by_commit, stop_by_state};
 
 use crate::loaded::BlockCause;
-use log_commit::CommitFault;
-use log_replay::ReplayRefusal;
+use log_commit::NoCommit;
+use log_replay::NoState;
 use std::alloc::{AllocError, AllocFailed};
 
 /// Why no log was loaded. It says nothing of the log.
@@ -67,24 +67,24 @@ impl<T: Drop> From<AllocFailed<T>> for Stop {
     }
 }
 
-impl From<CommitFault> for Stop {
-    ghost from_gives = { λ fault e. e ≡ stop_of_fault fault };
+impl From<NoCommit> for Stop {
+    ghost from_gives = { λ none e. e ≡ stop_by_commit none };
 
-    fn from(fault: CommitFault) -> Self {
-        match fault {
-            CommitFault::NoMemory => Stop::Failed(LoadRefusal::NoMemory),
-            _ => Stop::Blocked(BlockCause::Commit(fault)),
+    fn from(none: NoCommit) -> Self {
+        match none {
+            NoCommit::Fault(fault) => Stop::Blocked(BlockCause::Commit(fault)),
+            NoCommit::NoMemory => Stop::Failed(LoadRefusal::NoMemory),
         }
     }
 }
 
-impl From<ReplayRefusal> for Stop {
-    ghost from_gives = { λ refusal e. e ≡ stop_of_refusal refusal };
+impl From<NoState> for Stop {
+    ghost from_gives = { λ none e. e ≡ stop_by_state none };
 
-    fn from(refusal: ReplayRefusal) -> Self {
-        match refusal {
-            ReplayRefusal::NoMemory => Stop::Failed(LoadRefusal::NoMemory),
-            _ => Stop::Blocked(BlockCause::Replay(refusal)),
+    fn from(none: NoState) -> Self {
+        match none {
+            NoState::Refusal(refusal) => Stop::Blocked(BlockCause::Replay(refusal)),
+            NoState::NoMemory => Stop::Failed(LoadRefusal::NoMemory),
         }
     }
 }

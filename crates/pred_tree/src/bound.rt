@@ -100,12 +100,8 @@ fn side_of(alloc: Global, leaf: &Leaf, columns: &Columns) -> Result<Side, AllocE
     }
 }
 
-/// The predicate over a table's columns: the type of each column that it names is found once, and
-/// each literal is typed once. It says of each file what [`crate::eval`] says.
-///
-/// # Errors
-///
-/// Want of memory.
+/// The predicate over a table's partition columns: the type of each column that it names is found
+/// once, and each literal is typed once, as the predicate says. The error is want of memory.
 pub fn bind(alloc: Global, pred: &Pred, columns: &Columns) -> Result<BoundPred, AllocError>
     ensures { IfOk result
         (λ b. (values : Values)
@@ -153,7 +149,15 @@ fn bound_each(
 }
 
 impl BoundPred {
-    /// What the predicate says of a file of the table. Takes no memory.
+    /// What the predicate says of a file of the table (Delta Sharing PROTOCOL.md, "JSON predicates
+    /// for Filtering"). Takes no memory.
+    ///
+    /// A comparison is unknown unless both sides have values of one class: truth values (false is
+    /// the lesser), whole numbers, texts (by their bytes) or days. A column has no value to compare
+    /// where it is no partition column, where its type has another class than the predicate gives
+    /// it, and where its text is null or unread. `isNull` is true exactly where a partition column
+    /// is null, and unknown of any other column. `and`, `or` and `not` are Kleene's. Names of
+    /// columns are compared byte by byte.
     pub fn eval(&self, file: &AddFile) -> Truth
         ensures { result ≡ bound_truth file.now.values self.now }
     {

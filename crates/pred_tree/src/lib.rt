@@ -3,7 +3,7 @@
 #![tactic(auto)]
 
 mod bound;
-mod evaluation;
+mod filter;
 mod kinds;
 pub mod laws;
 mod look;
@@ -12,7 +12,7 @@ mod tree;
 mod truth;
 
 pub use bound::{BoundPred, bind};
-pub use evaluation::eval;
+pub use filter::Filter;
 pub use reading::pred_of;
 pub use tree::{Comparison, Leaf, Pred};
 pub use truth::Truth;

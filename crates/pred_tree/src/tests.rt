@@ -1,4 +1,4 @@
-use crate::{Truth, bind, eval, pred_of};
+use crate::{Truth, bind, pred_of};
 use json_tree::{Pair, Pairs, Text};
 use log_actions::{AddFile, FileSize};
 use part_values::{Column, Columns, PartType};
@@ -61,12 +61,12 @@ fn file(alloc: Global, values: Pairs) -> Result<Option<AddFile>, AllocError> {
     }))
 }
 
-// What the predicate says of the file, and what it says once it is bound.
-fn truths(
+// What the predicate says of the file, nothing where it isn't read.
+fn truth_of(
     alloc: Global,
     predicate: &str,
     values: Pairs,
-) -> Result<Option<(Truth, Truth)>, AllocError> {
+) -> Result<Option<Truth>, AllocError> {
     let Some(pred) = pred_of(alloc, predicate)? else {
         return Ok(None);
     };
@@ -75,7 +75,7 @@ fn truths(
     };
     let columns = days(alloc)?;
     let bound = bind(alloc, &pred, &columns)?;
-    Ok(Some((eval(&pred, &columns, &file), bound.eval(&file))))
+    Ok(Some(bound.eval(&file)))
 }
 
 fn says(
@@ -85,8 +85,8 @@ fn says(
     values: Pairs,
     want: Truth,
 ) -> Result<(), AllocError> {
-    let found = truths(alloc, predicate, values)?;
-    assert!(rt; found == Some((want, want)), "at {predicate}");
+    let found = truth_of(alloc, predicate, values)?;
+    assert!(rt; found == Some(want), "at {predicate}");
     Ok(())
 }
 

@@ -4,22 +4,19 @@ use Rattle.std.specs.Prelude.{IfOk, filter}
 use Rattle.std.specs.Arc.{arc_value}
 use Rattle.std.specs.declared.sync.Arc.{Arc}
 use Rattle.log_actions.specs.declared.actions.Action.{Action}
-use Rattle.log_actions.specs.declared.actions.AddFile.{AddFile}
 use Rattle.log_replay.specs.State.{State, state_of}
 use Rattle.log_replay.specs.declared.times.Unresolved.{Unresolved}
-use Rattle.part_values.specs.declared.value.PartType.{PartType}
-use Rattle.pred_tree.specs.Tree.{Tree}
-use Rattle.pred_tree.specs.Truth.{is_listed, is_not_false}
-use Rattle.pred_tree.specs.declared.bound.BoundPred.{BoundPred}
+use Rattle.pred_tree.specs.Listing.{IsFilter, lists, passes}
+use Rattle.pred_tree.specs.declared.filter.Filter.{Filter}
 use Rattle.edge_core.specs.Objects.{Objects, Between}
 use Rattle.log_store.specs.Log.{log_in}
 use Rattle.log_store.specs.declared.loaded.Loaded.{Loaded}
-use Rattle.part_values.specs.Columns.{columns_in}
 use Rattle.share_lines.specs.Lines.{file_line, meta_line, protocol_line}
 use Rattle.share_request.specs.declared.query.QueryBody.{QueryBody}
 use Rattle.std.proofs.lemmas.List.{take-map}
 use Rattle.std.specs.declared.alloc.AllocError.{AllocError}
-use Rattle.share_main.specs.Table.{IsBound, IsLog, files_under, lines_at, lines_in, lines_of_log, lines_of_state, passes, pred_by, state_lines}
+use Rattle.share_main.specs.Table.{lines_at, lines_in, lines_of_log, lines_of_state, pred_by, state_lines}
+use Rattle.share_main.specs.TableSteps.{IsLog}
 use Rattle.share_main.specs.declared.table.LinesFault.{LinesFault}
 
 -- files that pass one test are those that pass another which tells the same
@@ -27,27 +24,16 @@ filter_same : {X : Type 0} (p q : X → Bool) (xs : List X) → ((x : X) → p x
 filter_same p q [] same = refl
 filter_same p q (x ∷ xs) same = rw (same x, filter_same p q xs same) refl
 
-filter_all : {X : Type 0} (xs : List X) → filter (λ x. true) xs ≡ xs
-filter_all [] = refl
-filter_all (x ∷ xs) = ap (λ ys. x ∷ ys) (filter_all xs)
-
--- the files under a predicate whose columns were found
-listed_by : (wanted : Option Tree) (columns : List (List ℕ × PartType)) (bound : Option BoundPred) (files : List AddFile) → IsBound wanted columns bound
-    → files_under bound files ≡ filter (λ file. is_listed wanted columns file.values) files
-listed_by None columns bound files is = ap (λ b. files_under b files) is ∙ sym (filter_all files)
-listed_by (Some t) columns None files is = absurd is
-listed_by (Some t) columns (Some pred) files is = sym (filter_same (λ file. is_listed (Some t) columns file.values) (passes pred) files (λ file. ap is_not_false (sym (is file.values))))
-
 -- a text by another name
 text_is : (text : List ℕ) (wanted : List ℕ) (result : Result (Vec ℕ Global) (AllocError)) → text ≡ wanted → IfOk result (λ t. t.items ≡ text) → IfOk result (λ t. t.items ≡ wanted)
 text_is text wanted (Ok t) same is = is ∙ same
 text_is text wanted (Err e) same is = tt
 
--- the lines of a state under a predicate whose columns were found
-pub state_lines_by : (hint : Option (List ℕ)) (state : State) (bound : Option BoundPred) (result : Result (Vec ℕ Global) AllocError) → IsBound (pred_by hint) (columns_in state.meta.schema state.meta.columns) bound
-    → IfOk result (λ t. t.items ≡ protocol_line ++ meta_line state.meta ++ flat_map file_line (files_under bound state.files)) → IfOk result (λ t. t.items ≡ state_lines hint state)
-state_lines_by hint state bound result is lines =
-    text_is _ (state_lines hint state) result (ap (λ files. protocol_line ++ meta_line state.meta ++ flat_map file_line files) (listed_by (pred_by hint) (columns_in state.meta.schema state.meta.columns) bound state.files is)) lines
+-- the lines of a state under its filter
+pub state_lines_by : (hint : Option (List ℕ)) (state : State) (listing : Filter) (result : Result (Vec ℕ Global) AllocError) → IsFilter (pred_by hint) state.meta listing
+    → IfOk result (λ t. t.items ≡ protocol_line ++ meta_line state.meta ++ flat_map file_line (filter (passes listing) state.files)) → IfOk result (λ t. t.items ≡ state_lines hint state)
+state_lines_by hint state listing result is lines =
+    text_is _ (state_lines hint state) result (ap (λ files. protocol_line ++ meta_line state.meta ++ flat_map file_line files) (filter_same (passes listing) (lists (pred_by hint) state.meta) state.files is)) lines
 
 -- the lines at the version that is meant
 pub at_version : (hint : Option (List ℕ)) (commits front : List (Arc (List Action) Global)) (meant : Result ℕ Unresolved) (version : ℕ) (result : Result (Vec ℕ Global) LinesFault) → meant ≡ Ok version → front ≡ take (version + 1) commits

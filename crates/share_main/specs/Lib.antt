@@ -2,6 +2,7 @@ pub mod Words
 pub mod Ends
 pub mod Query
 pub mod Table
+pub mod TableSteps
 pub mod Outside
 pub mod Run
 pub mod Steps

@@ -1,6 +1,5 @@
 -- The lines of a query's answer, as a function of the store's objects.
-use Rattle.std.specs.Prelude.{◌≡◌, ℕ, ◌+◌, List, ◌++◌, filter, flat_map, take, Option, Some, None, Result, Ok, Err, Vec, Bool, true, false, ⊤}
-use Rattle.std.specs.declared.alloc.Global.{Global}
+use Rattle.std.specs.Prelude.{ℕ, ◌+◌, List, ◌++◌, flat_map, take, Option, Some, None, Result, Ok, Err, false}
 use Rattle.edge_core.specs.Objects.{Objects}
 use Rattle.log_actions.specs.declared.actions.Action.{Action}
 use Rattle.log_actions.specs.declared.actions.AddFile.{AddFile}
@@ -15,22 +14,14 @@ use Rattle.log_store.specs.declared.loaded.Loaded.{Loaded}
 use Rattle.log_store.specs.declared.loaded.Block.{Block}
 use Rattle.log_store.specs.declared.loaded.BlockCause.{BlockCause}
 use Rattle.log_store.specs.declared.loaded.BlockCause.TheVariants as cause
-use Rattle.log_store.specs.declared.refusal.LoadRefusal.{LoadRefusal}
-use Rattle.log_store.specs.declared.refusal.LoadRefusal.TheVariants as load
 use Rattle.share_lines.specs.Lines.{protocol_line, meta_line, file_line}
-use Rattle.part_values.specs.Columns.{columns_in}
 use Rattle.pred_tree.specs.Tree.{Tree}
-use Rattle.pred_tree.specs.Bound.{bound_truth}
 use Rattle.pred_tree.specs.Grammar.{predicate_in}
-use Rattle.pred_tree.specs.Truth.{is_listed, is_not_false, truth}
-use Rattle.pred_tree.specs.declared.bound.BoundPred.{BoundPred}
-use Rattle.part_values.specs.declared.value.PartType.{PartType}
+use Rattle.pred_tree.specs.Listing.{listed}
 use Rattle.share_request.specs.declared.query.QueryBody.{QueryBody}
 use Rattle.share_main.specs.Query.{bound_of}
 use Rattle.share_main.specs.declared.ends.TableRefusal.{TableRefusal}
 use Rattle.share_main.specs.declared.ends.TableRefusal.TheVariants as table
-use Rattle.share_main.specs.declared.table.LinesFault.{LinesFault}
-use Rattle.share_main.specs.declared.table.LinesFault.TheVariants as fault
 
 -- the predicate of a hint: none where no hint is given, and where the text is no predicate
 abbrev pub pred_by : Option (List ℕ) → Option Tree
@@ -39,7 +30,7 @@ pred_by (Some text) = predicate_in text
 
 -- the live files that the predicate doesn't make False, in byte order of path
 abbrev pub listed_files : Option (List ℕ) → State → List AddFile
-listed_files hint state = filter (λ file. is_listed (pred_by hint) (columns_in state.meta.schema state.meta.columns) file.values) state.files
+listed_files hint state = listed (pred_by hint) state.meta state.files
 
 -- protocol, metaData, and the files that are listed
 abbrev pub state_lines : Option (List ℕ) → State → List ℕ
@@ -50,7 +41,6 @@ abbrev pub unsupported_version : ReplayRefusal → ℕ
 unsupported_version replay.NoProtocol = 0
 unsupported_version replay.NoMetaData = 0
 unsupported_version (replay.Unsupported version cause) = version
-unsupported_version replay.NoMemory = 0
 
 abbrev pub refusal_by : ℕ → BlockCause → TableRefusal
 refusal_by version (cause.NeedsCheckpoint lowest) = table.NeedsCheckpoint lowest
@@ -92,49 +82,3 @@ lines_of_log query log = lines_under query log.block log.commits
 -- the lines of the table that answer the query, or why there are none
 abbrev pub lines_in : List ℕ → QueryBody → Objects → Result (List ℕ) TableRefusal
 lines_in location query objects = lines_of_log query (log_in location objects)
-
--- The text is these lines, or there is none. Want of memory says nothing.
-abbrev pub IsLog : Result (List ℕ) TableRefusal → Result (Vec ℕ Global) LinesFault → Type 0
-IsLog said (Ok text) = said ≡ Ok text.items
-IsLog said (Err (fault.Refused why)) = said ≡ Err why
-IsLog said (Err fault.StoreFault) = ⊤
-IsLog said (Err fault.NoMemory) = ⊤
-
-abbrev pub load_fault : LoadRefusal → LinesFault
-load_fault load.StoreFault = fault.StoreFault
-load_fault load.NoMemory = fault.NoMemory
-
-abbrev pub replay_fault : ReplayRefusal → LinesFault
-replay_fault replay.NoProtocol = fault.Refused (table.Unsupported 0)
-replay_fault replay.NoMetaData = fault.Refused (table.Unsupported 0)
-replay_fault (replay.Unsupported version cause) = fault.Refused (table.Unsupported version)
-replay_fault replay.NoMemory = fault.NoMemory
-
--- whether a call of the store failed
-abbrev pub failed_lines : Result (Vec ℕ Global) LinesFault → Bool
-failed_lines (Ok text) = false
-failed_lines (Err (fault.Refused why)) = false
-failed_lines (Err fault.StoreFault) = true
-failed_lines (Err fault.NoMemory) = false
-
--- whether a predicate whose columns were found doesn't make a file False
-abbrev pub passes : BoundPred → AddFile → Bool
-passes pred file = is_not_false (bound_truth file.values pred)
-
--- the files that are listed then
-abbrev pub files_under : Option BoundPred → List AddFile → List AddFile
-files_under None files = files
-files_under (Some pred) files = filter (passes pred) files
-
--- the predicate, its columns found among these; nothing where there is no predicate
-abbrev pub IsBound : Option Tree → List (List ℕ × PartType) → Option BoundPred → Type 0
-IsBound None columns bound = bound ≡ None
-IsBound (Some t) columns None = ⊥
-IsBound (Some t) columns (Some pred) = (values : List (List ℕ × Option (List ℕ))) → bound_truth values pred ≡ truth columns values t
-
--- The version is the one that is meant, or it is said why there is none. Want of memory says nothing.
-abbrev pub IsVersion : Result ℕ Unresolved → Result ℕ LinesFault → Type 0
-IsVersion meant (Ok version) = meant ≡ Ok version
-IsVersion meant (Err (fault.Refused why)) = (refused : Unresolved) × (meant ≡ Err refused) × (why ≡ unresolved_by refused)
-IsVersion meant (Err fault.StoreFault) = ⊥
-IsVersion meant (Err fault.NoMemory) = ⊤

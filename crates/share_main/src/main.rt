@@ -52,5 +52,5 @@ fn main(rt: HostRuntime) -> io::Result<ExitCode> {
         store: FileStore::new(rt.clone()?, folder),
         steps: Steps::<()>::new(),
     };
-    Ok(ExitCode::from(run(rt.alloc(), &words, &mut edge)))
+    Ok(ExitCode::from(run(&rt, rt.alloc(), &words, &mut edge)))
 }

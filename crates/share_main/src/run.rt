@@ -17,6 +17,8 @@ use edge_core::{Name, Sink, Source, Store, write_all};
 use itoa::Buffer;
 use std::alloc::Global;
 use std::marker::Model;
+use std::sync::Wait;
+use std::thread::Threads;
 use step_count::Steps;
 
 /// The outside of the program: its input, its output, the notes on what went wrong, the store
@@ -215,8 +217,10 @@ fn perform_and_tell<S: Source, K: Sink, M: Sink, W: Store, L>(
 /// and its cause. The words are tested first, then the input, then the table. On every status
 /// but 0 and a write fault the output is as it was. Nothing is stored. Where the outside tells
 /// what it holds, no count of faults rose and memory sufficed, the run did what one function of
-/// the words, the input and the stored objects says.
-pub fn run<S: Source, K: Sink, M: Sink, W: Store, L>(
+/// the words, the input and the stored objects says. `rt` makes threads and waits for them: no
+/// command here does.
+pub fn run<R: Threads + Wait + Sync, S: Source, K: Sink, M: Sink, W: Store, L>(
+    _rt: &R,
     alloc: Global,
     words: &[String],
     edge: &mut Edge<S, K, M, W, L>,

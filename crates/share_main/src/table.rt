@@ -7,48 +7,41 @@ ghost use Rattle.share_lines.specs.Lines.{file_line, meta_line, protocol_line};
 ghost use Rattle.std.specs.Arc.{arc_value};
 ghost use Rattle.log_replay.specs.State.{state_of};
 ghost use Rattle.log_replay.specs.Times.{marks_in, resolved};
-ghost use Rattle.part_values.specs.Columns.{columns_in};
+ghost use Rattle.pred_tree.specs.Listing.{IsFilter, passes};
 ghost use Rattle.share_main.specs.Query.{bound_of};
-ghost use Rattle.share_main.specs.Table.{IsBound, IsLog, IsVersion, block_refusal, failed_lines, files_under, lines_in, lines_of_commits, lines_of_log, lines_of_state, load_fault, passes, pred_by, replay_fault, state_lines, unresolved_by};
+ghost use Rattle.share_main.specs.Table.{block_refusal, lines_in, lines_of_commits, lines_of_log, lines_of_state, pred_by, state_lines, unresolved_by, unsupported_version};
+ghost use Rattle.share_main.specs.TableSteps.{IsLog, IsVersion, failed_lines, load_fault, replay_fault};
 ghost use Rattle.share_main.specs.declared.table.LinesFault.TheVariants as fault;
 
 use crate::ends::TableRefusal;
 use edge_core::{Name, Store};
 use json_tree::Text;
 use log_actions::{AddFile, Commit, MetaData};
-use log_replay::{Bound, ReplayRefusal, SnapshotRef, Unresolved, marks_of, replay_ref, resolve};
+use log_replay::{
+    Bound, NoState, ReplayRefusal, SnapshotRef, Unresolved, marks_of, replay_ref, resolve,
+};
 use log_store::{Block, BlockCause, LoadRefusal, Loaded, load};
-use part_values::columns_of;
-use pred_tree::{BoundPred, Truth, bind, pred_of};
+use pred_tree::{Filter, pred_of};
 use share_lines::{push_file, push_meta, push_protocol};
 use share_request::QueryBody;
 use std::alloc::{AllocError, Global};
 use std::sync::Arc;
 use step_count::Steps;
 
-fn push_files(alloc: Global, out: &mut Vec<u8>, snapshot: &SnapshotRef) -> Result<(), AllocError>
-    ensures { OnOk result (out.new.items
-        ≡ out.old.items ++ flat_map file_line snapshot.now.files) }
-{
-    for place in 0..snapshot.len() {
-        push_file(alloc, out, snapshot.file(place))?;
-    }
-    Ok(())
-}
-
-// Pushes the line of a file that the predicate doesn't make False.
+// Pushes the line of a file, if it is listed.
 fn push_if_listed(
     alloc: Global,
     out: &mut Vec<u8>,
     file: &AddFile,
-    pred: &BoundPred,
+    listing: &Filter,
 ) -> Result<(), AllocError>
     ensures { OnOk result (out.new.items
-        ≡ out.old.items ++ flat_map file_line (filter (passes pred.now) (file.now ∷ []))) }
+        ≡ out.old.items ++ flat_map file_line (filter (passes listing.now) (file.now ∷ []))) }
 {
-    match pred.eval(file) {
-        Truth::False => Ok(()),
-        Truth::True | Truth::Unknown => push_file(alloc, out, file),
+    if listing.lists(file) {
+        push_file(alloc, out, file)
+    } else {
+        Ok(())
     }
 }
 
@@ -56,50 +49,30 @@ fn push_listed(
     alloc: Global,
     out: &mut Vec<u8>,
     snapshot: &SnapshotRef,
-    pred: &BoundPred,
+    listing: &Filter,
 ) -> Result<(), AllocError>
     ensures { OnOk result (out.new.items
-        ≡ out.old.items ++ flat_map file_line (filter (passes pred.now) snapshot.now.files)) }
+        ≡ out.old.items ++ flat_map file_line (filter (passes listing.now) snapshot.now.files)) }
 {
     for place in 0..snapshot.len() {
-        push_if_listed(alloc, out, snapshot.file(place), pred)?;
+        push_if_listed(alloc, out, snapshot.file(place), listing)?;
     }
     Ok(())
 }
 
-// The predicate of a hint over the columns of a table, none where the hint is none or no predicate.
-fn bound_pred(
+// The filter of a hint: all files pass where there is none, and where it is no predicate.
+fn filter_by(
     alloc: Global,
     hint: &Option<Text>,
     meta: &MetaData,
-) -> Result<Option<BoundPred>, AllocError>
-    ensures { IfOk result (IsBound (pred_by hint.now) (columns_in meta.now.schema meta.now.columns)) }
+) -> Result<Filter, AllocError>
+    ensures { IfOk result (IsFilter (pred_by hint.now) meta.now) }
 {
-    let Some(text) = hint else {
-        return Ok(None);
+    let pred = match hint {
+        Some(text) => pred_of(alloc, text.as_str())?,
+        None => None,
     };
-    match pred_of(alloc, text.as_str())? {
-        Some(pred) => {
-            let columns = columns_of(alloc, &meta.schema, &meta.columns)?;
-            Ok(Some(bind(alloc, &pred, &columns)?))
-        }
-        None => Ok(None),
-    }
-}
-
-fn push_under(
-    alloc: Global,
-    out: &mut Vec<u8>,
-    snapshot: &SnapshotRef,
-    pred: &Option<BoundPred>,
-) -> Result<(), AllocError>
-    ensures { OnOk result (out.new.items
-        ≡ out.old.items ++ flat_map file_line (files_under pred.now snapshot.now.files)) }
-{
-    match pred {
-        Some(pred) => push_listed(alloc, out, snapshot, pred),
-        None => push_files(alloc, out, snapshot),
-    }
+    Filter::of(alloc, &pred, meta)
 }
 
 // Room for the lines of all files, as a rule: the path stands twice, and quotes in statistics take two bytes.
@@ -121,16 +94,16 @@ fn room_for(snapshot: &SnapshotRef) -> usize {
 
 fn lines_under(
     alloc: Global,
-    pred: &Option<BoundPred>,
+    listing: &Filter,
     snapshot: &SnapshotRef,
 ) -> Result<Vec<u8>, AllocError>
     ensures { IfOk result (λ v. v.items
-        ≡ protocol_line ++ meta_line snapshot.now.meta ++ flat_map file_line (files_under pred.now snapshot.now.files)) }
+        ≡ protocol_line ++ meta_line snapshot.now.meta ++ flat_map file_line (filter (passes listing.now) snapshot.now.files)) }
 {
     let mut out = Vec::with_capacity(alloc, room_for(snapshot))?;
     push_protocol(&mut out)?;
     push_meta(alloc, &mut out, snapshot.meta())?;
-    push_under(alloc, &mut out, snapshot, pred)?;
+    push_listed(alloc, &mut out, snapshot, listing)?;
     Ok(out)
 }
 
@@ -142,8 +115,8 @@ fn snapshot_lines(
 ) -> Result<Vec<u8>, AllocError>
     ensures { IfOk result (λ v. v.items ≡ state_lines hint.now snapshot.now) }
 {
-    let pred = bound_pred(alloc, hint, snapshot.meta())?;
-    lines_under(alloc, &pred, snapshot)
+    let listing = filter_by(alloc, hint, snapshot.meta())?;
+    lines_under(alloc, &listing, snapshot)
 }
 
 /// Why there are no lines of a table.
@@ -176,18 +149,25 @@ impl From<LoadRefusal> for LinesFault {
     }
 }
 
-impl From<ReplayRefusal> for LinesFault {
-    ghost from_gives = { λ refusal e. e ≡ replay_fault refusal };
+// The version that isn't read.
+fn unsupported_version(refusal: ReplayRefusal) -> u64
+    ensures { result ≡ unsupported_version refusal }
+{
+    match refusal {
+        ReplayRefusal::NoProtocol | ReplayRefusal::NoMetaData => 0,
+        ReplayRefusal::Unsupported { version, .. } => version,
+    }
+}
 
-    fn from(refusal: ReplayRefusal) -> Self {
-        match refusal {
-            ReplayRefusal::NoProtocol | ReplayRefusal::NoMetaData => {
-                LinesFault::Refused(TableRefusal::Unsupported { version: 0 })
-            }
-            ReplayRefusal::Unsupported { version, .. } => {
-                LinesFault::Refused(TableRefusal::Unsupported { version })
-            }
-            ReplayRefusal::NoMemory => LinesFault::NoMemory,
+impl From<NoState> for LinesFault {
+    ghost from_gives = { λ none e. e ≡ replay_fault none };
+
+    fn from(none: NoState) -> Self {
+        match none {
+            NoState::Refusal(refusal) => LinesFault::Refused(TableRefusal::Unsupported {
+                version: unsupported_version(refusal),
+            }),
+            NoState::NoMemory => LinesFault::NoMemory,
         }
     }
 }

@@ -4,6 +4,8 @@ use crate::words::{HELP, VERSION};
 use edge_core::{MemSink, MemSource, MemStore, Name, Stored};
 use std::alloc::{AllocError, Global};
 use std::process::Abort;
+use std::sync::Wait;
+use std::thread::Threads;
 use step_count::Steps;
 
 type Memory = Edge<MemSource, MemSink, MemSink, MemStore, ()>;
@@ -135,18 +137,22 @@ fn edge_of(alloc: Global, case: &Case<'_>) -> Result<Memory, AllocError> {
 }
 
 // Runs the case, and looks at the status, the output and the notes.
-fn expect(rt: &impl Abort, alloc: Global, case: &Case<'_>) -> Result<(), AllocError> {
+fn expect<R: Abort + Threads + Wait + Sync>(
+    rt: &R,
+    alloc: Global,
+    case: &Case<'_>,
+) -> Result<(), AllocError> {
     let words = words_of(alloc, case.words)?;
     let output = joined(alloc, case.output)?;
     let mut edge = edge_of(alloc, case)?;
-    assert_eq!(rt; run(alloc, &words, &mut edge), case.status);
+    assert_eq!(rt; run(rt, alloc, &words, &mut edge), case.status);
     assert_eq!(rt; edge.output.bytes(), output.as_slice());
     assert_eq!(rt; edge.notes.bytes(), case.notes.as_bytes());
     Ok(())
 }
 
-pub(crate) fn expect_all(
-    rt: &impl Abort,
+pub(crate) fn expect_all<R: Abort + Threads + Wait + Sync>(
+    rt: &R,
     alloc: Global,
     cases: &[Case<'_>],
 ) -> Result<(), AllocError> {

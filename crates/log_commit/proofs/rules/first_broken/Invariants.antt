@@ -1,5 +1,5 @@
 use Rattle.std.proofs.Common.{◌≡◌, [], take, drop}
-use Rattle.log_commit.specs.Passes.{first_broken}
+use Rattle.log_commit.specs.Rules.{first_broken}
 use Rattle.log_commit.specs.Seen.{Knows}
 use Rattle.log_commit.proofs.rules.first_broken.Given as goal
 

@@ -1,7 +1,7 @@
 use Rattle.std.proofs.Common.{◌≡◌, ◌∙◌, [], None, Some, Ok, sym, ap, arith, length, subst}
 use Rattle.log_actions.specs.Commits.{IsCommit}
 use Rattle.json_print.specs.Lines.{lines}
-use Rattle.log_commit.specs.Passes.{first_broken}
+use Rattle.log_commit.specs.Rules.{first_broken}
 use Rattle.log_commit.proofs.Whole.{breaks, found_commit, found_same, stands, stops}
 use Rattle.log_commit.proofs.text.read_commit.Goals as goal
 

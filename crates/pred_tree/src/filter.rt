@@ -1,0 +1,43 @@
+// Which files of a table a query is answered.
+ghost use Rattle.std.specs.Prelude.{◌≡◌, IfOk, option_map};
+ghost use Rattle.pred_tree.specs.Listing.{IsFilter, passes};
+ghost use Rattle.pred_tree.specs.Tree.{tree};
+
+use crate::{BoundPred, Pred, bind};
+use log_actions::{AddFile, MetaData};
+use part_values::columns_of;
+use std::alloc::{AllocError, Global};
+
+/// Which files of one table a query is answered: those that its predicate doesn't make False, all
+/// where it has none (Delta Sharing PROTOCOL.md, "JSON predicates for Filtering"). The columns were
+/// looked up when it was made.
+#[derive(Drop)]
+pub struct Filter {
+    pred: Option<BoundPred>,
+}
+
+impl Filter {
+    /// The filter of a predicate, or of none, over the partition columns of a table. The error is
+    /// want of memory.
+    pub fn of(alloc: Global, pred: &Option<Pred>, meta: &MetaData) -> Result<Filter, AllocError>
+        ensures { IfOk result (IsFilter (option_map tree pred.now) meta.now) }
+    {
+        let Some(pred) = pred else {
+            return Ok(Filter { pred: None });
+        };
+        let columns = columns_of(alloc, &meta.schema, &meta.columns)?;
+        Ok(Filter {
+            pred: Some(bind(alloc, pred, &columns)?),
+        })
+    }
+
+    /// Whether the file is listed. Takes no memory.
+    pub fn lists(&self, file: &AddFile) -> bool
+        ensures { result ≡ passes self.now file.now }
+    {
+        match &self.pred {
+            Some(pred) => pred.eval(file).is_listed(),
+            None => true,
+        }
+    }
+}

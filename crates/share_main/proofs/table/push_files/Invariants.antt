@@ -1,9 +1,0 @@
-use Rattle.std.proofs.Common.{◌≡◌, ◌++◌, flat_map, length, take}
-use Rattle.share_lines.specs.Lines.{file_line}
-use Rattle.share_main.proofs.table.push_files.Given as goal
-
-abbrev pub invariant-loop-place : goal.invariant-loop-place
-invariant-loop-place l = record {
-  end : l.place-end ≡ length l.snapshot.files;
-  lines : l.out.items ≡ l.fn.out.items ++ flat_map file_line (take l.place l.snapshot.files);
-}
