@@ -3,9 +3,9 @@ ghost use Rattle.std.specs.Prelude.{◌≡◌, ◌↔◌, List, Ok, IfOk};
 ghost use Rattle.log_actions.specs.declared.actions.Action.{Action};
 ghost use Rattle.log_commit.specs.Texts.{Answers, IsCommitText, commit_in};
 
-use crate::{CommitFault, NoCommit};
 use crate::lines::read_lines;
 use crate::rules::first_broken;
+use crate::{CommitFault, NoCommit};
 use log_actions::{Actions, Commit};
 use std::alloc::Global;
 

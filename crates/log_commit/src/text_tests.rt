@@ -177,7 +177,9 @@ fn makes_commits_of_actions(rt: HostRuntime) -> Result<(), Fail> {
 fn adds(alloc: Global) -> Result<String, Fail> {
     let mut text = String::new(alloc);
     for n in 0..2_000u32 {
-        text.push_str(&format!(in alloc; "{{\"add\":{{\"dataChange\":true,\"modificationTime\":7,\"partitionValues\":{{}},\"path\":\"part-{n}\",\"size\":{n}}}}}\n")?)?;
+        text.push_str(&format!(in alloc;
+            "{{\"add\":{{\"dataChange\":true,\"modificationTime\":7,\"partitionValues\":{{}},\"path\":\"part-{n}\",\"size\":{n}}}}}\n"
+        )?)?;
     }
     Ok(text)
 }
