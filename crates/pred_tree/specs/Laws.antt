@@ -1,5 +1,5 @@
 -- Laws of the truth of predicates.
-use Rattle.std.specs.Prelude.{◌≡◌, ◌↔◌, ◌≤◌, ℕ, suc, max, List, Bool, true, false, ◌||◌, Option, Some, None, option_map, bytes_eq}
+use Rattle.std.specs.Prelude.{◌≡◌, ◌↔◌, ◌≤◌, ℕ, suc, max, List, Bool, true, false, ◌||◌, Some, None, option_map, bytes_eq}
 use Rattle.case_table.specs.ValueTypes.{value_row, value_type_of_word}
 use Rattle.json_tree.specs.declared.pairs.Pairs.{Pairs}
 use Rattle.part_values.specs.declared.columns.Columns.{Columns}

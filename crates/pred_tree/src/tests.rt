@@ -62,11 +62,7 @@ fn file(alloc: Global, values: Pairs) -> Result<Option<AddFile>, AllocError> {
 }
 
 // What the predicate says of the file, nothing where it isn't read.
-fn truth_of(
-    alloc: Global,
-    predicate: &str,
-    values: Pairs,
-) -> Result<Option<Truth>, AllocError> {
+fn truth_of(alloc: Global, predicate: &str, values: Pairs) -> Result<Option<Truth>, AllocError> {
     let Some(pred) = pred_of(alloc, predicate)? else {
         return Ok(None);
     };
