@@ -2,5 +2,6 @@ pub mod Fields
 pub mod Lengths
 pub mod Lines
 pub mod Plain
+pub mod TokenLaws
 pub mod Tokens
 pub mod Values
