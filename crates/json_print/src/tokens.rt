@@ -60,7 +60,7 @@ pub trait Tokens {
 
     ghost nothing: { (w : Self) → adds w w [] };
 
-    ghost then: { {a b c : Self} {xs ys : List Token} → adds a b xs → adds b c ys → adds a c (xs ++ ys) };
+    ghost then: { (a b c : Self) (xs ys : List Token) → adds a b xs → adds b c ys → adds a c (xs ++ ys) };
 }
 
 impl Tokens for Writer {
