@@ -1,4 +1,5 @@
 pub mod Fields
+pub mod LengthLaws
 pub mod Lengths
 pub mod Lines
 pub mod Plain

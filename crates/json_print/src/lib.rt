@@ -2,7 +2,6 @@
 //! lines.
 #![tactic(auto)]
 
-mod field_lengths;
 mod fields;
 mod lengths;
 pub mod lines;

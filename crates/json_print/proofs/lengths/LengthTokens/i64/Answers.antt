@@ -5,7 +5,7 @@ use Rattle.std.proofs.lemmas.Int.{to_z-of_z}
 use Rattle.json.specs.Token as token
 use Rattle.json_print.specs.Lengths.{capped}
 use Rattle.json_print.proofs.LengthLemmas.{one_more}
-use Rattle.json_print.proofs.lengths.Length.i64.Goals as goal
+use Rattle.json_print.proofs.lengths.LengthTokens.i64.Goals as goal
 
 pub returns : goal.returns
 returns c =
@@ -13,4 +13,4 @@ returns c =
     let number = simp to_z-of_z at c.format.ensures.text in
     let text = ap length number in
     let same : length c.format.result.now ≡ capped (length (signed_decimal c.args.number)) = omega (arith, text, c.format.ensures.short) in
-    c.longer.ensures ∙ one_more c.args.self (token.number (signed_decimal c.args.number)) _ same
+    c.add.ensures ∙ one_more c.args.self.now (token.number (signed_decimal c.args.number)) _ same
