@@ -1,21 +1,13 @@
 -- The length of a text, token after token.
-use Rattle.std.proofs.Common.{◌≡◌, ℕ, suc, ◌+◌, ◌*◌, ◌^◌, ◌<◌, ◌≤◌, List, [], ◌∷◌, ◌++◌, Bool, true, false, cond, not, ◌&&◌, map, fold, length, get_or, drop, length-append, drop-cons, add-one, refl, sym, ap, ap₂, ◌∙◌, arith}
-use Rattle.std.proofs.lemmas.List.Sums.{fold-append}
+use Rattle.std.proofs.Common.{◌≡◌, ℕ, ◌+◌, ◌*◌, ◌^◌, ◌<◌, ◌≤◌, List, [], ◌∷◌, ◌++◌, Bool, true, false, cond, not, ◌&&◌, fold, length, length-append, refl, ap, ◌∙◌, arith}
 use mir.Val.{bool_byte}
 use Rattle.std.specs.Prelude.{nat_lt}
-use Rattle.json.specs.Token.{Token, begin_object, end_object, boolean, key, string}
+use Rattle.json.specs.Token.{Token, boolean}
 use Rattle.json.specs.Print.{print, print_from, ends, begins, separator, token_text, escape_byte, escape_letter}
-use Rattle.json.proofs.Printed.Tokens.{print_from-append}
 use Rattle.serde_json.specs.Data.{Data}
-use Rattle.serde_json.specs.Written.{compact_text, items_outline, members_outline}
-use Rattle.json.specs.Tree.{items_tokens, members_tokens}
-use Rattle.json_tree.specs.Lists.{pair_of}
-use Rattle.json_tree.specs.declared.pairs.Pair.{Pair}
-use Rattle.json_print.specs.Values.{text_or_null, text_items, pair_members}
+use Rattle.serde_json.specs.Written.{compact_text}
 use Rattle.serde_json.proofs.Texts.{print-outline}
-use Rattle.json_print.specs.Fields.{Field, object_of}
-use Rattle.json_print.specs.Tokens.{value_tokens, field_tokens}
-use Rattle.json_print.proofs.TokenLemmas.{rest_tokens, object_written}
+use Rattle.json_print.specs.Tokens.{value_tokens}
 use Rattle.json_print.specs.Lengths.{Counts, capped, nothing, with_token}
 use Rattle.json_print.specs.declared.lengths.Length.{Length}
 

@@ -1,5 +1,5 @@
 -- Tokens that come in one after another.
-use Rattle.std.proofs.Common.{◌≡◌, ℕ, suc, ◌+◌, ◌<◌, ℤ, pos, negsuc, List, [], ◌∷◌, ◌++◌, length, get_or, drop, map, Some, None, refl, sym, ap, ◌∙◌, append_assoc, drop-cons, add-one}
+use Rattle.std.proofs.Common.{◌≡◌, ℕ, ◌+◌, ◌<◌, ℤ, pos, negsuc, List, [], ◌∷◌, ◌++◌, length, get_or, drop, map, Some, None, refl, sym, ap, ◌∙◌, append_assoc, drop-cons, add-one}
 use Rattle.std.specs.Fmt.{signed_decimal}
 use Rattle.json.specs.Written.{Written}
 use Rattle.json.specs.Token.{Token, begin_object, end_object, key, string}

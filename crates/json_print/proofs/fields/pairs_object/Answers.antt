@@ -1,4 +1,4 @@
-use Rattle.std.proofs.Common.{◌∷◌, [], ◌++◌, ◌∙◌, ap, sym}
+use Rattle.std.proofs.Common.{◌∷◌, ◌++◌}
 use Rattle.json.specs.Token.{key}
 use Rattle.json_tree.specs.declared.pairs.Pair.{Pair}
 use Rattle.json_print.specs.Tokens.{value_tokens}

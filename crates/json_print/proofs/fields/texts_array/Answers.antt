@@ -1,4 +1,4 @@
-use Rattle.std.proofs.Common.{◌∷◌, [], ◌++◌, ◌∙◌, ap, sym}
+use Rattle.std.proofs.Common.{◌∷◌, [], ◌++◌, ◌∙◌}
 use Rattle.json.specs.Token.{string}
 use Rattle.json_print.proofs.TokenLemmas.{next, texts_more}
 use Rattle.json_print.proofs.fields.texts_array.Goals as goal
