@@ -171,7 +171,8 @@ pub fn nonempty_pairs_field<W: Tokens>(
     name: &str,
     pairs: &Pairs,
 ) -> Result<(), W::Error>
-    ensures { OnOk result (W.adds writer.old writer.new (field_tokens (name.now, option_map pairs_value (unless_empty pairs.now)))) }
+    ensures written { OnOk result (W.adds writer.old writer.new (field_tokens (name.now, option_map pairs_value (unless_empty pairs.now)))) }
+    ensures order { OnOk result (IsPairs pairs.now) }
 {
     if pairs.items().is_empty() {
         Ok(())
