@@ -3,6 +3,7 @@
 
 mod actions;
 mod commit;
+mod commit_text;
 mod fields;
 mod line_fault;
 mod lines;
@@ -16,6 +17,8 @@ pub use actions::{
 };
 pub use case_table::Field;
 pub use commit::Commit;
+pub use commit_text::text_len;
+pub use fields::size_at;
 pub use line_fault::LineFault;
 pub use lines::{action_of, action_of_line};
 pub use paths::{is_good_path, path_name};

@@ -25,7 +25,11 @@ use std::alloc::{AllocError, Global};
 // Room for most lines.
 const ROOM: usize = 512;
 
-fn version_field<W: Tokens>(line: &mut W, name: &str, version: ProtocolVersion) -> Result<(), W::Error>
+fn version_field<W: Tokens>(
+    line: &mut W,
+    name: &str,
+    version: ProtocolVersion,
+) -> Result<(), W::Error>
     ensures written { OnOk result (W.adds line.old line.new (field_tokens (name.now, Some (count_value version)))) }
     ensures bound { version < 2 ^ 31 }
 {
