@@ -1,9 +1,8 @@
 -- The text of a commit (Delta Lake PROTOCOL.md, "Delta Log Entries" and "Actions"), and the first fault of bytes that are none.
-use Rattle.std.specs.Prelude.{◌≡◌, ℕ, zero, suc, ◌+◌, ◌^◌, ◌≤◌, ◌&&◌, not, List, [], ◌∷◌, Bool, true, false, Option, Some, None, Result, Ok, Err, filter_map, flat_map, ◌++◌, length, take, slice_index_or, bytes_eq, nat_le, if◌then◌else◌, ⊤}
+use Rattle.std.specs.Prelude.{◌≡◌, ℕ, zero, suc, ◌+◌, ◌^◌, ◌≤◌, ◌&&◌, not, List, [], ◌∷◌, Bool, true, false, Option, Some, None, Result, Ok, Err, filter_map, length, take, slice_index_or, bytes_eq, nat_le, if◌then◌else◌, ⊤}
 use Rattle.std.specs.List.{list_all, list_any}
 use Rattle.std.specs.Option.{option_map_or}
 use Rattle.log_actions.specs.Commits.{IsCommit, counted_path, has_good_path, is_meta_data, is_protocol}
-use Rattle.log_actions.specs.Printing.{line_text}
 use Rattle.log_actions.specs.declared.actions.Action.{Action}
 use Rattle.log_actions.specs.declared.line_fault.LineFault.{LineFault}
 use Rattle.json_print.specs.Lines.{lines}
@@ -66,7 +65,3 @@ Fails e what = what ≡ Err e
 abbrev pub Answers : Result (List Action) CommitFault → Result (List Action) CommitFault → Type 0
 Answers (Ok actions) what = what ≡ Ok actions
 Answers (Err e) what = Fails e what
-
--- the printed text of a commit: each action's line and a line feed
-abbrev pub commit_text : List Action → List ℕ
-commit_text actions = flat_map (λ a. line_text a ++ 10 ∷ []) actions
