@@ -4,31 +4,30 @@ ghost use Rattle.std.specs.Int.{w64};
 ghost use Rattle.json_tree.specs.Pairs.{IsPairs};
 ghost use Rattle.json_tree.specs.Lists.{pair_of};
 ghost use Rattle.serde_json.specs.Data.{boolean, string};
-ghost use Rattle.json_print.specs.Tokens.{Adds, field_tokens, value_tokens};
+ghost use Rattle.json_print.specs.Tokens.{field_tokens, value_tokens};
 ghost use Rattle.json_print.specs.Values.{count_value, pairs_value, text_or_null, texts_value, unless_empty, whole_value};
 
-use json::Writer;
+use crate::Tokens;
 use json_tree::{Pair, Pairs, Text, Texts};
-use std::alloc::AllocError;
 
 /// Writes a field with a text.
 ///
 /// This and each other function here fails where memory is wanting, and then the writer is of no
 /// more use.
-pub fn text_field(writer: &mut Writer, name: &str, text: &Text) -> Result<(), AllocError>
-    ensures { OnOk result (Adds writer.old writer.new (field_tokens (name.now, Some (string text.now)))) }
+pub fn text_field<W: Tokens>(writer: &mut W, name: &str, text: &Text) -> Result<(), W::Error>
+    ensures { OnOk result (W.adds writer.old writer.new (field_tokens (name.now, Some (string text.now)))) }
 {
     writer.key(name)?;
     writer.string(text.as_str())
 }
 
 /// Writes a field with a text, nothing where there is none.
-pub fn optional_text_field(
-    writer: &mut Writer,
+pub fn optional_text_field<W: Tokens>(
+    writer: &mut W,
     name: &str,
     text: &Option<Text>,
-) -> Result<(), AllocError>
-    ensures { OnOk result (Adds writer.old writer.new (field_tokens (name.now, option_map string text.now))) }
+) -> Result<(), W::Error>
+    ensures { OnOk result (W.adds writer.old writer.new (field_tokens (name.now, option_map string text.now))) }
 {
     match text {
         Some(text) => text_field(writer, name, text),
@@ -37,20 +36,20 @@ pub fn optional_text_field(
 }
 
 /// Writes a field with a whole number from 0 on, in decimal.
-pub fn count_field(writer: &mut Writer, name: &str, count: u64) -> Result<(), AllocError>
-    ensures { OnOk result (Adds writer.old writer.new (field_tokens (name.now, Some (count_value count)))) }
+pub fn count_field<W: Tokens>(writer: &mut W, name: &str, count: u64) -> Result<(), W::Error>
+    ensures { OnOk result (W.adds writer.old writer.new (field_tokens (name.now, Some (count_value count)))) }
 {
     writer.key(name)?;
     writer.u64(count)
 }
 
 /// Writes a field with a whole number from 0 on, nothing where there is none.
-pub fn optional_count_field(
-    writer: &mut Writer,
+pub fn optional_count_field<W: Tokens>(
+    writer: &mut W,
     name: &str,
     count: Option<u64>,
-) -> Result<(), AllocError>
-    ensures { OnOk result (Adds writer.old writer.new (field_tokens (name.now, option_map count_value count))) }
+) -> Result<(), W::Error>
+    ensures { OnOk result (W.adds writer.old writer.new (field_tokens (name.now, option_map count_value count))) }
 {
     match count {
         Some(count) => count_field(writer, name, count),
@@ -59,8 +58,8 @@ pub fn optional_count_field(
 }
 
 /// Writes a field with a whole number, in decimal.
-pub fn whole_field(writer: &mut Writer, name: &str, number: i64) -> Result<(), AllocError>
-    ensures written { OnOk result (Adds writer.old writer.new (field_tokens (name.now, Some (whole_value number)))) }
+pub fn whole_field<W: Tokens>(writer: &mut W, name: &str, number: i64) -> Result<(), W::Error>
+    ensures written { OnOk result (W.adds writer.old writer.new (field_tokens (name.now, Some (whole_value number)))) }
     ensures bound { FitsSigned w64 number }
 {
     writer.key(name)?;
@@ -68,12 +67,12 @@ pub fn whole_field(writer: &mut Writer, name: &str, number: i64) -> Result<(), A
 }
 
 /// Writes a field with a whole number, nothing where there is none.
-pub fn optional_whole_field(
-    writer: &mut Writer,
+pub fn optional_whole_field<W: Tokens>(
+    writer: &mut W,
     name: &str,
     number: Option<i64>,
-) -> Result<(), AllocError>
-    ensures written { OnOk result (Adds writer.old writer.new (field_tokens (name.now, option_map whole_value number))) }
+) -> Result<(), W::Error>
+    ensures written { OnOk result (W.adds writer.old writer.new (field_tokens (name.now, option_map whole_value number))) }
     ensures bound { IfSome number (FitsSigned w64) }
 {
     match number {
@@ -83,15 +82,15 @@ pub fn optional_whole_field(
 }
 
 /// Writes a field with a truth value.
-pub fn flag_field(writer: &mut Writer, name: &str, flag: bool) -> Result<(), AllocError>
-    ensures { OnOk result (Adds writer.old writer.new (field_tokens (name.now, Some (boolean flag)))) }
+pub fn flag_field<W: Tokens>(writer: &mut W, name: &str, flag: bool) -> Result<(), W::Error>
+    ensures { OnOk result (W.adds writer.old writer.new (field_tokens (name.now, Some (boolean flag)))) }
 {
     writer.key(name)?;
     writer.boolean(flag)
 }
 
-fn texts_array(writer: &mut Writer, texts: &[Text]) -> Result<(), AllocError>
-    ensures { OnOk result (Adds writer.old writer.new (value_tokens (texts_value texts.now))) }
+fn texts_array<W: Tokens>(writer: &mut W, texts: &[Text]) -> Result<(), W::Error>
+    ensures { OnOk result (W.adds writer.old writer.new (value_tokens (texts_value texts.now))) }
 {
     writer.begin_array()?;
     for text in texts {
@@ -101,20 +100,20 @@ fn texts_array(writer: &mut Writer, texts: &[Text]) -> Result<(), AllocError>
 }
 
 /// Writes a field with an array of texts.
-pub fn texts_field(writer: &mut Writer, name: &str, texts: &Texts) -> Result<(), AllocError>
-    ensures { OnOk result (Adds writer.old writer.new (field_tokens (name.now, Some (texts_value texts.now)))) }
+pub fn texts_field<W: Tokens>(writer: &mut W, name: &str, texts: &Texts) -> Result<(), W::Error>
+    ensures { OnOk result (W.adds writer.old writer.new (field_tokens (name.now, Some (texts_value texts.now)))) }
 {
     writer.key(name)?;
     texts_array(writer, texts.items())
 }
 
 /// Writes a field with an array of texts, nothing where there is none.
-pub fn optional_texts_field(
-    writer: &mut Writer,
+pub fn optional_texts_field<W: Tokens>(
+    writer: &mut W,
     name: &str,
     texts: &Option<Texts>,
-) -> Result<(), AllocError>
-    ensures { OnOk result (Adds writer.old writer.new (field_tokens (name.now, option_map texts_value texts.now))) }
+) -> Result<(), W::Error>
+    ensures { OnOk result (W.adds writer.old writer.new (field_tokens (name.now, option_map texts_value texts.now))) }
 {
     match texts {
         Some(texts) => texts_field(writer, name, texts),
@@ -122,8 +121,8 @@ pub fn optional_texts_field(
     }
 }
 
-fn text_or_null_value(writer: &mut Writer, text: &Option<Text>) -> Result<(), AllocError>
-    ensures { OnOk result (Adds writer.old writer.new (value_tokens (text_or_null text.now))) }
+fn text_or_null_value<W: Tokens>(writer: &mut W, text: &Option<Text>) -> Result<(), W::Error>
+    ensures { OnOk result (W.adds writer.old writer.new (value_tokens (text_or_null text.now))) }
 {
     match text {
         Some(text) => writer.string(text.as_str()),
@@ -131,8 +130,8 @@ fn text_or_null_value(writer: &mut Writer, text: &Option<Text>) -> Result<(), Al
     }
 }
 
-fn pairs_object(writer: &mut Writer, pairs: &[Pair]) -> Result<(), AllocError>
-    ensures { OnOk result (Adds writer.old writer.new (value_tokens (pairs_value (map pair_of pairs.now)))) }
+fn pairs_object<W: Tokens>(writer: &mut W, pairs: &[Pair]) -> Result<(), W::Error>
+    ensures { OnOk result (W.adds writer.old writer.new (value_tokens (pairs_value (map pair_of pairs.now)))) }
 {
     writer.begin_object()?;
     for pair in pairs {
@@ -143,8 +142,8 @@ fn pairs_object(writer: &mut Writer, pairs: &[Pair]) -> Result<(), AllocError>
 }
 
 /// Writes a field with an object of texts and nulls.
-pub fn pairs_field(writer: &mut Writer, name: &str, pairs: &Pairs) -> Result<(), AllocError>
-    ensures written { OnOk result (Adds writer.old writer.new (field_tokens (name.now, Some (pairs_value pairs.now)))) }
+pub fn pairs_field<W: Tokens>(writer: &mut W, name: &str, pairs: &Pairs) -> Result<(), W::Error>
+    ensures written { OnOk result (W.adds writer.old writer.new (field_tokens (name.now, Some (pairs_value pairs.now)))) }
     ensures order { OnOk result (IsPairs pairs.now) }
 {
     writer.key(name)?;
@@ -152,12 +151,12 @@ pub fn pairs_field(writer: &mut Writer, name: &str, pairs: &Pairs) -> Result<(),
 }
 
 /// Writes a field with an object of texts and nulls, nothing where there is none.
-pub fn optional_pairs_field(
-    writer: &mut Writer,
+pub fn optional_pairs_field<W: Tokens>(
+    writer: &mut W,
     name: &str,
     pairs: &Option<Pairs>,
-) -> Result<(), AllocError>
-    ensures written { OnOk result (Adds writer.old writer.new (field_tokens (name.now, option_map pairs_value pairs.now))) }
+) -> Result<(), W::Error>
+    ensures written { OnOk result (W.adds writer.old writer.new (field_tokens (name.now, option_map pairs_value pairs.now))) }
     ensures order { OnOk result (IfSome pairs.now IsPairs) }
 {
     match pairs {
@@ -167,12 +166,13 @@ pub fn optional_pairs_field(
 }
 
 /// Writes a field with an object of texts and nulls, nothing where it would be empty.
-pub fn nonempty_pairs_field(
-    writer: &mut Writer,
+pub fn nonempty_pairs_field<W: Tokens>(
+    writer: &mut W,
     name: &str,
     pairs: &Pairs,
-) -> Result<(), AllocError>
-    ensures { OnOk result (Adds writer.old writer.new (field_tokens (name.now, option_map pairs_value (unless_empty pairs.now)))) }
+) -> Result<(), W::Error>
+    ensures written { OnOk result (W.adds writer.old writer.new (field_tokens (name.now, option_map pairs_value (unless_empty pairs.now)))) }
+    ensures order { OnOk result (IsPairs pairs.now) }
 {
     if pairs.items().is_empty() {
         Ok(())

@@ -1,12 +1,12 @@
 // How long a text is, counted and not printed.
-ghost use Rattle.std.specs.Prelude.{◌≡◌, ◌+◌, ◌≤◌, ◌&&◌, ◌∷◌, [], cond, decimal, length, nat_lt, not};
+ghost use Rattle.std.specs.Prelude.{◌≡◌, ◌+◌, ◌≤◌, ◌&&◌, cond, length, nat_lt, not};
 ghost use Rattle.json.specs.Print.{escape, escape_byte, escape_letter, quoted, token_text};
 ghost use Rattle.json.specs.Token as token;
-ghost use Rattle.json.specs.Token.{key, string};
-ghost use Rattle.std.specs.Fmt.{signed_decimal};
-ghost use Rattle.json_print.specs.Lengths.{capped, counted, nothing};
+ghost use Rattle.json_print.specs.Lengths.{capped, nothing};
 
+use crate::Tokens;
 use itoa::Buffer;
+use std::convert::Infallible;
 
 /// How long a JSON text is, as its tokens are counted one after another: the bytes that a
 /// `json::Writer` would write for them. Nothing is printed, and no memory is taken.
@@ -88,95 +88,77 @@ impl Length {
     }
 
     // One token more, of so many bytes.
-    fn longer(self, begins: bool, bytes: u64, ends: bool) -> Length
-        ensures { result ≡ record { bytes = capped (self.bytes + (cond (self.after_value && begins) 1 0 + bytes)); after_value = ends } }
+    fn add(&mut self, begins: bool, bytes: u64, ends: bool)
+        ensures { self.new ≡ record { bytes = capped (self.old.bytes + (cond (self.old.after_value && begins) 1 0 + bytes)); after_value = ends } }
     {
         let comma = u64::from(self.after_value && begins);
-        Length {
-            bytes: self.bytes.saturating_add(bytes.saturating_add(comma)),
-            after_value: ends,
-        }
+        self.bytes = self.bytes.saturating_add(bytes.saturating_add(comma));
+        self.after_value = ends;
+    }
+}
+
+// It never fails.
+impl Tokens for Length {
+    ghost use Rattle.json_print.specs.Lengths.{Counts};
+    ghost use Rattle.json_print.specs.LengthLaws.{nothing as nothing_counted, then as then_counted};
+
+    type Error = Infallible;
+
+    ghost adds = { Counts };
+
+    ghost nothing = { nothing_counted };
+
+    ghost then = { then_counted };
+
+    fn begin_object(&mut self) -> Result<(), Infallible> {
+        self.add(true, 1, false);
+        Ok(())
     }
 
-    /// With no token.
-    pub fn unchanged(self) -> Length
-        ensures { result ≡ counted self [] }
-    {
-        Length {
-            bytes: self.bytes,
-            after_value: self.after_value,
-        }
+    fn end_object(&mut self) -> Result<(), Infallible> {
+        self.add(false, 1, true);
+        Ok(())
     }
 
-    /// With the beginning of an object.
-    pub fn begin_object(self) -> Length
-        ensures { result ≡ counted self (token.begin_object ∷ []) }
-    {
-        self.longer(true, 1, false)
+    fn begin_array(&mut self) -> Result<(), Infallible> {
+        self.add(true, 1, false);
+        Ok(())
     }
 
-    /// With the end of an object.
-    pub fn end_object(self) -> Length
-        ensures { result ≡ counted self (token.end_object ∷ []) }
-    {
-        self.longer(false, 1, true)
+    fn end_array(&mut self) -> Result<(), Infallible> {
+        self.add(false, 1, true);
+        Ok(())
     }
 
-    /// With the beginning of an array.
-    pub fn begin_array(self) -> Length
-        ensures { result ≡ counted self (token.begin_array ∷ []) }
-    {
-        self.longer(true, 1, false)
+    fn key(&mut self, name: &str) -> Result<(), Infallible> {
+        self.add(true, quoted_len(name).saturating_add(1), false);
+        Ok(())
     }
 
-    /// With the end of an array.
-    pub fn end_array(self) -> Length
-        ensures { result ≡ counted self (token.end_array ∷ []) }
-    {
-        self.longer(false, 1, true)
+    fn string(&mut self, text: &str) -> Result<(), Infallible> {
+        self.add(true, quoted_len(text), true);
+        Ok(())
     }
 
-    /// With a name and its colon.
-    pub fn key(self, name: &str) -> Length
-        ensures { result ≡ counted self (key name.now ∷ []) }
-    {
-        self.longer(true, quoted_len(name).saturating_add(1), false)
-    }
-
-    /// With a text.
-    pub fn string(self, text: &str) -> Length
-        ensures { result ≡ counted self (string text.now ∷ []) }
-    {
-        self.longer(true, quoted_len(text), true)
-    }
-
-    /// With a whole number from 0 on.
-    pub fn u64(self, count: u64) -> Length
-        ensures { result ≡ counted self (token.number (decimal count) ∷ []) }
-    {
+    fn u64(&mut self, count: u64) -> Result<(), Infallible> {
         let mut buffer = Buffer::new();
-        self.longer(true, buffer.format(count).len() as u64, true)
+        self.add(true, buffer.format(count).len() as u64, true);
+        Ok(())
     }
 
-    /// With a whole number.
-    pub fn i64(self, number: i64) -> Length
-        ensures { result ≡ counted self (token.number (signed_decimal number) ∷ []) }
-    {
+    fn i64(&mut self, number: i64) -> Result<(), Infallible> {
         let mut buffer = Buffer::new();
-        self.longer(true, buffer.format(number).len() as u64, true)
+        self.add(true, buffer.format(number).len() as u64, true);
+        Ok(())
     }
 
-    /// With a truth value.
-    pub fn boolean(self, flag: bool) -> Length
-        ensures { result ≡ counted self (token.boolean flag ∷ []) }
-    {
-        self.longer(true, flag_len(flag), true)
+    fn boolean(&mut self, flag: bool) -> Result<(), Infallible> {
+        self.add(true, flag_len(flag), true);
+        Ok(())
     }
 
-    /// With null.
-    pub fn null(self) -> Length
-        ensures { result ≡ counted self (token.null ∷ []) }
-    {
-        self.longer(true, 4, true)
+    fn null(&mut self) -> Result<(), Infallible> {
+        self.add(true, 4, true);
+        Ok(())
     }
 }

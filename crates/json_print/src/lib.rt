@@ -2,11 +2,11 @@
 //! lines.
 #![tactic(auto)]
 
-mod field_lengths;
 mod fields;
 mod lengths;
 pub mod lines;
 mod text;
+mod tokens;
 
 pub use fields::{
     count_field, flag_field, nonempty_pairs_field, optional_count_field, optional_pairs_field,
@@ -15,6 +15,7 @@ pub use fields::{
 };
 pub use lengths::Length;
 pub use text::{begin_object, end_object, new_writer, printed};
+pub use tokens::Tokens;
 
 #[cfg(test)]
 mod line_tests;

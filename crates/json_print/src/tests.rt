@@ -1,12 +1,10 @@
 // Objects as RFC 8259 gives them, written by hand.
-ghost use Rattle.std.specs.Prelude.{◌≡◌, OnOk};
-
 use crate::{
-    Length, begin_object, count_field, end_object, flag_field, new_writer, nonempty_pairs_field,
-    optional_count_field, optional_pairs_field, optional_text_field, optional_texts_field,
-    optional_whole_field, pairs_field, printed, text_field, texts_field, whole_field,
+    Length, Tokens, begin_object, count_field, end_object, flag_field, new_writer,
+    nonempty_pairs_field, optional_count_field, optional_pairs_field, optional_text_field,
+    optional_texts_field, optional_whole_field, pairs_field, printed, text_field, texts_field,
+    whole_field,
 };
-use json::Writer;
 use json_tree::{Pair, Pairs, Text, Texts};
 use std::alloc::{AllocError, Global};
 use std::test::Fail;
@@ -41,48 +39,100 @@ fn pairs(alloc: Global) -> Result<Option<Pairs>, AllocError> {
     Ok(Pairs::of(items))
 }
 
-fn write_filled(alloc: Global, line: &mut Writer, of: &Pairs) -> Result<(), AllocError>
-    ensures { OnOk result (line.new.before ≡ line.old.before) }
-{
-    begin_object(line)?;
+fn letters(alloc: Global, count: usize) -> Result<Text, AllocError> {
+    let mut text = String::new(alloc);
+    for _ in 0..count {
+        text.push('a')?;
+    }
+    Ok(Text::of(text))
+}
+
+fn columns(alloc: Global, count: usize) -> Result<Texts, AllocError> {
+    let mut items = Vec::new(alloc);
+    for _ in 0..count {
+        items.push(text(alloc, "c")?)?;
+    }
+    Ok(Texts::of(items))
+}
+
+fn filled<W: Tokens>(
+    line: &mut W,
+    list: &Texts,
+    pairs: &Pairs,
+    text: &Text,
+) -> Result<(), W::Error> {
+    line.begin_object()?;
     count_field(line, "count", u64::MAX)?;
     flag_field(line, "flag", false)?;
-    texts_field(line, "list", &list(alloc)?)?;
-    pairs_field(line, "pairs", of)?;
-    text_field(line, "text", &text(alloc, "\"\\\n\u{1}/\u{e9}")?)?;
+    texts_field(line, "list", list)?;
+    pairs_field(line, "pairs", pairs)?;
+    text_field(line, "text", text)?;
     whole_field(line, "whole", i64::MIN)?;
-    end_object(line)
+    line.end_object()
 }
 
-fn write_absent(alloc: Global, line: &mut Writer) -> Result<(), AllocError>
-    ensures { OnOk result (line.new.before ≡ line.old.before) }
-{
-    begin_object(line)?;
-    optional_count_field(line, "count", None)?;
-    optional_texts_field(line, "list", &None)?;
-    optional_pairs_field(line, "pairs", &None)?;
-    nonempty_pairs_field(line, "some", &Pairs::new(alloc))?;
-    optional_text_field(line, "text", &None)?;
-    optional_whole_field(line, "whole", None)?;
-    end_object(line)
+// What may be absent.
+#[derive(Drop)]
+struct Values {
+    count: Option<u64>,
+    list: Option<Texts>,
+    pairs: Option<Pairs>,
+    some: Pairs,
+    text: Option<Text>,
+    whole: Option<i64>,
 }
 
-fn write_optional(
-    alloc: Global,
-    line: &mut Writer,
-    of: &Option<Pairs>,
-    some: &Pairs,
-) -> Result<(), AllocError>
-    ensures { OnOk result (line.new.before ≡ line.old.before) }
-{
-    begin_object(line)?;
-    optional_count_field(line, "count", Some(0))?;
-    optional_texts_field(line, "list", &Some(Texts::of(Vec::new(alloc))))?;
-    optional_pairs_field(line, "pairs", of)?;
-    nonempty_pairs_field(line, "some", some)?;
-    optional_text_field(line, "text", &Some(text(alloc, "")?))?;
-    optional_whole_field(line, "whole", Some(7))?;
-    end_object(line)
+fn absent(alloc: Global) -> Values {
+    Values {
+        count: None,
+        list: None,
+        pairs: None,
+        some: Pairs::new(alloc),
+        text: None,
+        whole: None,
+    }
+}
+
+fn present(alloc: Global) -> Result<Option<Values>, AllocError> {
+    let Some(some) = pairs(alloc)? else {
+        return Ok(None);
+    };
+    Ok(Some(Values {
+        count: Some(0),
+        list: Some(Texts::of(Vec::new(alloc))),
+        pairs: pairs(alloc)?,
+        some,
+        text: Some(text(alloc, "")?),
+        whole: Some(7),
+    }))
+}
+
+fn optional<W: Tokens>(line: &mut W, of: &Values) -> Result<(), W::Error> {
+    line.begin_object()?;
+    optional_count_field(line, "count", of.count)?;
+    optional_texts_field(line, "list", &of.list)?;
+    optional_pairs_field(line, "pairs", &of.pairs)?;
+    nonempty_pairs_field(line, "some", &of.some)?;
+    optional_text_field(line, "text", &of.text)?;
+    optional_whole_field(line, "whole", of.whole)?;
+    line.end_object()
+}
+
+// Whether the text is printed of the values, and its length counted.
+fn fills(alloc: Global, list: &Texts, pairs: &Pairs, text: &Text) -> Result<bool, AllocError> {
+    let mut line = new_writer(alloc, 0)?;
+    filled(&mut line, list, pairs, text)?;
+    let mut length = Length::new();
+    let Ok(()) = filled(&mut length, list, pairs, text);
+    Ok(line.into_inner().as_slice() == FILLED.as_bytes() && length.bytes == FILLED.len() as u64)
+}
+
+fn is_printed(alloc: Global, of: &Values, wanted: &str) -> Result<bool, AllocError> {
+    let mut line = new_writer(alloc, 2)?;
+    optional(&mut line, of)?;
+    let mut length = Length::new();
+    let Ok(()) = optional(&mut length, of);
+    Ok(line.into_inner().as_slice() == wanted.as_bytes() && length.bytes == wanted.len() as u64)
 }
 
 #[test]
@@ -91,71 +141,53 @@ fn prints_each_kind(rt: HostRuntime) -> Result<(), Fail> {
     let Some(of) = pairs(alloc)? else {
         return Err(Fail::from("no pairs"));
     };
-    let mut line = new_writer(alloc, 0)?;
-    write_filled(alloc, &mut line, &of)?;
-    assert_eq!(rt; printed(line).as_str(), FILLED);
-    Ok(())
-}
-
-#[test]
-fn leaves_out_what_is_absent(rt: HostRuntime) -> Result<(), Fail> {
-    let alloc = rt.alloc();
-    let mut line = new_writer(alloc, 2)?;
-    write_absent(alloc, &mut line)?;
-    assert_eq!(rt; printed(line).as_str(), "{}");
+    let text = text(alloc, "\"\\\n\u{1}/\u{e9}")?;
+    assert!(rt; fills(alloc, &list(alloc)?, &of, &text)?);
     Ok(())
 }
 
 #[test]
 fn prints_what_is_there(rt: HostRuntime) -> Result<(), Fail> {
     let alloc = rt.alloc();
-    let of = pairs(alloc)?;
-    let Some(some) = pairs(alloc)? else {
+    assert!(rt; is_printed(alloc, &absent(alloc), "{}")?);
+    let Some(of) = present(alloc)? else {
         return Err(Fail::from("no pairs"));
     };
-    let mut line = new_writer(alloc, 2)?;
-    write_optional(alloc, &mut line, &of, &some)?;
-    assert_eq!(rt; printed(line).as_str(), OPTIONAL);
+    assert!(rt; is_printed(alloc, &of, OPTIONAL)?);
     Ok(())
 }
 
-fn length(alloc: Global, of: &Pairs) -> Result<u64, AllocError> {
-    let line = Length::new()
-        .begin_object()
-        .count_field("count", u64::MAX)
-        .flag_field("flag", false)
-        .texts_field("list", &list(alloc)?)
-        .pairs_field("pairs", of)
-        .text_field("text", &text(alloc, "\"\\\n\u{1}/\u{e9}")?)
-        .whole_field("whole", i64::MIN);
-    Ok(line.end_object().bytes)
+fn large<W: Tokens>(line: &mut W, list: &Texts, text: &Text) -> Result<(), W::Error> {
+    line.begin_object()?;
+    texts_field(line, "list", list)?;
+    text_field(line, "text", text)?;
+    line.end_object()
 }
 
-fn optional_length(
-    alloc: Global,
-    of: &Option<Pairs>,
-    list: &Option<Texts>,
-) -> Result<u64, AllocError> {
-    let line = Length::new()
-        .begin_object()
-        .optional_texts_field("list", list)
-        .optional_pairs_field("pairs", of)
-        .optional_text_field("text", &Some(text(alloc, "")?))
-        .optional_whole_field("whole", Some(7));
-    Ok(line.end_object().bytes)
+fn large_lengths(alloc: Global) -> Result<(usize, u64), AllocError> {
+    let list = columns(alloc, 200)?;
+    let text = letters(alloc, 1 << 20)?;
+    let mut line = new_writer(alloc, 0)?;
+    large(&mut line, &list, &text)?;
+    let mut length = Length::new();
+    let Ok(()) = large(&mut length, &list, &text);
+    Ok((line.into_inner().len(), length.bytes))
+}
+
+// {"list":["c", 200 times .. ],"text":" a, 2^20 times "}
+#[test]
+fn prints_much(rt: HostRuntime) -> Result<(), Fail> {
+    let (printed, counted) = large_lengths(rt.alloc())?;
+    assert_eq!(rt; printed, 9 + 799 + 10 + (1 << 20) + 2);
+    assert_eq!(rt; counted, 9 + 799 + 10 + (1 << 20) + 2);
+    Ok(())
 }
 
 #[test]
-fn counts_what_is_printed(rt: HostRuntime) -> Result<(), Fail> {
-    let alloc = rt.alloc();
-    let Some(of) = pairs(alloc)? else {
-        return Err(Fail::from("no pairs"));
-    };
-    assert_eq!(rt; length(alloc, &of)?, FILLED.len() as u64);
-    let wanted = "{\"pairs\":{\"k\":null,\"l\":\"v\"},\"text\":\"\",\"whole\":7}";
-    assert_eq!(rt;
-        optional_length(alloc, &Some(of), &None)?,
-        wanted.len() as u64
-    );
+fn prints_an_object(rt: HostRuntime) -> Result<(), Fail> {
+    let mut line = new_writer(rt.alloc(), 2)?;
+    begin_object(&mut line)?;
+    end_object(&mut line)?;
+    assert_eq!(rt; printed(line).as_str(), "{}");
     Ok(())
 }

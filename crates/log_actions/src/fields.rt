@@ -121,7 +121,8 @@ fn version_of(number: i64) -> Option<ProtocolVersion>
     ProtocolVersion::of(number)
 }
 
-/// A number of bytes.
+/// The field of that name as a number of bytes: none where it is absent or null. The fault is that it is
+/// no whole number from 0 to 2^63 - 1.
 pub fn size_at(object: &Value, name: &str) -> Result<Option<FileSize>, FieldFault>
     ensures { result ≡ field (count (2 ^ 63)) name.now (view object.now) }
 {

@@ -3,9 +3,9 @@
 
 mod actions;
 mod commit;
+mod commit_text;
 mod fields;
 mod line_fault;
-mod line_length;
 mod lines;
 mod paths;
 mod printing;
@@ -17,11 +17,12 @@ pub use actions::{
 };
 pub use case_table::Field;
 pub use commit::Commit;
+pub use commit_text::text_len;
+pub use fields::size_at;
 pub use line_fault::LineFault;
-pub use line_length::line_len;
 pub use lines::{action_of, action_of_line};
 pub use paths::{is_good_path, path_name};
-pub use printing::line_of_action;
+pub use printing::{line_len, line_of_action};
 pub use ranges::{CommitTime, FileSize, ProtocolVersion};
 
 #[cfg(test)]

@@ -1,7 +1,8 @@
 // The line of an action.
-ghost use Rattle.std.specs.Prelude.{◌≡◌, ◌<◌, ◌^◌, Ok, Some, IfOk, IfSome, OnOk, codes, false, option_map};
+ghost use Rattle.std.specs.Prelude.{◌≡◌, ◌<◌, ◌^◌, Ok, Some, IfOk, IfSome, OnOk, codes, false, length, option_map};
 ghost use Rattle.json_print.specs.Fields.{object_of};
-ghost use Rattle.json_print.specs.Tokens.{Adds, field_tokens, value_tokens};
+ghost use Rattle.json_print.specs.Lengths.{capped};
+ghost use Rattle.json_print.specs.Tokens.{field_tokens, value_tokens};
 ghost use Rattle.json_print.specs.Values.{count_value};
 ghost use Rattle.log_actions.specs.Kept.{Kept, KeptAdd, KeptCdc, KeptCommitInfo, KeptMetaData, KeptProtocol, KeptRemove, KeptTxn};
 ghost use Rattle.log_actions.specs.Lines.{action_at};
@@ -13,11 +14,10 @@ use crate::{
     Action, AddFile, CdcFile, CommitInfo, CommitTime, FileSize, Format, MetaData, Protocol,
     ProtocolVersion, RemoveFile, Txn,
 };
-use json::Writer;
 use json_print::{
-    begin_object, count_field, end_object, flag_field, new_writer, optional_pairs_field,
-    optional_text_field, optional_texts_field, optional_whole_field, pairs_field, printed,
-    text_field, texts_field, whole_field,
+    Length, Tokens, count_field, flag_field, new_writer, optional_pairs_field, optional_text_field,
+    optional_texts_field, optional_whole_field, pairs_field, printed, text_field, texts_field,
+    whole_field,
 };
 use json_tree::Text;
 use std::alloc::{AllocError, Global};
@@ -25,22 +25,26 @@ use std::alloc::{AllocError, Global};
 // Room for most lines.
 const ROOM: usize = 512;
 
-fn version_field(line: &mut Writer, name: &str, version: ProtocolVersion) -> Result<(), AllocError>
-    ensures written { OnOk result (Adds line.old line.new (field_tokens (name.now, Some (count_value version)))) }
+fn version_field<W: Tokens>(
+    line: &mut W,
+    name: &str,
+    version: ProtocolVersion,
+) -> Result<(), W::Error>
+    ensures written { OnOk result (W.adds line.old line.new (field_tokens (name.now, Some (count_value version)))) }
     ensures bound { version < 2 ^ 31 }
 {
     count_field(line, name, version.get().into())
 }
 
-fn size_field(line: &mut Writer, size: FileSize) -> Result<(), AllocError>
-    ensures written { OnOk result (Adds line.old line.new (field_tokens (codes "size", Some (count_value size)))) }
+fn size_field<W: Tokens>(line: &mut W, size: FileSize) -> Result<(), W::Error>
+    ensures written { OnOk result (W.adds line.old line.new (field_tokens (codes "size", Some (count_value size)))) }
     ensures bound { size < 2 ^ 63 }
 {
     count_field(line, "size", size.get())
 }
 
-fn optional_size_field(line: &mut Writer, size: Option<FileSize>) -> Result<(), AllocError>
-    ensures written { OnOk result (Adds line.old line.new (field_tokens (codes "size", option_map count_value size))) }
+fn optional_size_field<W: Tokens>(line: &mut W, size: Option<FileSize>) -> Result<(), W::Error>
+    ensures written { OnOk result (W.adds line.old line.new (field_tokens (codes "size", option_map count_value size))) }
     ensures bound { IfSome size (λ n. n < 2 ^ 63) }
 {
     match size {
@@ -49,8 +53,8 @@ fn optional_size_field(line: &mut Writer, size: Option<FileSize>) -> Result<(), 
     }
 }
 
-fn optional_time_field(line: &mut Writer, time: Option<CommitTime>) -> Result<(), AllocError>
-    ensures written { OnOk result (Adds line.old line.new (field_tokens (codes "timestamp", option_map count_value time))) }
+fn optional_time_field<W: Tokens>(line: &mut W, time: Option<CommitTime>) -> Result<(), W::Error>
+    ensures written { OnOk result (W.adds line.old line.new (field_tokens (codes "timestamp", option_map count_value time))) }
     ensures bound { IfSome time (λ n. n < times_end) }
 {
     match time {
@@ -59,33 +63,33 @@ fn optional_time_field(line: &mut Writer, time: Option<CommitTime>) -> Result<()
     }
 }
 
-fn protocol_object(line: &mut Writer, protocol: &Protocol) -> Result<(), AllocError>
-    ensures written { OnOk result (Adds line.old line.new (value_tokens (object_of (protocol_fields protocol.now)))) }
+fn protocol_object<W: Tokens>(line: &mut W, protocol: &Protocol) -> Result<(), W::Error>
+    ensures written { OnOk result (W.adds line.old line.new (value_tokens (object_of (protocol_fields protocol.now)))) }
     ensures kept { OnOk result (KeptProtocol protocol.now) }
 {
-    begin_object(line)?;
+    line.begin_object()?;
     version_field(line, "minReaderVersion", protocol.min_reader)?;
     version_field(line, "minWriterVersion", protocol.min_writer)?;
     optional_texts_field(line, "readerFeatures", &protocol.reader_features)?;
     optional_texts_field(line, "writerFeatures", &protocol.writer_features)?;
-    end_object(line)
+    line.end_object()
 }
 
-fn format_object(line: &mut Writer, format: &Format) -> Result<(), AllocError>
-    ensures written { OnOk result (Adds line.old line.new (value_tokens (object_of (format_fields format.now)))) }
+fn format_object<W: Tokens>(line: &mut W, format: &Format) -> Result<(), W::Error>
+    ensures written { OnOk result (W.adds line.old line.new (value_tokens (object_of (format_fields format.now)))) }
     ensures kept { OnOk result (IsPairs format.now.options) }
 {
-    begin_object(line)?;
+    line.begin_object()?;
     pairs_field(line, "options", &format.options)?;
     text_field(line, "provider", &format.provider)?;
-    end_object(line)
+    line.end_object()
 }
 
-fn meta_data_object(line: &mut Writer, meta: &MetaData) -> Result<(), AllocError>
-    ensures written { OnOk result (Adds line.old line.new (value_tokens (object_of (meta_data_fields meta.now)))) }
+fn meta_data_object<W: Tokens>(line: &mut W, meta: &MetaData) -> Result<(), W::Error>
+    ensures written { OnOk result (W.adds line.old line.new (value_tokens (object_of (meta_data_fields meta.now)))) }
     ensures kept { OnOk result (KeptMetaData meta.now) }
 {
-    begin_object(line)?;
+    line.begin_object()?;
     pairs_field(line, "configuration", &meta.configuration)?;
     optional_whole_field(line, "createdTime", meta.created)?;
     optional_text_field(line, "description", &meta.description)?;
@@ -95,14 +99,14 @@ fn meta_data_object(line: &mut Writer, meta: &MetaData) -> Result<(), AllocError
     optional_text_field(line, "name", &meta.name)?;
     texts_field(line, "partitionColumns", &meta.columns)?;
     text_field(line, "schemaString", &meta.schema)?;
-    end_object(line)
+    line.end_object()
 }
 
-fn add_object(line: &mut Writer, file: &AddFile) -> Result<(), AllocError>
-    ensures written { OnOk result (Adds line.old line.new (value_tokens (object_of (add_fields file.now)))) }
+fn add_object<W: Tokens>(line: &mut W, file: &AddFile) -> Result<(), W::Error>
+    ensures written { OnOk result (W.adds line.old line.new (value_tokens (object_of (add_fields file.now)))) }
     ensures kept { OnOk result (KeptAdd file.now) }
 {
-    begin_object(line)?;
+    line.begin_object()?;
     flag_field(line, "dataChange", file.data_change)?;
     whole_field(line, "modificationTime", file.modified)?;
     pairs_field(line, "partitionValues", &file.values)?;
@@ -110,55 +114,55 @@ fn add_object(line: &mut Writer, file: &AddFile) -> Result<(), AllocError>
     size_field(line, file.size)?;
     optional_text_field(line, "stats", &file.stats)?;
     optional_pairs_field(line, "tags", &file.tags)?;
-    end_object(line)
+    line.end_object()
 }
 
-fn remove_object(line: &mut Writer, file: &RemoveFile) -> Result<(), AllocError>
-    ensures written { OnOk result (Adds line.old line.new (value_tokens (object_of (remove_fields file.now)))) }
+fn remove_object<W: Tokens>(line: &mut W, file: &RemoveFile) -> Result<(), W::Error>
+    ensures written { OnOk result (W.adds line.old line.new (value_tokens (object_of (remove_fields file.now)))) }
     ensures kept { OnOk result (KeptRemove file.now) }
 {
-    begin_object(line)?;
+    line.begin_object()?;
     flag_field(line, "dataChange", file.data_change)?;
     optional_whole_field(line, "deletionTimestamp", file.deleted)?;
     optional_pairs_field(line, "partitionValues", &file.values)?;
     text_field(line, "path", &file.path)?;
     optional_size_field(line, file.size)?;
-    end_object(line)
+    line.end_object()
 }
 
-fn cdc_object(line: &mut Writer, file: &CdcFile) -> Result<(), AllocError>
-    ensures written { OnOk result (Adds line.old line.new (value_tokens (object_of (cdc_fields file.now)))) }
+fn cdc_object<W: Tokens>(line: &mut W, file: &CdcFile) -> Result<(), W::Error>
+    ensures written { OnOk result (W.adds line.old line.new (value_tokens (object_of (cdc_fields file.now)))) }
     ensures kept { OnOk result (KeptCdc file.now) }
 {
-    begin_object(line)?;
+    line.begin_object()?;
     flag_field(line, "dataChange", false)?;
     pairs_field(line, "partitionValues", &file.values)?;
     text_field(line, "path", &file.path)?;
     size_field(line, file.size)?;
-    end_object(line)
+    line.end_object()
 }
 
-fn txn_object(line: &mut Writer, txn: &Txn) -> Result<(), AllocError>
-    ensures written { OnOk result (Adds line.old line.new (value_tokens (object_of (txn_fields txn.now)))) }
+fn txn_object<W: Tokens>(line: &mut W, txn: &Txn) -> Result<(), W::Error>
+    ensures written { OnOk result (W.adds line.old line.new (value_tokens (object_of (txn_fields txn.now)))) }
     ensures kept { OnOk result (KeptTxn txn.now) }
 {
-    begin_object(line)?;
+    line.begin_object()?;
     text_field(line, "appId", &txn.app)?;
     optional_whole_field(line, "lastUpdated", txn.updated)?;
     whole_field(line, "version", txn.version)?;
-    end_object(line)
+    line.end_object()
 }
 
-fn commit_info_object(line: &mut Writer, info: &CommitInfo) -> Result<(), AllocError>
-    ensures written { OnOk result (Adds line.old line.new (value_tokens (object_of (commit_info_fields info.now)))) }
+fn commit_info_object<W: Tokens>(line: &mut W, info: &CommitInfo) -> Result<(), W::Error>
+    ensures written { OnOk result (W.adds line.old line.new (value_tokens (object_of (commit_info_fields info.now)))) }
     ensures kept { OnOk result (KeptCommitInfo info.now) }
 {
-    begin_object(line)?;
+    line.begin_object()?;
     optional_time_field(line, info.timestamp)?;
-    end_object(line)
+    line.end_object()
 }
 
-pub fn name_of(action: &Action) -> &'static str
+fn name_of(action: &Action) -> &'static str
     ensures { result.now ≡ action_name action.now }
 {
     match action {
@@ -172,8 +176,8 @@ pub fn name_of(action: &Action) -> &'static str
     }
 }
 
-fn value_object(line: &mut Writer, action: &Action) -> Result<(), AllocError>
-    ensures written { OnOk result (Adds line.old line.new (value_tokens (object_of (action_fields action.now)))) }
+fn value_object<W: Tokens>(line: &mut W, action: &Action) -> Result<(), W::Error>
+    ensures written { OnOk result (W.adds line.old line.new (value_tokens (object_of (action_fields action.now)))) }
     ensures kept { OnOk result (Kept action.now) }
 {
     match action {
@@ -187,14 +191,14 @@ fn value_object(line: &mut Writer, action: &Action) -> Result<(), AllocError>
     }
 }
 
-fn action_object(line: &mut Writer, action: &Action) -> Result<(), AllocError>
-    ensures written { OnOk result (Adds line.old line.new (value_tokens (action_data action.now))) }
+fn action_object<W: Tokens>(line: &mut W, action: &Action) -> Result<(), W::Error>
+    ensures written { OnOk result (W.adds line.old line.new (value_tokens (action_data action.now))) }
     ensures kept { OnOk result (Kept action.now) }
 {
-    begin_object(line)?;
+    line.begin_object()?;
     line.key(name_of(action))?;
     value_object(line, action)?;
-    end_object(line)
+    line.end_object()
 }
 
 /// The line of an action, without a line feed: a compact JSON object with the action's name alone,
@@ -208,4 +212,14 @@ pub fn line_of_action(alloc: Global, action: &Action) -> Result<Text, AllocError
     let mut line = new_writer(alloc, ROOM)?;
     action_object(&mut line, action)?;
     Ok(Text::of(printed(line)))
+}
+
+/// How many bytes `line_of_action` writes for an action: 2^64 - 1 where they are more. It takes no
+/// memory, and goes over each text of the action once.
+pub fn line_len(action: &Action) -> u64
+    ensures { result ≡ capped (length (line_text action.now)) }
+{
+    let mut length = Length::new();
+    let Ok(()) = action_object(&mut length, action);
+    length.bytes
 }

@@ -1,8 +1,7 @@
 -- The text of a commit (Delta Lake PROTOCOL.md, "Delta Log Entries" and "Actions"), and the first fault of bytes that are none.
-use Rattle.std.specs.Prelude.{◌≡◌, ℕ, zero, suc, ◌+◌, ◌^◌, ◌≤◌, List, [], ◌∷◌, true, Option, Some, None, Result, Ok, Err, filter_map, flat_map, ◌++◌, length, take, slice_index_or, nat_le, if◌then◌else◌, ⊤}
+use Rattle.std.specs.Prelude.{◌≡◌, ℕ, zero, suc, ◌+◌, ◌^◌, ◌≤◌, List, [], ◌∷◌, true, Option, Some, None, Result, Ok, Err, filter_map, length, take, slice_index_or, nat_le, if◌then◌else◌, ⊤}
 use Rattle.std.specs.List.{list_all}
 use Rattle.log_actions.specs.Commits.{IsCommit}
-use Rattle.log_actions.specs.Printing.{line_text}
 use Rattle.log_actions.specs.declared.actions.Action.{Action}
 use Rattle.log_actions.specs.declared.line_fault.LineFault.{LineFault}
 use Rattle.json_print.specs.Lines.{lines}
@@ -52,7 +51,3 @@ abbrev pub Answers : Result (List Action) NoCommit → Result (List Action) Comm
 Answers (Ok actions) what = what ≡ Ok actions
 Answers (Err (none.Fault e)) what = what ≡ Err e
 Answers (Err none.NoMemory) what = ⊤
-
--- the printed text of a commit: each action's line and a line feed
-abbrev pub commit_text : List Action → List ℕ
-commit_text actions = flat_map (λ a. line_text a ++ 10 ∷ []) actions

@@ -10,7 +10,7 @@ mod text;
 
 pub use faults::{CommitFault, NoCommit};
 pub use names::{name_of, version_of};
-pub use print::{bytes_of, text_len};
+pub use print::bytes_of;
 pub use rules::commit_from;
 pub use text::{MOST_BYTES, commit_of};
 

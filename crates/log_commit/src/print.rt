@@ -1,12 +1,12 @@
 // The printed text of a commit.
 ghost use Rattle.std.specs.Prelude.{◌≡◌, ◌≤◌, ◌^◌, ◌++◌, [], ◌∷◌, Ok, IfOk, OnOk, false, length};
 ghost use Rattle.std.specs.List.{list_any};
-ghost use Rattle.json_print.specs.Lengths.{capped};
+ghost use Rattle.log_actions.specs.CommitTexts.{commit_text};
 ghost use Rattle.log_actions.specs.Printing.{has_vector, line_text};
 ghost use Rattle.log_commit.specs.Seen.{ReadsBack};
-ghost use Rattle.log_commit.specs.Texts.{commit_in, commit_text};
+ghost use Rattle.log_commit.specs.Texts.{commit_in};
 
-use log_actions::{Action, Commit, line_len, line_of_action};
+use log_actions::{Action, Commit, line_of_action};
 use std::alloc::{AllocError, Global};
 
 // Adds the action's line and a line feed.
@@ -31,15 +31,4 @@ pub fn bytes_of(alloc: Global, commit: &Commit) -> Result<Vec<u8>, AllocError>
         push_line(alloc, &mut bytes, action)?;
     }
     Ok(bytes)
-}
-
-/// How many bytes the printed text of a commit has: 2^64 - 1 where they are more. It takes no memory.
-pub fn text_len(commit: &Commit) -> u64
-    ensures { result ≡ capped (length (commit_text commit.now)) }
-{
-    let mut bytes = 0u64;
-    for action in commit.actions() {
-        bytes = bytes.saturating_add(line_len(action)).saturating_add(1);
-    }
-    bytes
 }

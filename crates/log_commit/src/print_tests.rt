@@ -1,4 +1,5 @@
-use crate::{bytes_of, commit_of, text_len};
+use crate::{bytes_of, commit_of};
+use log_actions::text_len;
 use std::test::Fail;
 
 // Lines as they are printed: names in byte order, defaults written out.

@@ -40,7 +40,7 @@ pub struct ResponseHead {
     /// The form of the body. An empty body has none: where `length` is 0 the head doesn't tell it.
     pub content_type: ContentType,
     /// How many bytes the body has; in a response to HEAD, those of the body that isn't sent.
-    pub length: u64,
+    pub length: u128,
     /// Whether the connection is closed behind the response.
     pub closes: bool,
     ghost dated: { moment ≤ 253_402_300_799_999 },

@@ -1,5 +1,5 @@
 // The statuses that are answered.
-ghost use Rattle.std.specs.Prelude.{◌≡◌, ◌≤◌, length};
+ghost use Rattle.std.specs.Prelude.{◌≡◌, ◌≤◌, ◌<◌, length};
 ghost use Rattle.case_table.specs.Refusals.{refusal_row};
 ghost use Rattle.response_text.specs.Statuses.{code, reason, method_name as name_of_method, IsBare};
 
@@ -68,7 +68,8 @@ impl Status {
 
     /// Its code of three digits.
     pub fn code(self) -> u16
-        ensures { result ≡ code self }
+        ensures value { result ≡ code self }
+        ensures short { result < 1000 }
     {
         match self {
             Status::Ok(_) => 200,

@@ -12,7 +12,7 @@ fn is_text(alloc: Global, head: ResponseHead, text: &[u8]) -> Result<bool, Alloc
 }
 
 // A head of the first moment.
-fn at_zero(status: Status, content_type: ContentType, length: u64, closes: bool) -> ResponseHead {
+fn at_zero(status: Status, content_type: ContentType, length: u128, closes: bool) -> ResponseHead {
     ResponseHead {
         status,
         moment: 0,
@@ -93,12 +93,12 @@ fn bodies_of_each_form(rt: HostRuntime) -> Result<(), AllocError> {
             b"HTTP/1.1 200 OK\r\nDate: Thu, 01 Jan 1970 00:00:00 GMT\r\nDelta-Table-Version: 4\r\nContent-Type: application/x-ndjson; charset=utf-8\r\nContent-Length: 1\r\nConnection: close\r\n\r\n"
         )?
     );
-    let head = at_zero(Status::Ok(None), ContentType::Bytes, u64::MAX, false);
+    let head = at_zero(Status::Ok(None), ContentType::Bytes, u128::MAX, false);
     assert!(&rt;
         is_text(
             a,
             head,
-            b"HTTP/1.1 200 OK\r\nDate: Thu, 01 Jan 1970 00:00:00 GMT\r\nContent-Type: application/octet-stream\r\nContent-Length: 18446744073709551615\r\n\r\n"
+            b"HTTP/1.1 200 OK\r\nDate: Thu, 01 Jan 1970 00:00:00 GMT\r\nContent-Type: application/octet-stream\r\nContent-Length: 340282366920938463463374607431768211455\r\n\r\n"
         )?
     );
     Ok(())

@@ -4,7 +4,7 @@ ghost use Rattle.response_text.specs.Heads.{head_of, head_text, fields, fields_t
 
 use crate::date::date_at;
 use crate::head::{ContentType, ResponseHead};
-use crate::line::{push_end, push_field, push_number, push_status};
+use crate::line::{push_end, push_field, push_length, push_number, push_status};
 use crate::status::{Status, method_name};
 use std::alloc::{AllocError, Global};
 
@@ -38,7 +38,7 @@ fn push_status_field(text: &mut Vec<u8>, status: Status) -> Result<(), AllocErro
     }
 }
 
-fn push_type(text: &mut Vec<u8>, form: ContentType, length: u64) -> Result<(), AllocError>
+fn push_type(text: &mut Vec<u8>, form: ContentType, length: u128) -> Result<(), AllocError>
     ensures text { OnOk result (text.new.items ≡ text.old.items ++ fields_text (type_fields form length)) }
     ensures size { OnOk result (vec_len text.new ≤ vec_len text.old + 51) }
 {
@@ -61,12 +61,12 @@ fn push_close(text: &mut Vec<u8>, closes: bool) -> Result<(), AllocError>
 // All fields.
 fn push_fields(text: &mut Vec<u8>, head: &ResponseHead) -> Result<(), AllocError>
     ensures text { OnOk result (text.new.items ≡ text.old.items ++ fields_text (fields (head_of head.now))) }
-    ensures size { OnOk result (vec_len text.new ≤ vec_len text.old + 188) }
+    ensures size { OnOk result (vec_len text.new ≤ vec_len text.old + 207) }
 {
     push_field(text, "Date", &date_at(head.moment))?;
     push_status_field(text, head.status)?;
     push_type(text, head.content_type, head.length)?;
-    push_number(text, "Content-Length", head.length)?;
+    push_length(text, head.length)?;
     push_close(text, head.closes)
 }
 

@@ -1,20 +1,15 @@
 -- The printed body of lines is read as the lines.
-use Rattle.std.proofs.Common.{◌≡◌, ℕ, ◌+◌, ◌<◌, ◌≤◌, List, [], ◌∷◌, ◌++◌, length, take, get_or, Bool, true, false, not, Some, Ok, refl, sym, ap, ◌∙◌, subst, append_assoc}
+use Rattle.std.proofs.Common.{◌≡◌, ℕ, ◌+◌, ◌<◌, ◌≤◌, List, [], ◌∷◌, ◌++◌, length, map, take, get_or, Bool, true, false, not, Some, Ok, refl, sym, ap, ◌∙◌, subst, append_assoc}
 use Rattle.std.specs.Prelude.{◌&&◌, ◌||◌, filter_map, is_some, nat_lt}
 use Rattle.std.specs.List.{cons_option, list_any}
 use Rattle.std.proofs.lemmas.List.{append-nil, take_all, take_more}
 use Rattle.json_print.specs.Lines.{lines as pieces}
 use Rattle.json_print.proofs.Cutting.{first_line}
 use Rattle.json_print.proofs.LineFeeds.{text_free}
-use Rattle.share_lines.specs.Bodies.{is_bad, line_at, lines_in, lines_of_pieces}
+use Rattle.share_lines.specs.Bodies.{AreReadBack, is_bad, line_at, lines_in, lines_of_pieces}
 use Rattle.share_lines.specs.Printing.{body_text, line_data, line_text}
 use Rattle.share_lines.proofs.Pieces.{empty_line}
 use Rattle.share_lines.specs.declared.kinds.Line.{Line}
-
--- each line is read back from its text
-abbrev pub AreReadBack : List Line → Type 0
-AreReadBack [] = Unit {0}
-AreReadBack (l ∷ ls) = (line_at (line_text l) ≡ Some l) × AreReadBack ls
 
 read_back_push : (ls : List Line) (l : Line) → AreReadBack ls → line_at (line_text l) ≡ Some l → AreReadBack (ls ++ l ∷ [])
 read_back_push [] l all back = (back, tt)
@@ -39,6 +34,12 @@ one_more l ls ps back rest = record {
   good = first_good (is_bad (line_text l)) (list_any is_bad ps) (not_bad (nat_lt 0 (length (line_text l))) (is_some (line_at (line_text l))) (ap is_some back)) rest.good;
   gives = ap (λ o. cons_option o (filter_map line_at ps)) back ∙ ap (λ more. l ∷ more) rest.gives;
 }
+
+-- the pieces between line feeds are the texts of the lines
+pub lines_apart : (ls : List Line) → pieces (body_text ls) ≡ map line_text ls ++ [] ∷ []
+lines_apart [] = refl
+lines_apart (l ∷ ls) =
+    ap pieces (append_assoc (line_text l) (10 ∷ []) (body_text ls)) ∙ first_line (line_text l) (body_text ls) (text_free (line_data l)) ∙ ap (λ ps. line_text l ∷ ps) (lines_apart ls)
 
 body_stands : (ls : List Line) → AreReadBack ls → Stand ls (pieces (body_text ls))
 body_stands [] all = record { good = refl; gives = ap (λ o. cons_option o []) empty_line }

@@ -1,10 +1,11 @@
 -- The lines of a body (Delta Sharing PROTOCOL.md, "API Response Format in Parquet": newline-delimited JSON).
-use Rattle.std.specs.Prelude.{◌≡◌, ℕ, List, [], ◌∷◌, ◌++◌, Bool, true, Option, None, Result, Ok, Err, ⊤, ◌&&◌, not, is_some, filter_map, flat_map, length, take, nat_lt, option_to_list, if◌then◌else◌}
+use Rattle.std.specs.Prelude.{◌≡◌, ℕ, List, [], ◌∷◌, ◌++◌, Bool, true, Option, Some, None, Result, Ok, Err, ⊤, ◌&&◌, not, is_some, filter_map, flat_map, length, take, nat_lt, option_to_list, if◌then◌else◌}
 use Rattle.std.specs.List.{list_any, position_or_len}
 use Rattle.serde_json.specs.Data.{Data}
 use Rattle.json_tree.specs.Tree.{tree_in}
 use Rattle.json_tree.specs.declared.tree.TreeFault.{TreeFault}
 use Rattle.json_print.specs.Lines.{lines as pieces}
+use Rattle.share_lines.specs.Printing.{line_text}
 use Rattle.share_lines.specs.Reading.{line_in}
 use Rattle.share_lines.specs.declared.faults.LinesFault.{LinesFault}
 use Rattle.share_lines.specs.declared.faults.LinesFault.TheVariants as fault
@@ -33,6 +34,11 @@ lines_of_pieces ps = if list_any is_bad ps then Err (fault.Bad (start_of (positi
 -- the lines of a body
 abbrev pub lines_in : List ℕ → Result (List Line) LinesFault
 lines_in bytes = lines_of_pieces (pieces bytes)
+
+-- each line is read from its own text
+abbrev pub AreReadBack : List Line → Type 0
+AreReadBack [] = ⊤
+AreReadBack (l ∷ ls) = (line_at (line_text l) ≡ Some l) × AreReadBack ls
 
 -- The answer is what the bytes stand for. Want of memory says nothing.
 abbrev pub Fails : LinesFault → Result (List Line) LinesFault → Type 0

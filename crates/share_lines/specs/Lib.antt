@@ -4,5 +4,6 @@ pub mod ErrorReading
 pub mod Errors
 pub mod Kept
 pub mod Lines
+pub mod Parts
 pub mod Printing
 pub mod Reading

@@ -8,7 +8,6 @@ ghost use Rattle.share_lines.specs.Answers.{default_answer, fault_of as fault_of
 use crate::faults::LineFault;
 use crate::{Millis, Version};
 use json_tree::{FieldFault, whole_at};
-use log_actions::FileSize;
 use serde_json::Value;
 
 fn fault_of(fault: FieldFault) -> LineFault
@@ -52,26 +51,6 @@ pub(crate) fn default_to<X: Drop>(
         Ok(Some(value)) => Ok(value),
         Ok(None) => Ok(default),
         Err(fault) => Err(fault_of(fault)),
-    }
-}
-
-fn size_of(number: i64) -> Option<FileSize>
-    ensures { result ≡ count_below (2 ^ 63) number }
-{
-    let number = u64::try_from(number).ok()?;
-    FileSize::of(number)
-}
-
-// A number of bytes.
-pub(crate) fn size_at(object: &Value, name: &str) -> Result<Option<FileSize>, FieldFault>
-    ensures { result ≡ field (count (2 ^ 63)) name.now (view object.now) }
-{
-    match whole_at(object, name)? {
-        Some(number) => match size_of(number) {
-            Some(size) => Ok(Some(size)),
-            None => Err(FieldFault::WrongKind),
-        },
-        None => Ok(None),
     }
 }
 

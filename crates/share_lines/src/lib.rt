@@ -8,8 +8,10 @@ mod errors;
 mod faults;
 mod fields;
 mod kinds;
+mod law;
 #[cfg(test)]
 mod line_tests;
+mod parts;
 mod printing;
 mod reading;
 mod table_lines;
@@ -22,5 +24,6 @@ pub use errors::{error_of, error_text, one_error};
 pub use faults::LinesFault;
 pub use json_tree::{Millis, Version};
 pub use kinds::{EndLine, FileLine, Line, Lines, MetaLine};
-pub use printing::{line_text, push_line};
+pub use law::one_line_each;
+pub use printing::{line_len, line_text, push_line};
 pub use table_lines::{push_file, push_meta, push_protocol};

@@ -1,6 +1,6 @@
 // Lines and bodies read and printed; the expected texts and places are worked by hand.
 use crate::{
-    EndLine, FileLine, Line, LinesFault, MetaLine, Millis, Version, error_of, error_text,
+    EndLine, FileLine, Line, LinesFault, MetaLine, Millis, Version, error_of, error_text, line_len,
     line_text, lines_of, lines_text, push_line,
 };
 use case_table::Refusal;
@@ -155,6 +155,49 @@ fn prints_a_body(rt: HostRuntime) -> Result<(), Fail> {
         printed.as_str(),
         "{\"protocol\":{\"minReaderVersion\":1}}\n{\"endStreamAction\":{\"minUrlExpirationTimestamp\":5,\"nextPageToken\":\"t\"}}\n"
     );
+    Ok(())
+}
+
+fn letters(alloc: Global, count: usize) -> Result<Text, AllocError> {
+    let mut text = String::new(alloc);
+    for _ in 0..count {
+        text.push('s')?;
+    }
+    Ok(Text::of(text))
+}
+
+// How long the text of a file with so many letters of statistics is, printed and counted.
+fn file_lengths(alloc: Global, letters_of: usize) -> Result<(usize, u64), Fail> {
+    let line = Line::File(FileLine {
+        url: text(alloc, "u")?,
+        id: text(alloc, "a")?,
+        values: Pairs::new(alloc),
+        size: size(0)?,
+        stats: Some(letters(alloc, letters_of)?),
+        expires: None,
+        time: None,
+        version: None,
+    });
+    Ok((line_text(alloc, &line)?.as_str().len(), line_len(&line)))
+}
+
+fn protocols(alloc: Global, count: usize) -> Result<String, AllocError> {
+    let mut body = String::new(alloc);
+    for _ in 0..count {
+        body.push_str("{\"protocol\":{\"minReaderVersion\":1}}\n")?;
+    }
+    Ok(body)
+}
+
+// 57 bytes before the letters and 13 after them
+#[test]
+fn takes_much(rt: HostRuntime) -> Result<(), Fail> {
+    let alloc = rt.alloc();
+    let (printed, counted) = file_lengths(alloc, 1 << 20)?;
+    assert_eq!(rt; printed, 57 + (1 << 20) + 13);
+    assert_eq!(rt; counted, 57 + (1 << 20) + 13);
+    let body = protocols(alloc, 2_000)?;
+    assert!(rt; has(alloc, body.as_str(), 2_000));
     Ok(())
 }
 

@@ -1,35 +1,41 @@
 // The line of each kind.
-ghost use Rattle.std.specs.Prelude.{◌≡◌, ◌<◌, ◌^◌, ◌++◌, ◌∷◌, [], Some, IfOk, IfSome, IsTrue, IsUtf8, OnErr, OnOk, codes, option_map, string_bytes};
+ghost use Rattle.std.specs.Prelude.{◌≡◌, ◌<◌, ◌^◌, ◌++◌, ◌∷◌, [], Some, IfOk, IfSome, IsTrue, IsUtf8, OnErr, OnOk, codes, length, option_map, string_bytes};
 ghost use Rattle.json_tree.specs.Pairs.{IsPairs};
 ghost use Rattle.json_print.specs.Fields.{object_of};
-ghost use Rattle.json_print.specs.Tokens.{Adds, field_tokens, value_tokens};
-ghost use Rattle.json_print.specs.Values.{count_value, pairs_value, unless_empty};
+ghost use Rattle.json_print.specs.Tokens.{field_tokens, value_tokens};
+ghost use Rattle.json_print.specs.Lengths.{capped};
+ghost use Rattle.json_print.specs.Values.{count_value};
 ghost use Rattle.share_lines.specs.Bodies.{line_at};
+ghost use Rattle.share_lines.specs.Parts.{file_in, meta_in};
 ghost use Rattle.share_lines.specs.Kept.{Kept, KeptFile};
 ghost use Rattle.share_lines.specs.Printing.{end_fields, file_fields, is_printable, kind_fields, kind_name as name_of_kind, line_data, line_text, meta_fields, parquet_fields, protocol_fields};
 
-use crate::{EndLine, FileLine, Line, MetaLine, Millis, Version};
-use json::Writer;
+use crate::parts::{FileParts, MetaParts};
+use crate::{EndLine, Line, Millis, Version};
 use json_print::{
-    begin_object, count_field, end_object, new_writer, optional_text_field, optional_whole_field,
-    pairs_field, printed, text_field, texts_field,
+    Length, Tokens, count_field, new_writer, nonempty_pairs_field, optional_text_field,
+    optional_whole_field, pairs_field, printed, text_field, texts_field,
 };
-use json_tree::{Pairs, Text};
+use json_tree::Text;
 use log_actions::FileSize;
 use std::alloc::{AllocError, Global};
 
 // Room for most lines.
 const ROOM: usize = 512;
 
-fn size_field(line: &mut Writer, size: FileSize) -> Result<(), AllocError>
-    ensures written { OnOk result (Adds line.old line.new (field_tokens (codes "size", Some (count_value size)))) }
+fn size_field<W: Tokens>(line: &mut W, size: FileSize) -> Result<(), W::Error>
+    ensures written { OnOk result (W.adds line.old line.new (field_tokens (codes "size", Some (count_value size)))) }
     ensures bound { size < 2 ^ 63 }
 {
     count_field(line, "size", size.get())
 }
 
-fn expiry_field(line: &mut Writer, name: &str, expires: Option<Millis>) -> Result<(), AllocError>
-    ensures written { OnOk result (Adds line.old line.new (field_tokens (name.now, option_map count_value expires))) }
+fn expiry_field<W: Tokens>(
+    line: &mut W,
+    name: &str,
+    expires: Option<Millis>,
+) -> Result<(), W::Error>
+    ensures written { OnOk result (W.adds line.old line.new (field_tokens (name.now, option_map count_value expires))) }
     ensures bound { IfSome expires (λ n. n < 2 ^ 63) }
 {
     match expires {
@@ -38,8 +44,8 @@ fn expiry_field(line: &mut Writer, name: &str, expires: Option<Millis>) -> Resul
     }
 }
 
-fn version_field(line: &mut Writer, version: Option<Version>) -> Result<(), AllocError>
-    ensures written { OnOk result (Adds line.old line.new (field_tokens (codes "version", option_map count_value version))) }
+fn version_field<W: Tokens>(line: &mut W, version: Option<Version>) -> Result<(), W::Error>
+    ensures written { OnOk result (W.adds line.old line.new (field_tokens (codes "version", option_map count_value version))) }
     ensures bound { IfSome version (λ n. n < 2 ^ 63) }
 {
     match version {
@@ -48,74 +54,63 @@ fn version_field(line: &mut Writer, version: Option<Version>) -> Result<(), Allo
     }
 }
 
-fn configuration_field(line: &mut Writer, configuration: &Pairs) -> Result<(), AllocError>
-    ensures written { OnOk result (Adds line.old line.new (field_tokens (codes "configuration", option_map pairs_value (unless_empty configuration.now)))) }
-    ensures order { IsPairs configuration.now }
+fn protocol_object<W: Tokens>(line: &mut W) -> Result<(), W::Error>
+    ensures { OnOk result (W.adds line.old line.new (value_tokens (object_of protocol_fields))) }
 {
-    if configuration.items().is_empty() {
-        Ok(())
-    } else {
-        pairs_field(line, "configuration", configuration)
-    }
-}
-
-fn protocol_object(line: &mut Writer) -> Result<(), AllocError>
-    ensures { OnOk result (Adds line.old line.new (value_tokens (object_of protocol_fields))) }
-{
-    begin_object(line)?;
+    line.begin_object()?;
     count_field(line, "minReaderVersion", 1)?;
-    end_object(line)
+    line.end_object()
 }
 
-pub(crate) fn format_object(line: &mut Writer) -> Result<(), AllocError>
-    ensures { OnOk result (Adds line.old line.new (value_tokens (object_of parquet_fields))) }
+fn format_object<W: Tokens>(line: &mut W) -> Result<(), W::Error>
+    ensures { OnOk result (W.adds line.old line.new (value_tokens (object_of parquet_fields))) }
 {
-    begin_object(line)?;
+    line.begin_object()?;
     line.key("provider")?;
     line.string("parquet")?;
-    end_object(line)
+    line.end_object()
 }
 
-fn meta_object(line: &mut Writer, meta: &MetaLine) -> Result<(), AllocError>
-    ensures written { OnOk result (Adds line.old line.new (value_tokens (object_of (meta_fields meta.now)))) }
-    ensures kept { OnOk result (IsPairs meta.now.configuration) }
+pub(crate) fn meta_object<W: Tokens>(line: &mut W, meta: &MetaParts<'_>) -> Result<(), W::Error>
+    ensures written { OnOk result (W.adds line.old line.new (value_tokens (object_of (meta_fields (meta_in meta.now))))) }
+    ensures kept { OnOk result (IsPairs (meta_in meta.now).configuration) }
 {
-    begin_object(line)?;
-    configuration_field(line, &meta.configuration)?;
-    optional_text_field(line, "description", &meta.description)?;
+    line.begin_object()?;
+    nonempty_pairs_field(line, "configuration", meta.configuration)?;
+    optional_text_field(line, "description", meta.description)?;
     line.key("format")?;
     format_object(line)?;
-    text_field(line, "id", &meta.id)?;
-    optional_text_field(line, "name", &meta.name)?;
-    texts_field(line, "partitionColumns", &meta.columns)?;
-    text_field(line, "schemaString", &meta.schema)?;
-    end_object(line)
+    text_field(line, "id", meta.id)?;
+    optional_text_field(line, "name", meta.name)?;
+    texts_field(line, "partitionColumns", meta.columns)?;
+    text_field(line, "schemaString", meta.schema)?;
+    line.end_object()
 }
 
-fn file_object(line: &mut Writer, file: &FileLine) -> Result<(), AllocError>
-    ensures written { OnOk result (Adds line.old line.new (value_tokens (object_of (file_fields file.now)))) }
-    ensures kept { OnOk result (KeptFile file.now) }
+pub(crate) fn file_object<W: Tokens>(line: &mut W, file: &FileParts<'_>) -> Result<(), W::Error>
+    ensures written { OnOk result (W.adds line.old line.new (value_tokens (object_of (file_fields (file_in file.now))))) }
+    ensures kept { OnOk result (KeptFile (file_in file.now)) }
 {
-    begin_object(line)?;
+    line.begin_object()?;
     expiry_field(line, "expirationTimestamp", file.expires)?;
-    text_field(line, "id", &file.id)?;
-    pairs_field(line, "partitionValues", &file.values)?;
+    text_field(line, "id", file.id)?;
+    pairs_field(line, "partitionValues", file.values)?;
     size_field(line, file.size)?;
-    optional_text_field(line, "stats", &file.stats)?;
+    optional_text_field(line, "stats", file.stats)?;
     optional_whole_field(line, "timestamp", file.time)?;
-    text_field(line, "url", &file.url)?;
+    text_field(line, "url", file.url)?;
     version_field(line, file.version)?;
-    end_object(line)
+    line.end_object()
 }
 
-fn end_line_object(line: &mut Writer, end: &EndLine) -> Result<(), AllocError>
-    ensures written { OnOk result (Adds line.old line.new (value_tokens (object_of (end_fields end.now)))) }
+fn end_line_object<W: Tokens>(line: &mut W, end: &EndLine) -> Result<(), W::Error>
+    ensures written { OnOk result (W.adds line.old line.new (value_tokens (object_of (end_fields end.now)))) }
     ensures kept { OnOk result (IfSome end.now.min_expires (λ n. n < 2 ^ 63)) }
 {
-    begin_object(line)?;
+    line.begin_object()?;
     expiry_field(line, "minUrlExpirationTimestamp", end.min_expires)?;
     optional_text_field(line, "nextPageToken", &end.token)?;
-    end_object(line)
+    line.end_object()
 }
 
 fn kind_name(line: &Line) -> &'static str
@@ -132,29 +127,29 @@ fn kind_name(line: &Line) -> &'static str
     }
 }
 
-fn value_object(writer: &mut Writer, line: &Line) -> Result<(), AllocError>
-    ensures written { OnOk result (Adds writer.old writer.new (value_tokens (object_of (kind_fields line.now)))) }
+fn value_object<W: Tokens>(writer: &mut W, line: &Line) -> Result<(), W::Error>
+    ensures written { OnOk result (W.adds writer.old writer.new (value_tokens (object_of (kind_fields line.now)))) }
     ensures kept { OnOk result (Kept line.now) }
 {
     match line {
         Line::Protocol => protocol_object(writer),
-        Line::MetaData(meta) => meta_object(writer, meta),
-        Line::File(file) => file_object(writer, file),
-        Line::Add(file) => file_object(writer, file),
-        Line::Cdf(file) => file_object(writer, file),
-        Line::Remove(file) => file_object(writer, file),
+        Line::MetaData(meta) => meta_object(writer, &MetaParts::of_line(meta)),
+        Line::File(file) => file_object(writer, &FileParts::of_line(file)),
+        Line::Add(file) => file_object(writer, &FileParts::of_line(file)),
+        Line::Cdf(file) => file_object(writer, &FileParts::of_line(file)),
+        Line::Remove(file) => file_object(writer, &FileParts::of_line(file)),
         Line::End(end) => end_line_object(writer, end),
     }
 }
 
-fn line_object(writer: &mut Writer, line: &Line) -> Result<(), AllocError>
-    ensures written { OnOk result (Adds writer.old writer.new (value_tokens (line_data line.now))) }
+fn line_object<W: Tokens>(writer: &mut W, line: &Line) -> Result<(), W::Error>
+    ensures written { OnOk result (W.adds writer.old writer.new (value_tokens (line_data line.now))) }
     ensures kept { OnOk result (Kept line.now) }
 {
-    begin_object(writer)?;
+    writer.begin_object()?;
     writer.key(kind_name(line))?;
     value_object(writer, line)?;
-    end_object(writer)
+    writer.end_object()
 }
 
 // The text of a line, without a line feed.
@@ -194,4 +189,13 @@ pub fn push_line(alloc: Global, out: &mut String, line: &Line) -> Result<(), All
     let mut text = printed_line(alloc, line)?;
     text.push('\n')?;
     out.push_str(text.as_str())
+}
+
+/// How many bytes `line_text` writes for a line: 2^64 - 1 where they are more. It takes no memory.
+pub fn line_len(line: &Line) -> u64
+    ensures { result ≡ capped (length (line_text line.now)) }
+{
+    let mut length = Length::new();
+    let Ok(()) = line_object(&mut length, line);
+    length.bytes
 }

@@ -6,9 +6,10 @@ ghost use Rattle.json_tree.specs.Fields.{field};
 ghost use Rattle.share_lines.specs.Reading.{Gives, add_of, change_with, end_of, file_kind_in, file_of, file_with, has as has_member, kind_count, kind_in, line_in, meta_of, optional as optional_in, protocol_of, required as required_in};
 
 use crate::faults::LineFault;
-use crate::fields::{default_to, expiry_at, optional, required, size_at, version_at};
+use crate::fields::{default_to, expiry_at, optional, required, version_at};
 use crate::{EndLine, FileLine, Line, MetaLine, Version};
 use json_tree::{Pairs, Text, Texts, member_at, pairs_at, text_at, texts_at, whole_at};
+use log_actions::size_at;
 use serde_json::Value;
 use std::alloc::Global;
 

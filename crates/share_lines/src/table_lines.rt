@@ -1,57 +1,18 @@
 // Whole lines.
-ghost use Rattle.std.specs.Prelude.{◌≡◌, ◌++◌, [], ◌∷◌, Some, codes, OnOk, OnErr, IfOk};
+ghost use Rattle.std.specs.Prelude.{◌≡◌, ◌++◌, [], ◌∷◌, OnOk, OnErr, IfOk};
 ghost use Rattle.json.specs.Print.{print};
 ghost use Rattle.json.specs.Token as token;
-ghost use Rattle.json_print.specs.Fields.{object_of};
-ghost use Rattle.json_print.specs.Tokens.{Adds, field_tokens, value_tokens};
-ghost use Rattle.json_print.specs.Values.{count_value};
-ghost use Rattle.share_lines.specs.Lines.{file_line, file_of, meta_line, meta_of, protocol_line};
-ghost use Rattle.share_lines.specs.Printing.{file_fields, meta_fields};
+ghost use Rattle.share_lines.specs.Lines.{file_line, meta_line, protocol_line};
 
-use crate::printing::format_object;
+use crate::parts::{FileParts, MetaParts};
+use crate::printing::{file_object, meta_object};
 use json::Writer;
-use json_print::{
-    begin_object, count_field, end_object, new_writer, nonempty_pairs_field, optional_text_field,
-    pairs_field, text_field, texts_field,
-};
-use log_actions::{AddFile, FileSize, MetaData};
+use json_print::new_writer;
+use log_actions::{AddFile, MetaData};
 use std::alloc::{AllocError, Global};
 
 // Room for most lines.
 const ROOM: usize = 512;
-
-fn size_field(line: &mut Writer, size: FileSize) -> Result<(), AllocError>
-    ensures { OnOk result (Adds line.old line.new (field_tokens (codes "size", Some (count_value size)))) }
-{
-    count_field(line, "size", size.get())
-}
-
-fn file_object(line: &mut Writer, file: &AddFile) -> Result<(), AllocError>
-    ensures { OnOk result (Adds line.old line.new (value_tokens (object_of (file_fields (file_of file.now))))) }
-{
-    begin_object(line)?;
-    text_field(line, "id", &file.path)?;
-    pairs_field(line, "partitionValues", &file.values)?;
-    size_field(line, file.size)?;
-    optional_text_field(line, "stats", &file.stats)?;
-    text_field(line, "url", &file.path)?;
-    end_object(line)
-}
-
-fn meta_object(line: &mut Writer, meta: &MetaData) -> Result<(), AllocError>
-    ensures { OnOk result (Adds line.old line.new (value_tokens (object_of (meta_fields (meta_of meta.now))))) }
-{
-    begin_object(line)?;
-    nonempty_pairs_field(line, "configuration", &meta.configuration)?;
-    optional_text_field(line, "description", &meta.description)?;
-    line.key("format")?;
-    format_object(line)?;
-    text_field(line, "id", &meta.id)?;
-    optional_text_field(line, "name", &meta.name)?;
-    texts_field(line, "partitionColumns", &meta.columns)?;
-    text_field(line, "schemaString", &meta.schema)?;
-    end_object(line)
-}
 
 // A line's beginning: an object whose one name this is.
 fn begin(alloc: Global, name: &str) -> Result<Writer, AllocError>
@@ -89,7 +50,7 @@ pub fn push_meta(alloc: Global, out: &mut Vec<u8>, meta: &MetaData) -> Result<()
     ensures kept { OnErr result (out.new.items ≡ out.old.items) }
 {
     let mut line = begin(alloc, "metaData")?;
-    meta_object(&mut line, meta)?;
+    meta_object(&mut line, &MetaParts::of_action(meta))?;
     let text = ended(line)?;
     out.extend_from_slice(&text)
 }
@@ -101,7 +62,7 @@ pub fn push_file(alloc: Global, out: &mut Vec<u8>, file: &AddFile) -> Result<(),
     ensures kept { OnErr result (out.new.items ≡ out.old.items) }
 {
     let mut line = begin(alloc, "file")?;
-    file_object(&mut line, file)?;
+    file_object(&mut line, &FileParts::of_add(file))?;
     let text = ended(line)?;
     out.extend_from_slice(&text)
 }

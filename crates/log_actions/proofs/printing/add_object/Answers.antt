@@ -2,26 +2,26 @@ use Rattle.std.proofs.Common.{FitsSigned, rules}
 use Rattle.std.specs.Int.{w64}
 use Rattle.std.proofs.lemmas.Int.{to_z-of_z}
 use Rattle.std.proofs.lemmas.Result.{on_ok_weaker}
-use Rattle.json_print.proofs.TokenLemmas.{then, object_written}
+use Rattle.json_print.proofs.TokenLemmas.{next, object_written}
 use Rattle.log_actions.specs.Printing.{add_fields}
 use Rattle.log_actions.proofs.printing.add_object.Goals as goal
 
 pub returns-clause-written : goal.returns-clause-written
-returns-clause-written c =
+returns-clause-written g c =
     let fits : FitsSigned w64 c.args.file.now.modified = search rules in
     let modified = simp to_z-of_z at c.in_ok-whole_field.ensures.written in
     rw (← object_written (add_fields c.args.file.now)) (on_ok_weaker c.end_object.result (λ last.
-    then c.in_ok-begin_object.ensures
-    (then c.in_ok-flag_field.ensures
-    (then modified
-    (then c.in_ok-pairs_field.ensures.written
-    (then c.in_ok-text_field.ensures
-    (then c.in_ok-size_field.ensures.written
-    (then c.in_ok-optional_text_field.ensures
-    (then c.in_ok-optional_pairs_field.ensures.written last)))))))) c.end_object.ensures)
+    next g.met.W.Tokens.then c.in_ok-begin_object.ensures
+    (next g.met.W.Tokens.then c.in_ok-flag_field.ensures
+    (next g.met.W.Tokens.then modified
+    (next g.met.W.Tokens.then c.in_ok-pairs_field.ensures.written
+    (next g.met.W.Tokens.then c.in_ok-text_field.ensures
+    (next g.met.W.Tokens.then c.in_ok-size_field.ensures.written
+    (next g.met.W.Tokens.then c.in_ok-optional_text_field.ensures
+    (next g.met.W.Tokens.then c.in_ok-optional_pairs_field.ensures.written last)))))))) c.end_object.ensures)
 
 pub returns-clause-kept : goal.returns-clause-kept
-returns-clause-kept c =
+returns-clause-kept g c =
     let fits : FitsSigned w64 c.args.file.now.modified = search rules in
     on_ok_weaker c.end_object.result (λ last. record {
       values = c.in_ok-pairs_field.ensures.order;

@@ -1,16 +1,16 @@
 use Rattle.std.proofs.lemmas.Result.{on_ok_weaker}
-use Rattle.json_print.proofs.TokenLemmas.{then, object_written}
+use Rattle.json_print.proofs.TokenLemmas.{next, object_written}
 use Rattle.log_actions.specs.Printing.{protocol_fields}
 use Rattle.log_actions.proofs.printing.protocol_object.Goals as goal
 
 pub returns-clause-written : goal.returns-clause-written
-returns-clause-written c =
+returns-clause-written g c =
     rw (← object_written (protocol_fields c.args.protocol.now)) (on_ok_weaker c.end_object.result (λ last.
-    then c.in_ok-begin_object.ensures
-    (then c.in_ok-version_field.ensures.written
-    (then c.in_ok-version_field-2.ensures.written
-    (then c.in_ok-optional_texts_field.ensures
-    (then c.in_ok-optional_texts_field-2.ensures last))))) c.end_object.ensures)
+    next g.met.W.Tokens.then c.in_ok-begin_object.ensures
+    (next g.met.W.Tokens.then c.in_ok-version_field.ensures.written
+    (next g.met.W.Tokens.then c.in_ok-version_field-2.ensures.written
+    (next g.met.W.Tokens.then c.in_ok-optional_texts_field.ensures
+    (next g.met.W.Tokens.then c.in_ok-optional_texts_field-2.ensures last))))) c.end_object.ensures)
 
 pub returns-clause-kept : goal.returns-clause-kept
-returns-clause-kept c = on_ok_weaker c.end_object.result (λ last. record { reader = c.in_ok-version_field.ensures.bound; writer = c.in_ok-version_field-2.ensures.bound }) c.end_object.ensures
+returns-clause-kept g c = on_ok_weaker c.end_object.result (λ last. record { reader = c.in_ok-version_field.ensures.bound; writer = c.in_ok-version_field-2.ensures.bound }) c.end_object.ensures

@@ -1,6 +1,7 @@
 use Rattle.std.proofs.Common.{sym, arith, subst}
 use Rattle.log_actions.specs.Commits.{IsCommit}
-use Rattle.log_commit.proofs.PrintedBack.{all_back, back_more, text_more}
+use Rattle.log_actions.proofs.CommitTexts.{text_more}
+use Rattle.log_commit.proofs.PrintedBack.{all_back, back_more}
 use Rattle.log_commit.proofs.print.bytes_of.Goals as goal
 
 pub loop-action-preserved : goal.loop-action-preserved

@@ -1,5 +1,5 @@
 use Rattle.std.proofs.Common.{◌≡◌, take}
-use Rattle.log_commit.specs.Texts.{commit_text}
+use Rattle.log_actions.specs.CommitTexts.{commit_text}
 use Rattle.log_commit.proofs.PrintedBack.{AreReadBack}
 use Rattle.log_commit.proofs.print.bytes_of.Given as goal
 

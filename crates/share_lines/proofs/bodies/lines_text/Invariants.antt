@@ -1,7 +1,7 @@
 use Rattle.std.proofs.Common.{◌≡◌, take}
 use Rattle.std.specs.Prelude.{string_bytes}
 use Rattle.share_lines.specs.Printing.{body_text}
-use Rattle.share_lines.proofs.BodyBack.{AreReadBack}
+use Rattle.share_lines.specs.Bodies.{AreReadBack}
 use Rattle.share_lines.proofs.bodies.lines_text.Given as goal
 
 -- the lines so far, and each is read back

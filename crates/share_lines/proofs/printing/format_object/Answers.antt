@@ -1,9 +1,9 @@
 use Rattle.std.proofs.lemmas.Result.{on_ok_weaker}
-use Rattle.json_print.proofs.TokenLemmas.{then, wrote}
+use Rattle.json_print.proofs.TokenLemmas.{next}
 use Rattle.share_lines.proofs.printing.format_object.Goals as goal
 
 pub returns : goal.returns
-returns c =
-    let named = wrote c.begin_object.new.writer c.key.new.self c.in_ok-key.ensures.room.0 c.in_ok-key.ensures.ok in
-    let provider = wrote c.key.new.self c.string.new.self c.in_ok-string.ensures.room.0 c.in_ok-string.ensures.ok in
-    on_ok_weaker c.end_object.result (λ last. then c.in_ok-begin_object.ensures (then named (then provider last))) c.end_object.ensures
+returns g c =
+    let named = c.in_ok-key.ensures in
+    let provider = c.in_ok-string.ensures in
+    on_ok_weaker c.end_object.result (λ last. next g.met.W.Tokens.then c.in_ok-begin_object.ensures (next g.met.W.Tokens.then named (next g.met.W.Tokens.then provider last))) c.end_object.ensures

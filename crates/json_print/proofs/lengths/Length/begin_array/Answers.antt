@@ -1,7 +1,0 @@
-use Rattle.std.proofs.Common.{◌∙◌, refl}
-use Rattle.json.specs.Token as token
-use Rattle.json_print.proofs.LengthLemmas.{one_more}
-use Rattle.json_print.proofs.lengths.Length.begin_array.Goals as goal
-
-pub returns : goal.returns
-returns c = c.longer.ensures ∙ one_more c.args.self token.begin_array 1 (refl)
