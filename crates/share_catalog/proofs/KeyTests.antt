@@ -58,7 +58,7 @@ table_refl t = rw (bytes_refl t.share, pair_refl t.schema t.table) refl
 pub table_sym : (t u : TableName) → is_table t u ≡ is_table u t
 table_sym t u = rw (bytes_sym t.share u.share, pair_sym t.schema t.table u.schema u.table) refl
 
-both_tie : (o p : Ordering) → is_eq (ordering_then o p) ≡ (is_eq o && is_eq p)
+pub both_tie : (o p : Ordering) → is_eq (ordering_then o p) ≡ (is_eq o && is_eq p)
 both_tie Less p = refl
 both_tie Equal p = refl
 both_tie Greater p = refl
@@ -66,6 +66,9 @@ both_tie Greater p = refl
 and_true : (b : Bool) → (b && true) ≡ b
 and_true true = refl
 and_true false = refl
+
+pub name_tie : (a b : List ℕ) → eq_by_cmp texts_cmp (a ∷ []) (b ∷ []) ≡ bytes_eq a b
+name_tie a b = both_tie (bytes_cmp a b) (texts_cmp [] []) ∙ and_true (is_eq (bytes_cmp a b)) ∙ is_eq-slice_cmp a b
 
 pub pair_tie : (a b c d : List ℕ) → eq_by_cmp texts_cmp (texts a b) (texts c d) ≡ is_pair a b c d
 pair_tie a b c d =

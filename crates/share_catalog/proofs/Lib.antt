@@ -2,6 +2,8 @@ pub mod After
 pub mod AfterGrants
 pub mod AfterRecipients
 pub mod AfterShares
+pub mod HolderLemmas
+pub mod JoinLemmas
 pub mod KeyTests
 pub mod LawProofs
 pub mod ListingLemmas
@@ -9,5 +11,7 @@ pub mod Orders
 pub mod Quiet
 pub mod Refusals
 pub mod Set
+pub mod Silent
 pub mod SortedLemmas
+pub mod ViewLemmas
 pub mod Words

@@ -29,10 +29,10 @@ use Rattle.share_catalog.specs.TableNames.{texts_cmp}
 use Rattle.share_catalog.proofs.Orders.{texts_total}
 use Rattle.share_catalog.proofs.SortedLemmas.{both, earlier, held, in_both, less, none_after, none_below, shown}
 
-same_texts : (a b : List (List ℕ)) → texts_cmp a b ≡ Equal → a ≡ b
+pub same_texts : (a b : List (List ℕ)) → texts_cmp a b ≡ Equal → a ≡ b
 same_texts a b e = slice_cmp-IsAntisymmetric (slice_cmp-IsAntisymmetric nat_cmp-IsAntisymmetric) a b e
 
-tie_of : (o : Ordering) → is_eq o ≡ true → o ≡ Equal
+pub tie_of : (o : Ordering) → is_eq o ≡ true → o ≡ Equal
 tie_of Less e = absurd (true≢false (sym e))
 tie_of Equal e = refl
 tie_of Greater e = absurd (true≢false (sym e))

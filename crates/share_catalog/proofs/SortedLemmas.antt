@@ -35,7 +35,7 @@ pub in_both : (a b : Bool) → T a → T b → T (a && b)
 in_both true b p q = q
 in_both false b p q = p
 
-lt_of : (o : Ordering) → o ≡ Less → T (is_lt o)
+pub lt_of : (o : Ordering) → o ≡ Less → T (is_lt o)
 lt_of o e = subst (λ r. T (is_lt r)) (sym e) tt
 
 module _ {X : Type 0} (R : X → X → Ordering) (o : IsTotalOrder R) where

@@ -14,3 +14,5 @@ pub mod Past
 pub mod Sorted
 pub mod Spares
 pub mod TableNames
+pub mod ViewLaws
+pub mod Views

@@ -1,5 +1,6 @@
 // Laws of the catalogue. Each function does nothing when it is called.
 ghost use Rattle.share_catalog.specs.Laws.{ComesBackEmpty, CountedIsNeverFull, EditionsRise, GrantsAgain, LeavesOthers, LeavesShares};
+ghost use Rattle.share_catalog.specs.ViewLaws.{BindingsAreListed, BindingsAreShown, GrantsAreListed, GrantsAreShown, HoldersAreFound, TablesAreJoined, TablesAreShown};
 
 /// A law: a share that was dropped and made again has no bindings and no grants. It does nothing
 /// when it is called.
@@ -29,4 +30,25 @@ pub fn others_see_the_same()
 /// it is called.
 pub fn counted_is_never_full()
     ensures { CountedIsNeverFull }
+{}
+
+/// A law: the maps of grants, of bindings and of the tables that a recipient sees have at each key
+/// what the edits say of it. It does nothing when it is called.
+pub fn views_show_edits()
+    ensures grants { GrantsAreShown }
+    ensures bindings { BindingsAreShown }
+    ensures tables { TablesAreShown }
+{}
+
+/// A law: what is listed is the map of it, and the bindings of each granted share, one share after
+/// the other, are the tables that the recipient sees. It does nothing when it is called.
+pub fn listings_are_views()
+    ensures grants { GrantsAreListed }
+    ensures bindings { BindingsAreListed }
+    ensures tables { TablesAreJoined }
+{}
+
+/// A law: a token finds the holder of its digest. It does nothing when it is called.
+pub fn holders_are_found()
+    ensures { HoldersAreFound }
 {}
