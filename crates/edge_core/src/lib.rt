@@ -62,6 +62,8 @@ pub use writing::write_all;
 #[cfg(test)]
 mod line_tests;
 #[cfg(test)]
+mod test_calls;
+#[cfg(test)]
 mod tests;
 #[cfg(test)]
 mod thread_tests;

@@ -1,7 +1,11 @@
 //! Clocks, lines and gathering sinks at work, each through the bound of its trait.
+ghost use Rattle.std.specs.Prelude.{◌≡◌, [], IfOk};
+ghost use Rattle.edge_core.specs.Calls.{calls_failed};
+ghost use Rattle.edge_core.specs.Memory.{sink_bytes, sink_calls};
+
 use super::*;
+use crate::test_calls::{LARGE, flush, holds, listen, sink, source, write, write_whole};
 use std::alloc::{AllocError, Global};
-use std::process::Abort;
 use std::test::Fail;
 
 fn moment<C: Clock>(clock: &mut C) -> u64 {
@@ -19,11 +23,21 @@ fn a_clock_repeats_its_last_moment(rt: HostRuntime) -> Result<(), AllocError> {
     Ok(())
 }
 
-// A line of those bytes, with room for 8 that are written, whose write of the number 1 is to fail.
+// A sink with room for 8 bytes, whose write of the number 1 is to fail.
+fn failing_sink(alloc: Global) -> Result<MemSink, AllocError>
+    ensures unfailed { IfOk result (λ s. calls_failed (sink_calls s) ≡ 0) }
+    ensures empty { IfOk result (λ s. sink_bytes s ≡ []) }
+{
+    let fails = Vec::from_slice(alloc, &[1])?;
+    let sink = MemSink::new(alloc, 8, 8)?;
+    Ok(sink.with_fails(fails))
+}
+
+// A line of those bytes, with such a sink.
 fn line(alloc: Global, text: &str) -> Result<MemLine, AllocError> {
-    let source = MemSource::new(alloc, Vec::from_slice(alloc, text.as_bytes())?);
-    let sink = MemSink::new(alloc, 8, 8)?.with_fails(Vec::from_slice(alloc, &[1])?);
-    Ok(MemLine::new(source, sink))
+    let bytes = Vec::from_slice(alloc, text.as_bytes())?;
+    let sink = failing_sink(alloc)?;
+    Ok(MemLine::new(MemSource::new(alloc, bytes), sink))
 }
 
 // Reads once, and writes what was read, once for each byte.
@@ -50,54 +64,61 @@ fn serve<N: Listener>(door: &mut N) -> &'static str {
     }
 }
 
-fn lines(alloc: Global, texts: &[&str]) -> Result<Vec<MemLine>, AllocError> {
+// A listener of lines of those texts, whose calls of those numbers fail.
+fn door(alloc: Global, texts: &[&str], fails: &[u64]) -> Result<MemListener, AllocError> {
     let mut lines = Vec::new(alloc);
     for text in texts {
         lines.push(line(alloc, text)?)?;
     }
-    Ok(lines)
+    Ok(MemListener::new(alloc, lines)?.with_fails(Vec::from_slice(alloc, fails)?))
 }
 
-// What was written to the closed lines, and how often their sinks had failed.
-fn closed_are(rt: &impl Abort, closed: &[MemClosed], wanted: &[(&[u8], u64)]) {
-    assert_eq!(rt; closed.len(), wanted.len());
-    for (line, (written, faults)) in closed.iter().zip(wanted) {
-        assert!(rt; line.written() == *written);
-        assert_eq!(rt; line.write_faults(), *faults);
-        assert_eq!(rt; line.read_faults(), 0);
+// What was written to a closed line, how often its sink had failed, and in how many pieces it kept that.
+type Kept<'a> = (&'a [u8], u64, usize);
+
+// Whether the closed lines are those, and no source had failed.
+fn are_closed(closed: &[MemClosed], wanted: &[Kept]) -> bool {
+    if closed.len() != wanted.len() {
+        return false;
     }
+    for (line, (written, faults, pieces)) in closed.iter().zip(wanted) {
+        if !is_closed(line, written, *faults, *pieces) {
+            return false;
+        }
+    }
+    true
+}
+
+fn is_closed(line: &MemClosed, written: &[u8], faults: u64, pieces: usize) -> bool {
+    line.written() == written
+        && line.write_faults() == faults
+        && line.read_faults() == 0
+        && line.sink().pieces().len() == pieces
 }
 
 #[test]
 fn a_listener_gives_its_lines_and_keeps_them(rt: HostRuntime) -> Result<(), AllocError> {
-    let alloc = rt.alloc();
-    let fails = Vec::from_slice(alloc, &[0, 3])?;
-    let mut door = MemListener::new(alloc, lines(alloc, &["a", "bcd"])?)?.with_fails(fails);
-    assert_eq!(rt; door.listen(80), Listening::Failed);
-    assert_eq!(rt; door.listen(80), Listening::Open);
+    let mut door = door(rt.alloc(), &["a", "bcd"], &[0, 3])?;
+    for wanted in [Listening::Failed, Listening::Open] {
+        assert!(rt; listen(&mut door) == wanted);
+    }
     for wanted in ["line", "failed", "line", "end", "end"] {
         assert!(rt; serve(&mut door) == wanted);
     }
-    closed_are(&rt, door.closed(), &[(b"a", 0), (b"bd", 1)]);
-    match door.closed() {
-        [_, second] => assert!(rt; second.sink().pieces() == [1, 1].as_slice()),
-        _ => assert!(rt; false),
-    }
+    assert!(rt; are_closed(door.closed(), &[(b"a", 0, 1), (b"bd", 1, 2)]));
     Ok(())
 }
 
 #[test]
 fn a_limited_listener_ends(rt: HostRuntime) -> Result<(), AllocError> {
-    let alloc = rt.alloc();
-    let inner = MemListener::new(alloc, lines(alloc, &["a", "b", "c"])?)?;
-    let mut door = Limited::new(inner.with_fails(Vec::from_slice(alloc, &[2])?), 2);
-    assert_eq!(rt; door.listen(80), Listening::Open);
+    let mut door = Limited::new(door(rt.alloc(), &["a", "b", "c"], &[2])?, 2);
+    assert!(rt; listen(&mut door) == Listening::Open);
     for wanted in ["line", "failed", "line", "end", "end"] {
         assert!(rt; serve(&mut door) == wanted);
     }
     let mut inner = door.into_inner();
     assert!(rt; serve(&mut inner) == "line");
-    assert_eq!(rt; inner.closed().len(), 3);
+    assert!(rt; inner.closed().len() == 3);
     Ok(())
 }
 
@@ -114,59 +135,79 @@ fn visit<P: Link>(link: &mut P, host: &str, port: u16) -> bool {
 }
 
 fn peer(alloc: Global, host: &str, port: u16, text: &str) -> Result<MemPeer, AllocError> {
-    Ok(MemPeer {
-        host: String::from_str(alloc, host)?,
-        port,
-        line: line(alloc, text)?,
-    })
+    let host = String::from_str(alloc, host)?;
+    let line = line(alloc, text)?;
+    Ok(MemPeer { host, port, line })
+}
+
+// A link of those lines, whose open of the number 3 fails.
+fn link(alloc: Global, lines: Vec<MemPeer>) -> Result<MemLink, AllocError> {
+    let fails = Vec::from_slice(alloc, &[3])?;
+    Ok(MemLink::new(alloc, lines)?.with_fails(fails))
 }
 
 #[test]
 fn a_link_opens_its_next_line_alone(rt: HostRuntime) -> Result<(), AllocError> {
     let alloc = rt.alloc();
-    let mut peers = Vec::new(alloc);
-    peers.push(peer(alloc, "one", 80, "ab")?)?;
-    peers.push(peer(alloc, "two", 81, "c")?)?;
-    let mut link = MemLink::new(alloc, peers)?.with_fails(Vec::from_slice(alloc, &[3])?);
-    let table = [
+    let mut lines = Vec::new(alloc);
+    lines.push(peer(alloc, "one", 80, "ab")?)?;
+    lines.push(peer(alloc, "two", 81, "c")?)?;
+    let mut link = link(alloc, lines)?;
+    for (host, port, opened) in [
         ("two", 80, false),
         ("one", 81, false),
         ("one", 80, true),
         ("two", 81, false),
         ("two", 81, true),
         ("two", 81, false),
-    ];
-    for (host, port, opened) in table {
-        assert_eq!(rt; visit(&mut link, host, port), opened);
+    ] {
+        assert!(rt; visit(&mut link, host, port) == opened);
     }
-    closed_are(&rt, link.closed(), &[(b"a", 1), (b"c", 0)]);
+    assert!(rt; are_closed(link.closed(), &[(b"a", 1, 1), (b"c", 0, 1)]));
     Ok(())
 }
 
-// Writes all of some bytes, piece after piece, through the bound.
-fn write<K: Sink>(sink: &mut K, bytes: &[u8]) -> bool {
-    write_all(sink, bytes).is_ok()
+#[test]
+fn a_link_opens_many_lines(rt: HostRuntime) -> Result<(), AllocError> {
+    let alloc = rt.alloc();
+    let mut lines = Vec::new(alloc);
+    for _ in 0..100u32 {
+        lines.push(peer(alloc, "one", 80, "a")?)?;
+    }
+    let mut link = link(alloc, lines)?;
+    for number in 0..101u32 {
+        assert!(rt; visit(&mut link, "one", 80) == (number != 3));
+    }
+    assert!(rt; link.closed().len() == 100);
+    Ok(())
+}
+
+// What gathers for that sink.
+fn gathering(alloc: Global, inner: MemSink) -> Result<Gathering<MemSink>, Fail> {
+    match Gathering::new(alloc, inner) {
+        Ok(sink) => Ok(sink),
+        Err(_) => Err(Fail::from("memory")),
+    }
+}
+
+fn keeps<K>(sink: &Gathering<K>, bytes: &[u8]) -> bool {
+    sink.kept() == bytes
 }
 
 #[test]
 fn small_writes_are_gathered(rt: HostRuntime) -> Result<(), Fail> {
     let alloc = rt.alloc();
-    let inner = MemSink::new(alloc, 2_000_000, 100)?;
-    let Ok(mut sink) = Gathering::new(alloc, inner) else {
-        return Err(Fail::from("memory"));
-    };
+    let mut gathering = gathering(alloc, sink(alloc, (2_000_000, 100), &[], &[])?)?;
     for _ in 0..70_000u32 {
-        assert!(rt; write(&mut sink, b"x"));
+        assert!(rt; write_whole(&mut gathering, b"x").is_ok());
     }
-    let mut large = Vec::with_capacity(alloc, 1_048_576)?;
-    for _ in 0..1_048_576u32 {
-        large.push(b'y')?;
+    let large = vec![in alloc; b'y'; LARGE]?;
+    for bytes in [large.as_slice(), b"end".as_slice()] {
+        assert!(rt; write_whole(&mut gathering, bytes).is_ok());
     }
-    assert!(rt; write(&mut sink, &large));
-    assert!(rt; write(&mut sink, b"end"));
-    assert!(rt; sink.kept() == b"end".as_slice());
-    assert_eq!(rt; sink.flush(), Flushing::Flushed);
-    let inner = sink.into_inner();
+    assert!(rt; keeps(&gathering, b"end"));
+    assert!(rt; flush(&mut gathering) == Flushing::Flushed);
+    let inner = gathering.into_inner();
     assert!(rt; inner.pieces() == [65_536, 4_464, 1_048_576, 3].as_slice());
     assert!(rt; inner.bytes().ends_with(b"yyend"));
     Ok(())
@@ -175,20 +216,15 @@ fn small_writes_are_gathered(rt: HostRuntime) -> Result<(), Fail> {
 #[test]
 fn a_failed_write_loses_nothing_that_is_gathered(rt: HostRuntime) -> Result<(), Fail> {
     let alloc = rt.alloc();
-    let inner = MemSink::new(alloc, 100, 100)?
-        .with_sizes(Vec::from_slice(alloc, &[2usize])?)
-        .with_fails(Vec::from_slice(alloc, &[1, 2])?);
-    let Ok(mut sink) = Gathering::new(alloc, inner) else {
-        return Err(Fail::from("memory"));
-    };
-    assert_eq!(rt; sink.write(b"abcde"), Gave::Bytes(5));
-    assert_eq!(rt; sink.flush(), Flushing::Failed);
-    assert!(rt; sink.kept() == b"cde".as_slice());
-    assert_eq!(rt; sink.write(&[b'z'; 65_536]), Gave::Failed);
-    assert_eq!(rt; sink.write(b"f"), Gave::Bytes(1));
-    assert_eq!(rt; sink.flush(), Flushing::Flushed);
-    let inner = sink.into_inner();
+    let mut gathering = gathering(alloc, sink(alloc, (100, 100), &[2], &[1, 2])?)?;
+    assert!(rt; write(&mut gathering, b"abcde") == Gave::Bytes(5));
+    assert!(rt; flush(&mut gathering) == Flushing::Failed);
+    assert!(rt; keeps(&gathering, b"cde"));
+    assert!(rt; write(&mut gathering, &[b'z'; 65_536]) == Gave::Failed);
+    assert!(rt; write(&mut gathering, b"f") == Gave::Bytes(1));
+    assert!(rt; flush(&mut gathering) == Flushing::Flushed);
+    let inner = gathering.into_inner();
     assert!(rt; inner.bytes() == b"abcdef".as_slice());
-    assert_eq!(rt; inner.faults(), 2);
+    assert!(rt; inner.faults() == 2);
     Ok(())
 }

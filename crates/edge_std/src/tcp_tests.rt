@@ -9,7 +9,6 @@ use edge_core::{
 use std::alloc::Global;
 use std::io::{Read, Write};
 use std::net::TcpStream;
-use std::process::Abort;
 use std::sync::{Arc, Mutex};
 use std::test::Fail;
 use std::thread;
@@ -61,6 +60,17 @@ fn drain<S: Source>(source: &mut S) -> (u64, Took) {
     (total, Took::Failed)
 }
 
+fn read<S: Source>(source: &mut S) -> Took {
+    source.read(&mut [0u8; 4])
+}
+
+fn write<K: Sink>(sink: &mut K, bytes: &[u8]) -> Gave {
+    if bytes.is_empty() {
+        return Gave::Failed;
+    }
+    sink.write(bytes)
+}
+
 #[test]
 fn a_silent_peer_is_a_fault(rt: HostRuntime) -> Result<(), Fail> {
     let short = Timeouts {
@@ -71,10 +81,10 @@ fn a_silent_peer_is_a_fault(rt: HostRuntime) -> Result<(), Fail> {
     let mut way = TcpWay::new(rt.clone()?).with_timeouts(short);
     let near = open(&mut way, port)?;
     let mut far = take(&mut door)?;
-    assert_eq!(rt; far.0.read(&mut [0u8; 4]), Took::Failed);
-    assert_eq!(rt; far.1.write(b"late"), Gave::Bytes(4));
+    assert!(rt; read(&mut far.0) == Took::Failed);
+    assert!(rt; write(&mut far.1, b"late") == Gave::Bytes(4));
     way.close(near.0, near.1);
-    assert_eq!(rt; drain(&mut far.0), (0, Took::End));
+    assert!(rt; drain(&mut far.0) == (0, Took::End));
     door.close(far.0, far.1);
     Ok(())
 }
@@ -84,11 +94,11 @@ fn a_reset_is_a_fault(rt: HostRuntime) -> Result<(), Fail> {
     let (mut door, port) = open_door(TcpDoor::new(rt.clone()?))?;
     let near = TcpStream::connect(&rt, (HOST, port))?;
     let mut far = take(&mut door)?;
-    assert_eq!(rt; far.1.write(b"unread"), Gave::Bytes(6));
+    assert!(rt; write(&mut far.1, b"unread") == Gave::Bytes(6));
     // What came and isn't read makes the close a reset.
-    assert_eq!(rt; near.peek(&mut [0u8; 1])?, 1);
+    assert!(rt; near.peek(&mut [0u8; 1])? == 1);
     drop(near);
-    assert_eq!(rt; drain(&mut far.0), (0, Took::Failed));
+    assert!(rt; drain(&mut far.0) == (0, Took::Failed));
     door.close(far.0, far.1);
     Ok(())
 }
@@ -131,44 +141,67 @@ fn a_refusal_arrives_whole(rt: HostRuntime) -> Result<(), Fail> {
         || send_and_drain(&rt, port, 40_000),
     );
     assert!(rt; whole);
-    assert_eq!(rt; answered?, 700);
+    assert!(rt; answered? == 700);
     Ok(())
+}
+
+// How a door at that host answers at a port.
+fn listening(rt: &HostRuntime, host: &str, port: u16) -> Result<Listening, Fail> {
+    Ok(TcpDoor::new(rt.clone()?).with_host(host).listen(port))
+}
+
+fn listen(door: &mut TcpDoor, port: u16) -> Listening {
+    door.listen(port)
+}
+
+// Whether a connection to that host is opened. It is let go.
+fn is_opened(rt: &HostRuntime, host: &str, port: u16) -> Result<bool, Fail> {
+    let mut way = TcpWay::new(rt.clone()?);
+    Ok(matches!(way.open(host, port), Opened::Line(_, _)))
 }
 
 #[test]
 fn what_cannot_be_opened_fails(rt: HostRuntime) -> Result<(), Fail> {
     let (first, port) = open_door(TcpDoor::new(rt.clone()?))?;
     let mut second = TcpDoor::new(rt.clone()?);
-    assert_eq!(rt; second.listen(port), Listening::Failed);
+    assert!(rt; listen(&mut second, port) == Listening::Failed);
     assert!(rt; matches!(second.accept(), Taken::Failed));
-    for host in ["", "localhost", "127.0.0.1:80"] {
-        assert_eq!(rt;
-            TcpDoor::new(rt.clone()?).with_host(host).listen(0),
-            Listening::Failed
-        );
+    for (host, wanted) in [
+        ("", Listening::Failed),
+        ("localhost", Listening::Failed),
+        ("127.0.0.1:80", Listening::Failed),
+        ("127.0.0.2", Listening::Open),
+    ] {
+        assert!(rt; listening(&rt, host, 0)? == wanted, "{host}");
     }
-    assert_eq!(rt;
-        TcpDoor::new(rt.clone()?).with_host("127.0.0.2").listen(0),
-        Listening::Open
-    );
     drop(first);
-    let mut way = TcpWay::new(rt.clone()?);
-    assert!(rt; matches!(way.open(HOST, port), Opened::Failed));
+    assert!(rt; !is_opened(&rt, HOST, port)?);
     // A port that was in use a moment ago can be opened.
-    assert_eq!(rt; second.listen(port), Listening::Open);
-    assert!(rt; matches!(way.open("[127.0.0.1]", port), Opened::Line(_, _)));
+    assert!(rt; listen(&mut second, port) == Listening::Open);
+    assert!(rt; is_opened(&rt, "[127.0.0.1]", port)?);
     Ok(())
 }
 
-// Serves lines to their end: reads each to its end, and answers with how much came, in MiB.
-fn serve<N: Listener>(door: &mut N) -> u32 {
+// 1 MiB.
+const LARGE: usize = 1_048_576;
+
+// Answers with 1 MiB, each byte of it the number of MiB that came.
+fn answer<K: Sink>(alloc: Global, output: &mut K, total: u64) -> bool {
+    let number = u8::try_from(total / LARGE as u64).unwrap_or(u8::MAX);
+    match vec![in alloc; number; LARGE] {
+        Ok(bytes) => write_all(output, &bytes).is_ok(),
+        Err(_) => false,
+    }
+}
+
+// Serves lines to their end: reads each to its end, and answers.
+fn serve<N: Listener>(alloc: Global, door: &mut N) -> u32 {
     let mut served = 0u32;
     for _ in 0..100u32 {
         match door.accept() {
             Taken::Line(mut input, mut output) => {
                 let (total, _) = drain(&mut input);
-                let answer = [u8::try_from(total / 1_048_576).unwrap_or(u8::MAX)];
-                if write_all(&mut output, &answer).is_ok() {
+                if answer(alloc, &mut output, total) {
                     served = served.saturating_add(1);
                 }
                 door.close(input, output);
@@ -179,18 +212,31 @@ fn serve<N: Listener>(door: &mut N) -> u32 {
     served
 }
 
-// Sends 1 MiB over a connection, shuts it, and reads the answer.
-fn send_large(alloc: Global, rt: &HostRuntime, port: u16) -> Result<u8, Fail> {
-    let mut bytes = Vec::with_capacity(alloc, 1_048_576)?;
-    for _ in 0..1_048_576u32 {
-        bytes.push(b'y')?;
-    }
+// Sends 1 MiB over a connection, and reads the answer to its end: how many bytes it has, and the last of them.
+fn send_large(alloc: Global, rt: &HostRuntime, port: u16) -> Result<(usize, u8), Fail> {
     let mut stream = TcpStream::connect(rt, (HOST, port))?;
-    stream.write_all(&bytes)?;
+    stream.write_all(&vec![in alloc; b'y'; LARGE]?)?;
     stream.shutdown(std::net::Shutdown::Write)?;
-    let mut out = [0u8; 1];
-    stream.read(&mut out)?;
-    Ok(out[0])
+    let mut out = [0u8; 16_384];
+    let mut total = 0usize;
+    for _ in 0..=LARGE {
+        let n = stream.read(&mut out)?;
+        if n == 0 {
+            return Ok((total, out[0]));
+        }
+        total = total.saturating_add(n);
+    }
+    Err(Fail::from("no end"))
+}
+
+// Whether each of three such answers is whole.
+fn send_thrice(alloc: Global, rt: &HostRuntime, port: u16) -> Result<bool, Fail> {
+    for _ in 0..3u32 {
+        if send_large(alloc, rt, port)? != (LARGE, 1) {
+            return Ok(false);
+        }
+    }
+    Ok(true)
 }
 
 #[test]
@@ -202,17 +248,17 @@ fn workers_serve_one_door(rt: HostRuntime) -> Result<(), Fail> {
     let mut second = LockedDoor::new(rt.clone()?, shared);
     let (answers, served) = thread::join(
         &rt,
-        || -> Result<u8, Fail> {
-            let mut sum = 0u8;
-            for _ in 0..3u32 {
-                sum = sum.saturating_add(send_large(alloc, &rt, port)?);
-            }
-            Ok(sum)
+        || send_thrice(alloc, &rt, port),
+        || {
+            thread::join(
+                &rt,
+                || serve(alloc, &mut first),
+                || serve(alloc, &mut second),
+            )
         },
-        || thread::join(&rt, || serve(&mut first), || serve(&mut second)),
     );
-    assert_eq!(rt; answers?, 3);
-    assert_eq!(rt; served.0.saturating_add(served.1), 3);
+    assert!(rt; answers?);
+    assert!(rt; served.0.saturating_add(served.1) == 3);
     Ok(())
 }
 

@@ -1,11 +1,10 @@
 //! A store in a real folder, which each test makes for itself.
 use crate::FileStore;
-use edge_core::{Got, Listed, Measured, Name, Put, Store};
+use edge_core::{Got, Listed, Measured, Name, Put, Segment, Store};
 use std::alloc::{AllocError, Global};
 use std::fs::DirBuilder;
 use std::io::ErrorKind;
 use std::os::unix::fs::symlink;
-use std::process::Abort;
 use std::test::Fail;
 use std::thread::Threads;
 use std::{env, fs, io, thread};
@@ -36,31 +35,73 @@ fn name(alloc: Global, text: &str) -> Result<Name, Fail> {
     }
 }
 
-fn holds(rt: &impl Abort, store: &mut FileStore, name: &Name, wanted: &[u8]) {
-    let mut out = [0u8; 16];
-    assert!(rt; matches!(store.get(name, 0, &mut out), Got::Bytes(n) if &out[..n] == wanted));
-    assert!(rt;
-        matches!(
-            store.get(name, wanted.len() as u64, &mut out),
-            Got::Bytes(0)
-        )
-    );
-    assert!(rt; matches!(store.size(name), Measured::Size(n) if n == wanted.len() as u64));
+fn put(alloc: Global, store: &mut FileStore, object: &str, bytes: &[u8]) -> Result<Put, Fail> {
+    let name = name(alloc, object)?;
+    Ok(store.put_absent(&name, bytes))
 }
 
-fn is_absent(rt: &impl Abort, store: &mut FileStore, name: &Name) {
-    assert!(rt; matches!(store.get(name, 0, &mut [0u8; 4]), Got::Absent));
-    assert!(rt; matches!(store.size(name), Measured::Absent));
-}
-
-fn lists(rt: &impl Abort, alloc: Global, store: &mut FileStore, dir: &Name, wanted: &[&str]) {
-    let Listed::Names(names) = store.list(alloc, dir) else {
-        panic!(rt; "the folder isn't listed");
-    };
-    assert_eq!(rt; names.items().len(), wanted.len());
-    for (name, wanted) in names.items().iter().zip(wanted) {
-        assert!(rt; name.as_str() == *wanted);
+// What is read into the room from a place on.
+fn get(
+    alloc: Global,
+    store: &mut FileStore,
+    object: &str,
+    from: u64,
+    out: &mut [u8],
+) -> Result<Got, Fail> {
+    let name = name(alloc, object)?;
+    if out.is_empty() {
+        return Err(Fail::from("no room"));
     }
+    Ok(store.get(&name, from, out))
+}
+
+fn size(alloc: Global, store: &mut FileStore, object: &str) -> Result<Measured, Fail> {
+    let name = name(alloc, object)?;
+    Ok(store.size(&name))
+}
+
+// Whether the object has those bytes, one or more.
+fn holds(alloc: Global, store: &mut FileStore, object: &str, wanted: &[u8]) -> Result<bool, Fail> {
+    let mut out = vec![in alloc; 0u8; wanted.len()]?;
+    Ok(
+        get(alloc, store, object, 0, &mut out)? == Got::Bytes(wanted.len())
+            && out.as_slice() == wanted
+            && get(alloc, store, object, wanted.len() as u64, &mut out)? == Got::Bytes(0)
+            && size(alloc, store, object)? == Measured::Size(wanted.len() as u64),
+    )
+}
+
+fn is_absent(alloc: Global, store: &mut FileStore, object: &str) -> Result<bool, Fail> {
+    Ok(
+        get(alloc, store, object, 0, &mut [0u8; 4])? == Got::Absent
+            && size(alloc, store, object)? == Measured::Absent,
+    )
+}
+
+// Whether the folder has the objects of those last segments, in order.
+fn lists(alloc: Global, store: &mut FileStore, dir: &str, wanted: &[&str]) -> Result<bool, Fail> {
+    let dir = name(alloc, dir)?;
+    match store.list(alloc, &dir) {
+        Listed::Names(names) => Ok(have_texts(names.items(), wanted)),
+        Listed::Failed | Listed::NoMemory => Err(Fail::from("the folder isn't listed")),
+    }
+}
+
+fn have_texts(segments: &[Segment], wanted: &[&str]) -> bool {
+    if segments.len() != wanted.len() {
+        return false;
+    }
+    for (segment, text) in segments.iter().zip(wanted) {
+        if segment.as_str() != *text {
+            return false;
+        }
+    }
+    true
+}
+
+fn remove(rt: &HostRuntime, folder: &str) -> Result<(), Fail> {
+    fs::remove_dir_all(rt, folder)?;
+    Ok(())
 }
 
 #[test]
@@ -68,26 +109,28 @@ fn stores_once_and_reads_again(rt: HostRuntime) -> Result<(), Fail> {
     let alloc = rt.alloc();
     let folder = fresh_folder(&rt)?;
     let mut store = store_in(&rt, folder.as_str())?;
-    let object = name(alloc, "t/_delta_log/0.json")?;
-    is_absent(&rt, &mut store, &object);
-    assert!(rt; matches!(store.put_absent(&object, b"abc"), Put::Stored));
-    assert!(rt; matches!(store.put_absent(&object, b"other"), Put::Exists));
-    holds(&rt, &mut store, &object, b"abc");
-    assert!(rt;
-        matches!(
-            store.put_absent(&name(alloc, "t/_delta_log/1.json")?, b"d"),
-            Put::Stored
-        )
-    );
-    lists(
-        &rt,
-        alloc,
-        &mut store,
-        &name(alloc, "t/_delta_log")?,
-        &["0.json", "1.json"],
-    );
-    fs::remove_dir_all(&rt, folder.as_str())?;
-    Ok(())
+    assert!(rt; is_absent(alloc, &mut store, "t/_delta_log/0.json")?);
+    for (object, bytes, wanted) in [
+        ("t/_delta_log/0.json", b"abc".as_slice(), Put::Stored),
+        ("t/_delta_log/0.json", b"other".as_slice(), Put::Exists),
+        ("t/_delta_log/1.json", b"d".as_slice(), Put::Stored),
+    ] {
+        assert!(rt; put(alloc, &mut store, object, bytes)? == wanted);
+    }
+    assert!(rt; holds(alloc, &mut store, "t/_delta_log/0.json", b"abc")?);
+    assert!(rt; lists(alloc, &mut store, "t/_delta_log", &["0.json", "1.json"])?);
+    remove(&rt, folder.as_str())
+}
+
+#[test]
+fn stores_a_large_object(rt: HostRuntime) -> Result<(), Fail> {
+    let alloc = rt.alloc();
+    let folder = fresh_folder(&rt)?;
+    let mut store = store_in(&rt, folder.as_str())?;
+    let bytes = vec![in alloc; b'x'; 1_048_576]?;
+    assert!(rt; put(alloc, &mut store, "large", &bytes)? == Put::Stored);
+    assert!(rt; holds(alloc, &mut store, "large", &bytes)?);
+    remove(&rt, folder.as_str())
 }
 
 #[test]
@@ -95,17 +138,42 @@ fn folders_are_no_objects(rt: HostRuntime) -> Result<(), Fail> {
     let alloc = rt.alloc();
     let folder = fresh_folder(&rt)?;
     let mut store = store_in(&rt, folder.as_str())?;
-    assert!(rt; matches!(store.put_absent(&name(alloc, "a/b/c")?, b"c"), Put::Stored));
-    is_absent(&rt, &mut store, &name(alloc, "a/b")?);
-    assert!(rt; matches!(store.put_absent(&name(alloc, "a/b")?, b"x"), Put::Failed));
-    // The folder's name is told, and nothing is there to be read.
-    lists(&rt, alloc, &mut store, &name(alloc, "a")?, &["b"]);
-    // A file in a folder's place: the folder isn't there, and nothing is below it.
-    lists(&rt, alloc, &mut store, &name(alloc, "a/b/c")?, &[]);
-    is_absent(&rt, &mut store, &name(alloc, "a/b/c/d")?);
-    lists(&rt, alloc, &mut store, &name(alloc, "none")?, &[]);
-    fs::remove_dir_all(&rt, folder.as_str())?;
+    assert!(rt; put(alloc, &mut store, "a/b/c", b"c")? == Put::Stored);
+    assert!(rt; put(alloc, &mut store, "a/b", b"x")? == Put::Failed);
+    // The folder's name is told, and nothing is there to be read. A file in a folder's place: the folder isn't there, and
+    // nothing is below it.
+    for object in ["a/b", "a/b/c/d"] {
+        assert!(rt; is_absent(alloc, &mut store, object)?);
+    }
+    assert!(rt; lists(alloc, &mut store, "a", &["b"])?);
+    for dir in ["a/b/c", "none"] {
+        assert!(rt; lists(alloc, &mut store, dir, &[])?);
+    }
+    remove(&rt, folder.as_str())
+}
+
+// Links in the folder `d`: to a file, to itself, to nothing and to the folder.
+fn link_all(rt: &HostRuntime, folder: &str) -> Result<(), Fail> {
+    for (target, link) in [
+        ("file", "good"),
+        ("loop", "loop"),
+        ("none", "nowhere"),
+        (".", "up"),
+    ] {
+        let path = format!(in rt.alloc(); "{folder}/d/{link}")?;
+        symlink(rt, target, path.as_str())?;
+    }
     Ok(())
+}
+
+// How many entries the folder `d` has on the disk.
+fn entries(rt: &HostRuntime, folder: &str) -> Result<usize, Fail> {
+    let mut count = 0usize;
+    for entry in fs::read_dir(rt, format!(in rt.alloc(); "{folder}/d")?.as_str())? {
+        entry?;
+        count = count.saturating_add(1);
+    }
+    Ok(count)
 }
 
 #[test]
@@ -113,35 +181,21 @@ fn links_that_lead_to_no_file_are_no_objects(rt: HostRuntime) -> Result<(), Fail
     let alloc = rt.alloc();
     let folder = fresh_folder(&rt)?;
     let mut store = store_in(&rt, folder.as_str())?;
-    assert!(rt; matches!(store.put_absent(&name(alloc, "d/file")?, b"f"), Put::Stored));
-    for (target, link) in [
-        ("file", "good"),
-        ("loop", "loop"),
-        ("none", "nowhere"),
-        (".", "up"),
-    ] {
-        let path = format!(in alloc; "{}/d/{link}", folder.as_str())?;
-        symlink(&rt, target, path.as_str())?;
-    }
-    holds(&rt, &mut store, &name(alloc, "d/good")?, b"f");
+    assert!(rt; put(alloc, &mut store, "d/file", b"f")? == Put::Stored);
+    link_all(&rt, folder.as_str())?;
+    assert!(rt; holds(alloc, &mut store, "d/good", b"f")?);
     for link in ["d/loop", "d/nowhere", "d/up"] {
-        is_absent(&rt, &mut store, &name(alloc, link)?);
+        assert!(rt; is_absent(alloc, &mut store, link)?, "{link}");
         assert!(rt;
-            matches!(store.put_absent(&name(alloc, link)?, b"x"), Put::Failed),
+            put(alloc, &mut store, link, b"x")? == Put::Failed,
             "{link}"
         );
     }
     // Each name is told, and what a failed put wrote is gone.
-    let folder_names = ["file", "good", "loop", "nowhere", "up"];
-    lists(&rt, alloc, &mut store, &name(alloc, "d")?, &folder_names);
-    let mut count = 0usize;
-    for entry in fs::read_dir(&rt, format!(in alloc; "{}/d", folder.as_str())?.as_str())? {
-        entry?;
-        count = count.saturating_add(1);
-    }
-    assert_eq!(rt; count, folder_names.len());
-    fs::remove_dir_all(&rt, folder.as_str())?;
-    Ok(())
+    let names = ["file", "good", "loop", "nowhere", "up"];
+    assert!(rt; lists(alloc, &mut store, "d", &names)?);
+    assert!(rt; entries(&rt, folder.as_str())? == names.len());
+    remove(&rt, folder.as_str())
 }
 
 #[test]
@@ -157,27 +211,22 @@ fn pieces_are_those_of_the_named_object(rt: HostRuntime) -> Result<(), Fail> {
         ("d/10", b"fourth"),
     ] {
         assert!(rt;
-            matches!(store.put_absent(&name(alloc, object)?, bytes), Put::Stored),
+            put(alloc, &mut store, object, bytes)? == Put::Stored,
             "{object}"
         );
     }
     let mut out = [0u8; 3];
-    assert!(rt; matches!(store.get(&name(alloc, "d/b1")?, 0, &mut out), Got::Bytes(3)));
-    assert!(rt; out == *b"fir");
-    assert!(rt; matches!(store.get(&name(alloc, "d/a2")?, 3, &mut out), Got::Bytes(3)));
-    assert!(rt; out == *b"ond");
-    assert!(rt; matches!(store.get(&name(alloc, "d/b1")?, 3, &mut out), Got::Bytes(3)));
-    assert!(rt; out == *b"st.");
-    assert!(rt; matches!(store.get(&name(alloc, "d/b1")?, 6, &mut out), Got::Bytes(0)));
-    lists(
-        &rt,
-        alloc,
-        &mut store,
-        &name(alloc, "d")?,
-        &["10", "a", "a2", "b1"],
-    );
-    fs::remove_dir_all(&rt, folder.as_str())?;
-    Ok(())
+    for (object, from, count, piece) in [
+        ("d/b1", 0, 3, b"fir"),
+        ("d/a2", 3, 3, b"ond"),
+        ("d/b1", 3, 3, b"st."),
+        ("d/b1", 6, 0, b"st."),
+    ] {
+        assert!(rt; get(alloc, &mut store, object, from, &mut out)? == Got::Bytes(count));
+        assert!(rt; out == *piece);
+    }
+    assert!(rt; lists(alloc, &mut store, "d", &["10", "a", "a2", "b1"])?);
+    remove(&rt, folder.as_str())
 }
 
 #[test]
@@ -185,15 +234,20 @@ fn a_name_too_long_for_the_disk_fails(rt: HostRuntime) -> Result<(), Fail> {
     let alloc = rt.alloc();
     let folder = fresh_folder(&rt)?;
     let mut store = store_in(&rt, folder.as_str())?;
-    let mut text = String::new(alloc);
+    let mut long = String::new(alloc);
     for _ in 0..300 {
-        text.push('n')?;
+        long.push('n')?;
     }
-    let long = name(alloc, text.as_str())?;
-    assert!(rt; matches!(store.put_absent(&long, b"x"), Put::Failed));
-    assert!(rt; matches!(store.get(&long, 0, &mut [0u8; 4]), Got::Failed));
-    assert!(rt; matches!(store.size(&long), Measured::Failed));
-    fs::remove_dir_all(&rt, folder.as_str())?;
+    assert!(rt; put(alloc, &mut store, long.as_str(), b"x")? == Put::Failed);
+    assert!(rt; get(alloc, &mut store, long.as_str(), 0, &mut [0u8; 4])? == Got::Failed);
+    assert!(rt; size(alloc, &mut store, long.as_str())? == Measured::Failed);
+    remove(&rt, folder.as_str())
+}
+
+// Leaves what a program leaves that was stopped while it wrote.
+fn leave_half(rt: &HostRuntime, folder: &str) -> Result<(), Fail> {
+    let path = format!(in rt.alloc(); "{folder}/d/.share-put-0")?;
+    fs::write(rt, path.as_str(), b"half")?;
     Ok(())
 }
 
@@ -202,37 +256,18 @@ fn what_has_no_name_yet_is_passed_over(rt: HostRuntime) -> Result<(), Fail> {
     let alloc = rt.alloc();
     let folder = fresh_folder(&rt)?;
     let mut store = store_in(&rt, folder.as_str())?;
-    assert!(rt; matches!(store.put_absent(&name(alloc, "d/one")?, b"1"), Put::Stored));
-    // What a program leaves that was stopped while it wrote.
-    fs::write(
-        &rt,
-        format!(in alloc; "{}/d/.share-put-0", folder.as_str())?.as_str(),
-        b"half",
-    )?;
-    assert!(rt; matches!(store.put_absent(&name(alloc, "d/two")?, b"22"), Put::Stored));
-    lists(&rt, alloc, &mut store, &name(alloc, "d")?, &["one", "two"]);
-    is_absent(&rt, &mut store, &name(alloc, "d/.share-put-0")?);
-    assert!(rt;
-        matches!(
-            store.put_absent(&name(alloc, "d/.share-put-1")?, b"x"),
-            Put::Failed
-        )
-    );
-    fs::remove_dir_all(&rt, folder.as_str())?;
-    Ok(())
+    assert!(rt; put(alloc, &mut store, "d/one", b"1")? == Put::Stored);
+    leave_half(&rt, folder.as_str())?;
+    assert!(rt; put(alloc, &mut store, "d/two", b"22")? == Put::Stored);
+    assert!(rt; lists(alloc, &mut store, "d", &["one", "two"])?);
+    assert!(rt; is_absent(alloc, &mut store, "d/.share-put-0")?);
+    assert!(rt; put(alloc, &mut store, "d/.share-put-1", b"x")? == Put::Failed);
+    remove(&rt, folder.as_str())
 }
 
 const OBJECTS: u32 = 20;
 
 const SIZE: usize = 400_000;
-
-fn object_bytes(alloc: Global) -> Result<Vec<u8>, AllocError> {
-    let mut bytes = Vec::with_capacity(alloc, SIZE)?;
-    for _ in 0..SIZE {
-        bytes.push(7)?;
-    }
-    Ok(bytes)
-}
 
 fn object_name(alloc: Global, number: u32) -> Option<Name> {
     let Ok(text) = format!(in alloc; "d/{number}") else {
@@ -281,14 +316,13 @@ fn a_reader_never_sees_half_an_object(rt: HostRuntime) -> Result<(), Fail> {
     let folder = fresh_folder(&rt)?;
     let mut writer = store_in(&rt, folder.as_str())?;
     let mut reader = store_in(&rt, folder.as_str())?;
-    let bytes = object_bytes(alloc)?;
+    let bytes = vec![in alloc; 7u8; SIZE]?;
     let (stored, whole) = thread::join(
         &rt,
         || write_objects(alloc, &mut writer, bytes.as_slice()),
         || sees_whole_objects(alloc, &mut reader),
     );
-    assert_eq!(rt; stored, OBJECTS);
+    assert!(rt; stored == OBJECTS);
     assert!(rt; whole);
-    fs::remove_dir_all(&rt, folder.as_str())?;
-    Ok(())
+    remove(&rt, folder.as_str())
 }

@@ -1,6 +1,6 @@
 -- A head at the front of a text, and the head that the whole text is.
-use Rattle.std.proofs.Common.{◌≡◌, ◌≢◌, ℕ, ◌<◌, ◌≤◌, inl, inr, leb, eqb, List, [], ◌++◌, length, drop, sym, ap, subst, ◌∙◌, arith}
-use Rattle.std.specs.Bool.{MatchBool}
+use Rattle.std.proofs.Common.{◌≡◌, ◌≢◌, ℕ, ◌<◌, ◌≤◌, Bool, true, false, inl, inr, leb, eqb, List, [], ◌++◌, length, drop, sym, ap, subst, ◌∙◌, arith}
+use Rattle.std.specs.Bool.{MatchBool, then_some}
 use Rattle.std.proofs.lemmas.Bool.{cases_lt, le-leb, lt-leb, ne_eqb}
 use Rattle.std.proofs.lemmas.List.{append-nil, length-map, drop_all}
 use Rattle.httparse.specs.Grammar.{RequestHead, ReadsRequest, print_request, Field, LineEnd, ReadsSection, print_section, HasNoSection}
@@ -11,6 +11,7 @@ use Rattle.httparse.proofs.GrammarLemmas.{request_unique, section_unique}
 use Rattle.http_message.specs.declared.head.Head.{Head}
 use Rattle.http_message.specs.Heads.{head_of_tree, IsTextOf, IsHeadText, IsTrailersOf, IsTrailersText}
 use Rattle.http_message.specs.Fronts.{IsFront}
+use Rattle.http_message.specs.HeadReadings.{TellsHeadText}
 
 pub reads_whole : (text : List ℕ) (tree : RequestHead) → IsTextOf text tree → ReadsRequest text tree []
 reads_whole text tree whole = (whole.valid, whole.spelled ∙ sym (append-nil (print_request tree)))
@@ -40,6 +41,16 @@ front_is_whole text head len tree other front is =
       front.len_is ∙ ap (λ x. length (print_request x)) same ∙ sym (ap length is.1.spelled),
       omega (arith, ap length front.fields, length-map tree.fields name_and_value, few),
     )
+
+-- what is told of a text by whether the head at its front is the whole
+pub told_head : (text : List ℕ) (head : Head) (len : ℕ) (tree : RequestHead) → IsFront text head len tree → (whole : Bool)
+    → MatchBool whole ((len ≡ length text) × (length head.fields ≤ 64)) ((len ≡ length text) → 64 < length head.fields)
+    → TellsHeadText IsHeadText text (then_some whole head)
+told_head text head len tree front true few = whole_front text head len tree front few.0 few.1
+told_head text head len tree front false many = λ other is.
+    let whole = front_is_whole text head len tree other front is in
+    let more = many whole.0 in
+    omega (arith, more, whole.1)
 
 -- ---- trailers
 

@@ -1,10 +1,12 @@
 -- The head of a response at the front of a text, and the head that the whole text is.
-use Rattle.std.proofs.Common.{◌≡◌, ℕ, ◌<◌, ◌≤◌, List, [], ◌++◌, length, drop, sym, ap, ◌∙◌, arith}
+use Rattle.std.proofs.Common.{◌≡◌, ℕ, ◌<◌, ◌≤◌, Bool, true, false, List, [], ◌++◌, length, drop, sym, ap, ◌∙◌, arith}
+use Rattle.std.specs.Bool.{MatchBool, then_some}
 use Rattle.std.proofs.lemmas.List.{append-nil, length-map, drop_all}
 use Rattle.httparse.specs.Grammar.{ResponseHead as Tree, ReadsResponse, print_response}
 use Rattle.httparse.specs.Spans.{name_and_value}
 use Rattle.httparse.proofs.GrammarLemmas.{response_unique}
 use Rattle.http_message.specs.declared.response.ResponseHead.{ResponseHead}
+use Rattle.http_message.specs.HeadReadings.{TellsHeadText}
 use Rattle.http_message.specs.Responses.{response_of_tree, IsResponseOf, IsResponseText, IsResponseFront}
 
 pub reads_response : (text : List ℕ) (tree : Tree) → IsResponseOf text tree → ReadsResponse text tree []
@@ -30,3 +32,13 @@ front_is_response text head len tree other front is =
       front.len_is ∙ ap (λ x. length (print_response x)) same ∙ sym (ap length is.1.spelled),
       omega (arith, ap length front.fields, length-map tree.fields name_and_value, few),
     )
+
+-- what is told of a text by whether the head at its front is the whole
+pub told_response : (text : List ℕ) (head : ResponseHead) (len : ℕ) (tree : Tree) → IsResponseFront text head len tree → (whole : Bool)
+    → MatchBool whole ((len ≡ length text) × (length head.fields ≤ 64)) ((len ≡ length text) → 64 < length head.fields)
+    → TellsHeadText IsResponseText text (then_some whole head)
+told_response text head len tree front true few = whole_response text head len tree front few.0 few.1
+told_response text head len tree front false many = λ other is.
+    let whole = front_is_response text head len tree other front is in
+    let more = many whole.0 in
+    omega (arith, more, whole.1)

@@ -1,5 +1,5 @@
 // Heads as texts.
-ghost use Rattle.std.specs.Prelude.{◌≡◌, ℕ, ◌-◌, ◌^◌, List, map, min, sum_by, IfOk, MatchBool};
+ghost use Rattle.std.specs.Prelude.{◌≡◌, ◌≤◌, ◌<◌, ℕ, ◌-◌, ◌^◌, List, length, map, min, sum_by, IfOk, MatchBool};
 ghost use Rattle.httparse.specs.Borrowed.{header_parts};
 ghost use Rattle.http_message.specs.Fields.{field_len};
 ghost use Rattle.http_message.specs.Heads.{IsHeadText, IsTrailersText};
@@ -113,22 +113,21 @@ impl HeadText for Head {
     }
 }
 
-/// The head that the whole text is, or none where it is no head with at most 64 fields.
+// Whether a head of that length and with those fields is the whole text, with at most 64 of them.
+pub(crate) fn is_whole(text: &[u8], len: usize, fields: &Fields) -> bool
+    ensures { MatchBool result ((len ≡ length text.now) × (length fields.now ≤ 64)) ((len ≡ length text.now) → 64 < length fields.now) }
+{
+    len == text.len() && fields.len() <= 64
+}
+
+/// The head of a request that the whole text is, or none where it is no head with at most 64 fields.
 ///
 /// The error is want of memory.
 pub fn head_in(alloc: Global, text: &[u8]) -> Result<Option<Head>, AllocError>
     ensures { IfOk result (TellsHeadText IsHeadText text.now) }
 {
     match front_of(alloc, text) {
-        Ok((head, len)) => {
-            if len != text.len() {
-                return Ok(None);
-            }
-            if head.fields.len() > 64 {
-                return Ok(None);
-            }
-            Ok(Some(head))
-        }
+        Ok((head, len)) => Ok(is_whole(text, len, &head.fields).then_some(head)),
         Err(HeadFault::NoHead) => Ok(None),
         Err(HeadFault::NoMemory) => Err(AllocError),
     }

@@ -6,7 +6,7 @@ ghost use Rattle.http_message.specs.Responses.{is_bodiless, response_form, IsRes
 
 use crate::field::{Fields, count_named};
 use crate::framing::{Form, form_in};
-use crate::head::{HeadFault, HeadText, copy_fields};
+use crate::head::{HeadFault, HeadText, copy_fields, is_whole};
 use crate::refusal::Flaw;
 use httparse::{EMPTY_HEADER, Response, Status};
 use std::alloc::{AllocError, Global};
@@ -63,15 +63,7 @@ pub fn response_in(alloc: Global, text: &[u8]) -> Result<Option<ResponseHead>, A
     ensures { IfOk result (TellsHeadText IsResponseText text.now) }
 {
     match response_front(alloc, text) {
-        Ok((head, len)) => {
-            if len != text.len() {
-                return Ok(None);
-            }
-            if head.fields.len() > 64 {
-                return Ok(None);
-            }
-            Ok(Some(head))
-        }
+        Ok((head, len)) => Ok(is_whole(text, len, &head.fields).then_some(head)),
         Err(HeadFault::NoHead) => Ok(None),
         Err(HeadFault::NoMemory) => Err(AllocError),
     }

@@ -142,6 +142,90 @@ fn responses_have_a_status_and_a_body(rt: HostRuntime) -> Result<(), AllocError>
     Ok(())
 }
 
+// The first line, so many fields, and an empty line.
+fn with_fields(alloc: Global, first: &[u8], count: usize) -> Result<Vec<u8>, AllocError> {
+    let mut text = Vec::from_slice(alloc, first)?;
+    for _ in 0..count {
+        text.extend_from_slice(b"A: b\r\n")?;
+    }
+    text.extend_from_slice(b"\r\n")?;
+    Ok(text)
+}
+
+fn request_fields(alloc: Global, text: &[u8]) -> Result<Option<usize>, AllocError> {
+    match head_in(alloc, text)? {
+        Some(head) => Ok(Some(head.fields.len())),
+        None => Ok(None),
+    }
+}
+
+fn response_fields(alloc: Global, text: &[u8]) -> Result<Option<usize>, AllocError> {
+    match response_in(alloc, text)? {
+        Some(head) => Ok(Some(head.fields.len())),
+        None => Ok(None),
+    }
+}
+
+#[test]
+fn heads_have_up_to_64_fields(rt: HostRuntime) -> Result<(), AllocError> {
+    let a = rt.alloc();
+    for (count, wanted) in [(64, Some(64)), (65, None)] {
+        let request = with_fields(a, b"GET / HTTP/1.0\r\n", count)?;
+        assert!(&rt; request_fields(a, &request)? == wanted);
+        let response = with_fields(a, b"HTTP/1.1 200 OK\r\n", count)?;
+        assert!(&rt; response_fields(a, &response)? == wanted);
+        assert!(&rt; is_trailers(&with_fields(a, b"", count)?) == wanted.is_some());
+    }
+    Ok(())
+}
+
+// So many empty lines, a line of so many letters and an empty line.
+fn long_text(alloc: Global, count: usize) -> Result<Vec<u8>, AllocError> {
+    let mut text = vec![in alloc; b'\n'; count]?;
+    text.extend_from_slice(&vec![in alloc; b'x'; count]?)?;
+    text.extend_from_slice(b"\n\n")?;
+    Ok(text)
+}
+
+// How many bytes the empty lines in front have, where the first empty line behind them ends, and how many lines there are.
+fn ends(text: &[u8], start: usize) -> (usize, Option<usize>, usize) {
+    if start > text.len() {
+        return (0, None, 0);
+    }
+    (
+        blank_len(text),
+        end_after(text, start, start),
+        line_count(text),
+    )
+}
+
+#[test]
+fn long_texts_have_ends(rt: HostRuntime) -> Result<(), AllocError> {
+    let text = long_text(rt.alloc(), 1_048_576)?;
+    assert!(&rt; ends(&text, 1_048_576) == (1_048_576, Some(2_097_154), 1_048_578));
+    Ok(())
+}
+
+// So many small fields behind a large one.
+fn many_fields(alloc: Global, large: &[u8], count: usize) -> Result<Fields, AllocError> {
+    let mut fields = Fields::with_capacity(alloc, 0, 0)?;
+    fields.push(b"Large", large)?;
+    for _ in 0..count {
+        fields.push(b"Small", b"x")?;
+    }
+    Ok(fields)
+}
+
+#[test]
+fn many_and_large_fields_are_kept(rt: HostRuntime) -> Result<(), AllocError> {
+    let large = vec![in rt.alloc(); b'y'; 1_048_576]?;
+    let fields = many_fields(rt.alloc(), &large, 100)?;
+    assert!(&rt; is_at(&fields, 0, b"Large", &large));
+    assert!(&rt; is_at(&fields, 100, b"Small", b"x"));
+    assert!(&rt; fields.len() == 101);
+    Ok(())
+}
+
 // Whether the field at that index has that name and that value.
 fn is_at(fields: &Fields, index: usize, name: &[u8], value: &[u8]) -> bool {
     index < fields.len() && fields.name(index) == name && fields.value(index) == value

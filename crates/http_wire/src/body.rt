@@ -68,8 +68,8 @@ fn chunked<S: Source>(
 fn to_end<S: Source>(
     inbox: &mut Inbox,
     source: &mut S,
-    most: usize,
     body: &mut Vec<u8>,
+    most: usize,
 ) -> Result<BodyRead, Halt>
     requires { body.old.items ≡ [] }
     ensures later { S.faults source.old ≤ S.faults source.new }
@@ -101,6 +101,6 @@ pub(crate) fn read_body<S: Source>(
     match form {
         Some(Form::Length(size)) => sized(inbox, source, most, size as usize, body),
         Some(Form::Chunked) => chunked(inbox, source, most, body),
-        None => to_end(inbox, source, most, body),
+        None => to_end(inbox, source, body, most),
     }
 }

@@ -198,6 +198,34 @@ fn responses_are_read_no_further_than_they_go(rt: HostRuntime) -> Result<(), All
     Ok(())
 }
 
+// The text with 1 MiB of letters and then the last text behind it.
+fn with_large(alloc: Global, first: &[u8], last: &[u8]) -> Result<Vec<u8>, AllocError> {
+    let mut text = Vec::from_slice(alloc, first)?;
+    text.extend_from_slice(&vec![in alloc; b'a'; 1_048_576]?)?;
+    text.extend_from_slice(last)?;
+    Ok(text)
+}
+
+#[test]
+fn large_bodies_are_whole(rt: HostRuntime) -> Result<(), AllocError> {
+    let a = rt.alloc();
+    for (first, last) in [
+        (
+            b"HTTP/1.1 200 OK\r\nContent-Length: 1048576\r\n\r\n".as_slice(),
+            b"".as_slice(),
+        ),
+        (
+            b"HTTP/1.1 200 OK\r\nTransfer-Encoding: chunked\r\n\r\n100000\r\n".as_slice(),
+            b"\r\n0\r\n\r\n".as_slice(),
+        ),
+        (b"HTTP/1.1 200 OK\r\n\r\n".as_slice(), b"".as_slice()),
+    ] {
+        let text = with_large(a, first, last)?;
+        assert!(&rt; reply_to(a, false, &text, 10_000_000)? == Told::Response(200, 1_048_576));
+    }
+    Ok(())
+}
+
 #[test]
 fn a_head_is_read_alone(rt: HostRuntime) -> Result<(), AllocError> {
     let a = rt.alloc();
