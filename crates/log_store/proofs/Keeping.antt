@@ -11,7 +11,8 @@ use Rattle.log_actions.specs.declared.actions.Action.{Action}
 use Rattle.log_commit.specs.Names.{commit_name}
 use Rattle.log_commit.specs.Texts.{commit_in}
 use Rattle.log_replay.proofs.RefusalLemmas.{first_at, none_at, shift}
-use Rattle.log_store.specs.Log.{block_below, cause_at, commit_at, commits_below, log_below, printed_bytes, text_at}
+use Rattle.log_actions.specs.CommitTexts.{printed_bytes}
+use Rattle.log_store.specs.Log.{block_below, cause_at, commit_at, commits_below, log_below, text_at}
 use Rattle.log_store.specs.Reading.{Adds, AreStored, Keeps, cause_found}
 use Rattle.log_store.specs.declared.loaded.Block.{Block}
 use Rattle.log_store.specs.declared.loaded.BlockCause.{BlockCause}

@@ -8,7 +8,8 @@ use Rattle.edge_core.specs.Objects.{Objects, Grows, Between, listing}
 use Rattle.log_commit.specs.Names.{folder, version_of}
 use Rattle.log_replay.proofs.NextLemmas.{none_each}
 use Rattle.log_replay.proofs.RefusalLemmas.{shift}
-use Rattle.log_store.specs.Log.{block_below, cause_at, commits_below, end_of, log_below, log_in, missing, printed_bytes, text_at, versions_in}
+use Rattle.log_actions.specs.CommitTexts.{printed_bytes}
+use Rattle.log_store.specs.Log.{block_below, cause_at, commits_below, end_of, log_below, log_in, missing, text_at, versions_in}
 use Rattle.log_store.specs.Reading.{AreStored, gap_at, leading_from}
 use Rattle.log_store.specs.declared.loaded.Block.{Block}
 use Rattle.log_store.specs.declared.loaded.BlockCause.{BlockCause}

@@ -1,13 +1,14 @@
 -- The log of a table in a store, as a function of the store's objects (Delta Lake PROTOCOL.md, "Delta Log Entries").
-use Rattle.std.specs.Prelude.{ℕ, ◌+◌, ◌^◌, ◌==◌, List, [], ◌∷◌, ◌++◌, length, filter_map, fold, min, max, slice_get, Option, Some, option_map, option_and_then, Result, Ok, Err, nat_lt, if◌then◌else◌}
-use Rattle.std.specs.List.{sum_by, range_with_len}
+use Rattle.std.specs.Prelude.{ℕ, ◌+◌, ◌^◌, ◌==◌, List, [], ◌∷◌, ◌++◌, filter_map, fold, min, max, slice_get, Option, Some, option_map, option_and_then, Result, Ok, Err, nat_lt, if◌then◌else◌}
+use Rattle.std.specs.List.{range_with_len}
 use Rattle.std.specs.Option.{option_map_or}
 use Rattle.std.specs.Result.{result_ok}
 use Rattle.std.specs.FinMap as finmap
 use Rattle.edge_core.specs.Objects.{Objects, listing}
 use Rattle.log_actions.specs.declared.actions.Action.{Action}
+use Rattle.log_actions.specs.CommitTexts.{printed_bytes}
 use Rattle.log_commit.specs.Names.{commit_name, folder, version_of}
-use Rattle.log_commit.specs.Texts.{commit_in, commit_text}
+use Rattle.log_commit.specs.Texts.{commit_in}
 use Rattle.log_commit.specs.declared.faults.CommitFault.{CommitFault}
 use Rattle.log_replay.specs.Support.{refusal_of}
 use Rattle.log_store.specs.declared.loaded.Block.{Block}
@@ -39,10 +40,6 @@ commit_at location objects version = option_and_then (λ bytes. result_ok (commi
 -- the commits of the versions below one
 abbrev pub commits_below : List ℕ → Objects → ℕ → List (List Action)
 commits_below location objects version = filter_map (commit_at location objects) (range_with_len 0 version)
-
--- how many bytes the printed texts of commits have in sum
-abbrev pub printed_bytes : List (List Action) → ℕ
-printed_bytes log = sum_by (λ c. length (commit_text c)) log
 
 -- why a commit isn't kept after those before it: their printed texts with its own pass 64 MiB in sum, or else its version isn't read
 abbrev pub cause_with : List (List Action) → List Action → Option BlockCause

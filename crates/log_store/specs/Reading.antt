@@ -5,7 +5,8 @@ use Rattle.edge_core.specs.Objects.{Objects, Grows, listing}
 use Rattle.log_actions.specs.declared.actions.Action.{Action}
 use Rattle.log_commit.specs.Texts.{commit_in}
 use Rattle.log_replay.specs.Support.{IsSupported, Standing, standing_of}
-use Rattle.log_store.specs.Log.{cause_of, missing, printed_bytes, text_at}
+use Rattle.log_actions.specs.CommitTexts.{printed_bytes}
+use Rattle.log_store.specs.Log.{cause_of, missing, text_at}
 use Rattle.log_store.specs.declared.loaded.Block.{Block}
 use Rattle.log_store.specs.declared.loaded.BlockCause.{BlockCause}
 use Rattle.log_store.specs.declared.loaded.BlockCause.TheVariants as cause

@@ -1,14 +1,14 @@
 // The commits that are kept, one version after another.
 ghost use Rattle.std.specs.Prelude.{◌≡◌, ◌<◌, ◌^◌, ◌++◌, ◌∷◌, [], IfOk, OnOk, OnErr, false, length, map};
-ghost use Rattle.log_store.specs.Log.{cause_with, printed_bytes};
+ghost use Rattle.log_actions.specs.CommitTexts.{printed_bytes};
+ghost use Rattle.log_store.specs.Log.{cause_with};
 ghost use Rattle.log_store.specs.Reading.{IsLoaded, Stops};
 ghost use Rattle.log_store.specs.Refusals.{failed_step};
 ghost use Rattle.std.specs.Prelude.{IfSome};
 
 use crate::loaded::{Block, BlockCause, Commits, Loaded};
 use crate::refusal::Stop;
-use log_actions::Commit;
-use log_commit::text_len;
+use log_actions::{Commit, text_len};
 use log_replay::Support;
 use std::alloc::Global;
 use std::marker::Model;

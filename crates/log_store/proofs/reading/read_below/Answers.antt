@@ -1,5 +1,5 @@
 use Rattle.std.proofs.Common.{arith, ◌∙◌, ◌<◌, ap, Err, Some}
-use Rattle.log_store.specs.Log.{printed_bytes}
+use Rattle.log_actions.specs.CommitTexts.{printed_bytes}
 use Rattle.log_store.proofs.Growing.{looked_more}
 use Rattle.log_store.proofs.Keeping.{keeps_then, reading_more, reading_stops, reading_done}
 use Rattle.log_store.proofs.reading.read_below.Goals as goal
