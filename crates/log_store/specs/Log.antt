@@ -1,5 +1,5 @@
 -- The log of a table in a store, as a function of the store's objects (Delta Lake PROTOCOL.md, "Delta Log Entries").
-use Rattle.std.specs.Prelude.{ℕ, ◌+◌, ◌^◌, ◌==◌, List, [], ◌∷◌, ◌++◌, length, filter_map, fold, min, max, slice_get, Option, Some, option_map, option_and_then, Result, Ok, Err, nat_lt, if◌then◌else◌}
+use Rattle.std.specs.Prelude.{ℕ, ◌+◌, ◌^◌, ◌==◌, List, [], ◌∷◌, ◌++◌, filter_map, fold, min, max, slice_get, Option, Some, option_map, option_and_then, Result, Ok, Err, nat_lt, if◌then◌else◌}
 use Rattle.std.specs.List.{range_with_len}
 use Rattle.std.specs.Option.{option_map_or}
 use Rattle.std.specs.Result.{result_ok}

@@ -37,18 +37,18 @@ impl<'a> FileParts<'a> {
         }
     }
 
-    pub(crate) fn of_line(file: &'a FileLine) -> FileParts<'a>
-        ensures { file_in result ≡ file.now }
+    pub(crate) fn of_line(line: &'a FileLine) -> FileParts<'a>
+        ensures { file_in result ≡ line.now }
     {
         FileParts {
-            url: &file.url,
-            id: &file.id,
-            values: &file.values,
-            size: file.size,
-            stats: &file.stats,
-            expires: file.expires,
-            time: file.time,
-            version: file.version,
+            url: &line.url,
+            id: &line.id,
+            values: &line.values,
+            size: line.size,
+            stats: &line.stats,
+            expires: line.expires,
+            time: line.time,
+            version: line.version,
         }
     }
 }
@@ -77,16 +77,16 @@ impl<'a> MetaParts<'a> {
         }
     }
 
-    pub(crate) fn of_line(meta: &'a MetaLine) -> MetaParts<'a>
-        ensures { meta_in result ≡ meta.now }
+    pub(crate) fn of_line(line: &'a MetaLine) -> MetaParts<'a>
+        ensures { meta_in result ≡ line.now }
     {
         MetaParts {
-            id: &meta.id,
-            name: &meta.name,
-            description: &meta.description,
-            schema: &meta.schema,
-            columns: &meta.columns,
-            configuration: &meta.configuration,
+            id: &line.id,
+            name: &line.name,
+            description: &line.description,
+            schema: &line.schema,
+            columns: &line.columns,
+            configuration: &line.configuration,
         }
     }
 }
