@@ -6,8 +6,10 @@ ghost use Rattle.std.specs.Prelude.{◌≡◌, ◌↔◌, IsTrue};
 ghost use Rattle.hmac_core.specs.Hmac as spec;
 
 mod equal;
+mod fault;
 mod key;
 
+pub use fault::Fault;
 pub use key::{HmacKey, are_tag_digits};
 
 #[cfg(test)]

@@ -1,5 +1,6 @@
 pub mod Fields
 pub mod Gives
 pub mod Lists
+pub mod Options
 pub mod Pairs
 pub mod Tree

@@ -16,7 +16,8 @@ use Rattle.page_token.specs.declared.cursor.FeedCursor.{FeedCursor}
 use Rattle.page_token.specs.declared.cursor.Cursor.{Cursor}
 use Rattle.page_token.specs.declared.cursor.Cursor.TheVariants as cursor
 use Rattle.page_token.specs.Payload.{IsAskedInRange, IsAskedValue, IsFilesInRange, IsFeedInRange, IsInRange, IsListValue, IsFilesValue, IsFeedValue, IsValue}
-use Rattle.page_token.specs.Reading.{◌>>=◌, digits_after, digits_in, field_in, number_in, moment_of, asked_of, text_of, hint_of, list_in, files_in, feed_in, listing_in, by_first, cursor_in}
+use Rattle.json_tree.specs.Options.{◌>>=◌}
+use Rattle.page_token.specs.Reading.{digits_after, digits_in, field_in, number_in, moment_of, asked_of, text_of, hint_of, list_in, files_in, feed_in, listing_in, by_first, cursor_in}
 
 -- the steps of what was read
 first_step : {A B : Type 0} (o : Option A) (f : A → Option B) (y : B) → (o >>= f) ≡ Some y → (x : A) × (o ≡ Some x) × (f x ≡ Some y)

@@ -1,10 +1,9 @@
 -- How payloads are read, from left to right. What is read is spelt again and compared, so this may take more than
 -- payloads: leading zeros, and any byte in a comma's place.
-use Rattle.std.specs.Prelude.{◌≡◌, ℕ, ◌+◌, ◌-◌, ◌*◌, ◌^◌, ◌&&◌, ◌==◌, ℤ, pos, negsuc, List, [], ◌∷◌, length, take, drop, Option, Some, None, Result, Ok, Err, ⊤, nat_lt, if◌then◌else◌, position}
+use Rattle.std.specs.Prelude.{ℕ, ◌+◌, ◌-◌, ◌*◌, ◌^◌, ◌&&◌, ◌==◌, ℤ, pos, negsuc, List, [], ◌∷◌, length, take, drop, Option, Some, None, nat_lt, if◌then◌else◌, position}
 use Rattle.std.specs.Char.{is_ascii_digit}
 use Rattle.std.specs.Str.{is_utf8}
-use Rattle.page_token.specs.declared.fault.Fault.{Fault}
-use Rattle.page_token.specs.declared.fault.Fault.TheVariants as fault
+use Rattle.json_tree.specs.Options.{◌>>=◌}
 use Rattle.page_token.specs.declared.cursor.ListKind.{ListKind}
 use Rattle.page_token.specs.declared.cursor.ListKind.TheVariants as kind
 use Rattle.page_token.specs.declared.cursor.Asked.{Asked}
@@ -14,20 +13,6 @@ use Rattle.page_token.specs.declared.cursor.FilesCursor.{FilesCursor}
 use Rattle.page_token.specs.declared.cursor.FeedCursor.{FeedCursor}
 use Rattle.page_token.specs.declared.cursor.Cursor.{Cursor}
 use Rattle.page_token.specs.declared.cursor.Cursor.TheVariants as cursor
-
-infixl 10 ◌>>=◌
-abbrev pub ◌>>=◌ : {A B : Type 0} → Option A → (A → Option B) → Option B
-(Some x) >>= f = f x
-None >>= f = None
-
--- What a function returned, seen by view, is what reading gives. Want of memory says nothing.
-abbrev pub Fails : {Y : Type 0} → Fault → Option Y → Type 0
-Fails fault.NoMemory read = ⊤
-Fails fault.NotSpelt read = read ≡ None
-
-abbrev pub Gives : {X Y : Type 0} → (X → Y) → Result X Fault → Option Y → Type 0
-Gives view (Ok x) read = read ≡ Some (view x)
-Gives view (Err e) read = Fails e read
 
 -- the number that digits write behind those of n, below the limit
 abbrev pub digits_after : ℕ → ℕ → List ℕ → Option ℕ

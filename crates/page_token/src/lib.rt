@@ -2,7 +2,6 @@
 #![tactic(auto)]
 
 mod cursor;
-mod fault;
 mod payload;
 mod reading;
 mod token;

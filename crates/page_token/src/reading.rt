@@ -1,12 +1,13 @@
 // Payloads read. What is read is no more than a guess: the caller spells it again and compares.
 ghost use Rattle.std.specs.Prelude.{◌≡◌, ◌^◌, ◌<◌, ◌==◌, Some, position, IfOk, IfSome};
+ghost use Rattle.hmac_core.specs.Faults.{Gives};
 ghost use Rattle.page_token.specs.Payload.{IsPayload};
 ghost use Rattle.page_token.specs.declared.cursor.Cursor.{Cursor};
-ghost use Rattle.page_token.specs.Reading.{Gives, digits_in, field_in, number_in, moment_of, asked_of, text_of, hint_of, list_in, files_in, feed_in, listing_in, by_first, cursor_in};
+ghost use Rattle.page_token.specs.Reading.{digits_in, field_in, number_in, moment_of, asked_of, text_of, hint_of, list_in, files_in, feed_in, listing_in, by_first, cursor_in};
 
 use crate::cursor::{Asked, Cursor, FeedCursor, FilesCursor, ListCursor, ListKind};
-use crate::fault::Fault;
 use crate::payload::payload_of;
+use hmac_core::Fault;
 use json_tree::{Edition, Place, Text, Version};
 use std::alloc::{AllocError, Global};
 

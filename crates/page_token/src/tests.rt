@@ -23,6 +23,23 @@ const FEED: &str =
 const HINTED: &str =
     "MTpxLDI6cjEsMjpzMSwyOnNjLDI6dDEsMToxLDE6MSwyMDptMTcwMDAwMDAwMDAwMDAwMDAwMCwxOjQsMTY6K3sib3AiOiJpc051bGwifSwxOjAs.475146ac294b46ed36e93729468827a4ace41eb1f4eba949a87de19850791278";
 
+// The cursors of these tokens.
+#[derive(Clone, Copy)]
+enum Case {
+    Files,
+    Hinted,
+    AllTables,
+    Feed,
+}
+
+// Each token with its cursor, and with the place of that, 100 for a listing.
+const TOKENS: [(Case, &str, u64); 4] = [
+    (Case::Files, FILES, 2),
+    (Case::Hinted, HINTED, 0),
+    (Case::AllTables, ALL_TABLES, 100),
+    (Case::Feed, FEED, 12),
+];
+
 fn text(alloc: Global, text: &str) -> Result<Text, AllocError> {
     Ok(Text::of(String::from_str(alloc, text)?))
 }
@@ -39,70 +56,109 @@ fn place(before: u64) -> Result<Place, Fail> {
     Ok(Place::of(before).ok_or("a place")?)
 }
 
+// A recipient, a share, a schema and a table.
+fn names(alloc: Global) -> Result<(Text, Text, Text, Text), AllocError> {
+    let recipient = text(alloc, "r1")?;
+    let share = text(alloc, "s1")?;
+    let schema = text(alloc, "sc")?;
+    Ok((recipient, share, schema, text(alloc, "t1")?))
+}
+
 fn files(alloc: Global, asked: Asked, hint: Option<Text>, before: u64) -> Result<Cursor, Fail> {
+    let once = edition(1)?;
+    let (version, place) = (version(4)?, place(before)?);
+    let (recipient, share, schema, table) = names(alloc)?;
     Ok(Cursor::Files(FilesCursor {
-        recipient: text(alloc, "r1")?,
-        share: text(alloc, "s1")?,
-        schema: text(alloc, "sc")?,
-        table: text(alloc, "t1")?,
-        grant: edition(1)?,
-        binding: edition(1)?,
+        recipient,
+        share,
+        schema,
+        table,
+        grant: once,
+        binding: once,
         asked,
-        version: version(4)?,
+        version,
         hint,
-        place: place(before)?,
+        place,
     }))
 }
 
-fn all_tables(alloc: Global) -> Result<Cursor, Fail> {
+fn hinted(alloc: Global) -> Result<Cursor, Fail> {
+    let hint = text(alloc, "{\"op\":\"isNull\"}")?;
+    files(
+        alloc,
+        Asked::Moment(1_700_000_000_000_000_000),
+        Some(hint),
+        0,
+    )
+}
+
+fn all_tables(alloc: Global) -> Result<Cursor, AllocError> {
+    let (recipient, share, _schema, _table) = names(alloc)?;
+    let schema = text(alloc, "")?;
+    let after = text(alloc, "sc/t1")?;
     Ok(Cursor::List(ListCursor {
         kind: ListKind::AllTables,
-        recipient: text(alloc, "r1")?,
-        share: text(alloc, "s1")?,
-        schema: text(alloc, "")?,
-        after: text(alloc, "sc/t1")?,
+        recipient,
+        share,
+        schema,
+        after,
     }))
 }
 
 fn feed(alloc: Global) -> Result<Cursor, Fail> {
+    let (grant, binding) = (edition(7)?, edition(3)?);
+    let (from, to) = (version(0)?, version((1 << 63) - 1)?);
+    let place = place(12)?;
+    let (recipient, share, schema, table) = names(alloc)?;
     Ok(Cursor::Feed(FeedCursor {
-        recipient: text(alloc, "r1")?,
-        share: text(alloc, "s1")?,
-        schema: text(alloc, "sc")?,
-        table: text(alloc, "t1")?,
-        grant: edition(7)?,
-        binding: edition(3)?,
-        asked_from: Asked::Version(version(0)?),
+        recipient,
+        share,
+        schema,
+        table,
+        grant,
+        binding,
+        asked_from: Asked::Version(from),
         asked_to: Asked::Moment(-5),
-        from: version(0)?,
-        to: version((1 << 63) - 1)?,
-        place: place(12)?,
+        from,
+        to,
+        place,
     }))
+}
+
+fn cursor(alloc: Global, of: Case) -> Result<Cursor, Fail> {
+    match of {
+        Case::Files => files(alloc, Asked::Latest, None, 2),
+        Case::Hinted => hinted(alloc),
+        Case::AllTables => Ok(all_tables(alloc)?),
+        Case::Feed => feed(alloc),
+    }
+}
+
+// The helpers have no clauses, so that a test carries few facts.
+fn spelt(alloc: Global, cursor: &Cursor) -> Result<Text, AllocError> {
+    spell(alloc, &HmacKey::of(&KEY), cursor)
+}
+
+fn is_spelt(alloc: Global, of: Case, token: &str) -> Result<bool, Fail> {
+    Ok(spelt(alloc, &cursor(alloc, of)?)?.as_str() == token)
 }
 
 #[test]
 fn spells_each_kind(rt: HostRuntime) -> Result<(), Fail> {
     let alloc = rt.alloc();
-    let hint = Some(text(alloc, "{\"op\":\"isNull\"}")?);
-    let cursors = [
-        (files(alloc, Asked::Latest, None, 2)?, FILES),
-        (
-            files(alloc, Asked::Moment(1_700_000_000_000_000_000), hint, 0)?,
-            HINTED,
-        ),
-        (all_tables(alloc)?, ALL_TABLES),
-        (feed(alloc)?, FEED),
-    ];
-    let key = HmacKey::of(&KEY);
-    for (cursor, token) in &cursors {
-        assert!(rt; spell(alloc, &key, cursor)?.as_str() == *token);
+    for (of, token, _) in TOKENS {
+        assert!(rt; is_spelt(alloc, of, token)?, "{token}");
     }
     Ok(())
 }
 
+fn read(alloc: Global, byte: u8, token: &str) -> Result<Option<Cursor>, AllocError> {
+    cursor_of(alloc, &HmacKey::of(&[byte; 32]), token)
+}
+
 // The place of the cursor that the token stands for, and 100 for a listing.
 fn place_in(alloc: Global, token: &str) -> Result<Option<u64>, AllocError> {
-    match cursor_of(alloc, &HmacKey::of(&KEY), token)? {
+    match read(alloc, 1, token)? {
         Some(Cursor::Files(files)) => Ok(Some(files.place.get())),
         Some(Cursor::Feed(feed)) => Ok(Some(feed.place.get())),
         Some(Cursor::List(_)) => Ok(Some(100)),
@@ -114,51 +170,57 @@ fn place_in(alloc: Global, token: &str) -> Result<Option<u64>, AllocError> {
 #[test]
 fn reads_tokens(rt: HostRuntime) -> Result<(), Fail> {
     let alloc = rt.alloc();
-    for (token, place) in [(FILES, 2), (HINTED, 0), (FEED, 12), (ALL_TABLES, 100)] {
+    for (_, token, place) in TOKENS {
         assert_eq!(rt; place_in(alloc, token)?, Some(place));
     }
     Ok(())
 }
 
+// Under the key these are no tokens.
+const OTHERS: [&str; 10] = [
+    "",
+    ".",
+    // Padded.
+    "MTpxLDI6cjEsMjpzMSwyOnNjLDI6dDEsMToxLDE6MSwxOmwsMTo0LDE6LSwxOjIs=.04aa3aa693939c9e9f4a4a65fb6f43143d02659344725a5cc4178441b39c63fb",
+    // The tag in upper-case digits.
+    "MTpxLDI6cjEsMjpzMSwyOnNjLDI6dDEsMToxLDE6MSwxOmwsMTo0LDE6LSwxOjIs.04AA3AA693939C9E9F4A4A65FB6F43143D02659344725A5CC4178441B39C63FB",
+    // The tag under another key.
+    "MTpxLDI6cjEsMjpzMSwyOnNjLDI6dDEsMToxLDE6MSwxOmwsMTo0LDE6LSwxOjIs.21af0317563b2c85e4728f0c39b304835455d801329a4c498707816b35e3e83b",
+    // Another base64 spelling of the bytes.
+    "MTphLDI6cjEsMjpzMSwwOiw1OnNjL3QxLB.c392b0b7396a62f0ef9db0a04d96ab5ecda65760723999c42d495b496bebff86",
+    // With their right tags: the place `02`, the place 2^63, a byte at the end, and a recipient that isn't UTF-8.
+    "MTpxLDI6cjEsMjpzMSwyOnNjLDI6dDEsMToxLDE6MSwxOmwsMTo0LDE6LSwyOjAyLA.4c6b9e35aa6b5014ee77108fddff0a361a4cf8d602a8d0e42fec62443588251c",
+    "MTpxLDI6cjEsMjpzMSwyOnNjLDI6dDEsMToxLDE6MSwxOmwsMTo0LDE6LSwxOTo5MjIzMzcyMDM2ODU0Nzc1ODA4LA.6dfbe7de3101376a2a6c02664c56ff77eb633aac104d4f16e079ad6226bb9839",
+    "MTpxLDI6cjEsMjpzMSwyOnNjLDI6dDEsMToxLDE6MSwxOmwsMTo0LDE6LSwxOjIseA.41b9dd7ed8a687ef640a17bd29c54d5c89ab8205d4230631f5649fab7cb5eb8f",
+    "MTpjLDE6_ywyOnMxLDA6LDA6LA.bde9adf42feaf2013c17b70f6aa9051b5318948f5415266eb13d5479f4401602",
+];
+
 #[test]
 fn refuses_other_texts(rt: HostRuntime) -> Result<(), Fail> {
     let alloc = rt.alloc();
-    assert!(rt; cursor_of(alloc, &HmacKey::of(&[2; 32]), FILES)?.is_none());
-    let key = HmacKey::of(&KEY);
-    for other in [
-        "",
-        ".",
-        // Padded.
-        "MTpxLDI6cjEsMjpzMSwyOnNjLDI6dDEsMToxLDE6MSwxOmwsMTo0LDE6LSwxOjIs=.04aa3aa693939c9e9f4a4a65fb6f43143d02659344725a5cc4178441b39c63fb",
-        // The tag in upper-case digits.
-        "MTpxLDI6cjEsMjpzMSwyOnNjLDI6dDEsMToxLDE6MSwxOmwsMTo0LDE6LSwxOjIs.04AA3AA693939C9E9F4A4A65FB6F43143D02659344725A5CC4178441B39C63FB",
-        // The tag under another key.
-        "MTpxLDI6cjEsMjpzMSwyOnNjLDI6dDEsMToxLDE6MSwxOmwsMTo0LDE6LSwxOjIs.21af0317563b2c85e4728f0c39b304835455d801329a4c498707816b35e3e83b",
-        // Another base64 spelling of the bytes.
-        "MTphLDI6cjEsMjpzMSwwOiw1OnNjL3QxLB.c392b0b7396a62f0ef9db0a04d96ab5ecda65760723999c42d495b496bebff86",
-        // With their right tags: the place `02`, the place 2^63, a byte at the end, and a recipient that isn't UTF-8.
-        "MTpxLDI6cjEsMjpzMSwyOnNjLDI6dDEsMToxLDE6MSwxOmwsMTo0LDE6LSwyOjAyLA.4c6b9e35aa6b5014ee77108fddff0a361a4cf8d602a8d0e42fec62443588251c",
-        "MTpxLDI6cjEsMjpzMSwyOnNjLDI6dDEsMToxLDE6MSwxOmwsMTo0LDE6LSwxOTo5MjIzMzcyMDM2ODU0Nzc1ODA4LA.6dfbe7de3101376a2a6c02664c56ff77eb633aac104d4f16e079ad6226bb9839",
-        "MTpxLDI6cjEsMjpzMSwyOnNjLDI6dDEsMToxLDE6MSwxOmwsMTo0LDE6LSwxOjIseA.41b9dd7ed8a687ef640a17bd29c54d5c89ab8205d4230631f5649fab7cb5eb8f",
-        "MTpjLDE6_ywyOnMxLDA6LDA6LA.bde9adf42feaf2013c17b70f6aa9051b5318948f5415266eb13d5479f4401602",
-    ] {
-        assert!(rt; cursor_of(alloc, &key, other)?.is_none(), "{other}");
+    assert!(rt; read(alloc, 2, FILES)?.is_none());
+    for other in OTHERS {
+        assert!(rt; read(alloc, 1, other)?.is_none(), "{other}");
     }
     Ok(())
 }
 
-// A hint of a mebibyte; the length is that of Python's `base64` of the payload, and of the tag.
-#[test]
-fn a_long_hint_comes_back(rt: HostRuntime) -> Result<(), Fail> {
-    let alloc = rt.alloc();
+// A mebibyte.
+fn long_hint(alloc: Global) -> Result<Text, AllocError> {
     let mut hint = String::new(alloc);
     for _ in 0..1 << 16 {
         hint.push_str("0123456789abcdef")?;
     }
-    let key = HmacKey::of(&KEY);
-    let cursor = files(alloc, Asked::Latest, Some(Text::of(hint)), 2)?;
-    let token = spell(alloc, &key, &cursor)?;
+    Ok(Text::of(hint))
+}
+
+// The length is that of Python's `base64` of the payload, and of the tag.
+#[test]
+fn a_long_hint_comes_back(rt: HostRuntime) -> Result<(), Fail> {
+    let alloc = rt.alloc();
+    let cursor = files(alloc, Asked::Latest, Some(long_hint(alloc)?), 2)?;
+    let token = spelt(alloc, &cursor)?;
     assert!(rt; token.as_str().len() == 1_398_174 + 65);
-    assert!(rt; cursor_of(alloc, &key, token.as_str())?.is_some());
+    assert!(rt; read(alloc, 1, token.as_str())?.is_some());
     Ok(())
 }

@@ -4,6 +4,7 @@ pub mod AfterRecipients
 pub mod AfterShares
 pub mod HolderLemmas
 pub mod JoinLemmas
+pub mod KeptViews
 pub mod KeyTests
 pub mod LawProofs
 pub mod ListingLemmas

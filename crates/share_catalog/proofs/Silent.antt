@@ -10,7 +10,7 @@ use Rattle.share_catalog.specs.Catalogue.{bound, granted, has_recipient, is_tabl
 use Rattle.share_catalog.proofs.KeyTests.{bytes_sym, neither, pair_sym, table_sym}
 
 -- a word that says no more than the default
-abbrev IsDull : {X : Type 0} → X → Option X → Type 0
+abbrev pub IsDull : {X : Type 0} → X → Option X → Type 0
 IsDull d w = (w ≡ None) ⊎ (w ≡ Some d)
 
 dull_step : {X : Type 0} (d : X) (w o : Option X) (ws : List X) → IsDull d w → unwrap_or o d ≡ d → ((p : Option X) → unwrap_or p d ≡ d → unwrap_or (last_or p ws) d ≡ d)
@@ -19,7 +19,7 @@ dull_step d None o ws dull before ih = ih o before
 dull_step d (Some x) o ws (inl e) before ih = absurd cc
 dull_step d (Some x) o ws (inr e) before ih = ih (Some x) cc
 
-said_dull : {X : Type 0} (b : Bool) (d : X) → IsDull d (said b d)
+pub said_dull : {X : Type 0} (b : Bool) (d : X) → IsDull d (said b d)
 said_dull true d = inr refl
 said_dull false d = inl refl
 

@@ -24,17 +24,17 @@ use std::alloc::{AllocError, Global};
 
 // Texts that were made before an edit, so that it takes no memory.
 #[derive(Drop)]
-pub struct Spare {
+pub(crate) struct Spare {
     // Room for a name.
-    pub name: String,
+    pub(crate) name: String,
     // Room for a location.
-    pub location: String,
+    pub(crate) location: String,
 }
 
 impl Spare {
     ghost use Rattle.share_catalog.specs.Spares.{IsSpare};
 
-    pub fn new(alloc: Global) -> Result<Spare, AllocError>
+    pub(crate) fn new(alloc: Global) -> Result<Spare, AllocError>
         ensures { IfOk result (λ s. IsSpare s) }
     {
         Ok(Spare {
@@ -251,7 +251,7 @@ impl Held {
     }
 
     // What the edit changes.
-    pub fn apply(&mut self, edit: Edit, spare: Spare)
+    pub(crate) fn apply(&mut self, edit: Edit, spare: Spare)
         requires sorted { AreSorted (maps_of self.old) }
         requires room { HasRoom self.old }
         requires counts { CountsFit (maps_of self.old) }

@@ -26,7 +26,7 @@ const MOST_GRANTS: u32 = 16384;
 
 const MOST_LOCATIONS: u32 = 32;
 
-pub fn stands(share: Option<ShareState>) -> bool
+pub(crate) fn stands(share: Option<ShareState>) -> bool
     ensures { result ≡ share_stands share }
 {
     match share {
@@ -35,7 +35,7 @@ pub fn stands(share: Option<ShareState>) -> bool
     }
 }
 
-pub fn is_there(recipient: Option<RecipientState>) -> bool
+pub(crate) fn is_there(recipient: Option<RecipientState>) -> bool
     ensures { result ≡ recipient_stands recipient }
 {
     match recipient {
@@ -45,7 +45,7 @@ pub fn is_there(recipient: Option<RecipientState>) -> bool
 }
 
 // Whether a share stands since a table was bound.
-pub fn binding_holds(share: Option<ShareState>, table: &TableState) -> bool
+pub(crate) fn binding_holds(share: Option<ShareState>, table: &TableState) -> bool
     ensures { result ≡ binding_holds share (Some table.now) }
 {
     match share {
@@ -55,7 +55,7 @@ pub fn binding_holds(share: Option<ShareState>, table: &TableState) -> bool
 }
 
 // Whether a recipient and a share stand since they were granted.
-pub fn grant_holds(
+pub(crate) fn grant_holds(
     recipient: Option<RecipientState>,
     share: Option<ShareState>,
     grant: &GrantState,
@@ -72,7 +72,7 @@ pub fn grant_holds(
         && share.made == grant.share_made
 }
 
-pub fn has_location(locations: &[Location], location: &Location) -> bool
+pub(crate) fn has_location(locations: &[Location], location: &Location) -> bool
     ensures { result ≡ list_any (λ x. bytes_eq x location.now) locations.now }
 {
     locations
@@ -93,19 +93,19 @@ fn full_at(limit: u32, is_known: bool, count: usize) -> Option<u32>
 
 // Lists of entries in the order of their keys, and the locations in the order of their first bindings.
 #[derive(Drop)]
-pub struct Held {
-    pub shares: Vec<Entry<CatalogName, ShareState>>,
-    pub recipients: Vec<Entry<CatalogName, RecipientState>>,
-    pub tables: Vec<Entry<TableName, TableState>>,
-    pub grants: Vec<Entry<Pair, GrantState>>,
-    pub holders: Vec<Entry<[u8; 32], CatalogName>>,
-    pub locations: Vec<Location>,
+pub(crate) struct Held {
+    pub(crate) shares: Vec<Entry<CatalogName, ShareState>>,
+    pub(crate) recipients: Vec<Entry<CatalogName, RecipientState>>,
+    pub(crate) tables: Vec<Entry<TableName, TableState>>,
+    pub(crate) grants: Vec<Entry<Pair, GrantState>>,
+    pub(crate) holders: Vec<Entry<[u8; 32], CatalogName>>,
+    pub(crate) locations: Vec<Location>,
 }
 
 impl Held {
     ghost use Rattle.share_catalog.specs.HeldMaps.{HasRoom, maps_of};
 
-    pub fn new(alloc: Global) -> Held
+    pub(crate) fn new(alloc: Global) -> Held
         ensures { maps_of result ≡ record { shares = []; recipients = []; tables = []; grants = []; holders = []; locations = [] } }
     {
         Held {
@@ -119,7 +119,7 @@ impl Held {
     }
 
     // Makes room for one entry more in each list.
-    pub fn reserve(&mut self) -> Result<(), AllocError>
+    pub(crate) fn reserve(&mut self) -> Result<(), AllocError>
         ensures same { maps_of self.new ≡ maps_of self.old }
         ensures room { OnOk result (HasRoom self.new) }
     {
@@ -131,35 +131,35 @@ impl Held {
         self.locations.reserve(1)
     }
 
-    pub fn share(&self, name: &str) -> Option<ShareState>
+    pub(crate) fn share(&self, name: &str) -> Option<ShareState>
         requires { AreSorted (maps_of self.now) }
         ensures { result ≡ share_in (maps_of self.now) name.now }
     {
         value_at(&self.shares, place_of_name(&self.shares, name)).copied()
     }
 
-    pub fn recipient(&self, name: &str) -> Option<RecipientState>
+    pub(crate) fn recipient(&self, name: &str) -> Option<RecipientState>
         requires { AreSorted (maps_of self.now) }
         ensures { result ≡ recipient_in (maps_of self.now) name.now }
     {
         value_at(&self.recipients, place_of_name(&self.recipients, name)).copied()
     }
 
-    pub fn table(&self, table: &TableName) -> Option<&TableState>
+    pub(crate) fn table(&self, table: &TableName) -> Option<&TableState>
         requires { AreSorted (maps_of self.now) }
         ensures { option_map (λ t. t.now) result ≡ table_in (maps_of self.now) table.now }
     {
         value_at(&self.tables, place_of_table(&self.tables, table))
     }
 
-    pub fn grant_state(&self, recipient: &str, share: &str) -> Option<GrantState>
+    pub(crate) fn grant_state(&self, recipient: &str, share: &str) -> Option<GrantState>
         requires { AreSorted (maps_of self.now) }
         ensures { result ≡ grant_in (maps_of self.now) recipient.now share.now }
     {
         value_at(&self.grants, place_of_pair(&self.grants, recipient, share)).copied()
     }
 
-    pub fn holder(&self, digest: &[u8; 32]) -> Option<&CatalogName>
+    pub(crate) fn holder(&self, digest: &[u8; 32]) -> Option<&CatalogName>
         requires { AreSorted (maps_of self.now) }
         ensures { option_map (λ n. n.now) result ≡ holder_in (maps_of self.now) digest.now }
     {
@@ -167,7 +167,7 @@ impl Held {
     }
 
     // The binding that holds.
-    pub fn binding(&self, table: &TableName) -> Option<&Binding>
+    pub(crate) fn binding(&self, table: &TableName) -> Option<&Binding>
         requires { AreSorted (maps_of self.now) }
         ensures { option_map (λ b. b.now) result ≡ bound_in (maps_of self.now) table.now }
     {
@@ -180,7 +180,7 @@ impl Held {
     }
 
     // Whether the grant holds.
-    pub fn is_granted(&self, recipient: &str, share: &str) -> bool
+    pub(crate) fn is_granted(&self, recipient: &str, share: &str) -> bool
         requires { AreSorted (maps_of self.now) }
         ensures { result ≡ granted_in (maps_of self.now) recipient.now share.now }
     {
@@ -297,7 +297,7 @@ impl Held {
     }
 
     // Why an edit isn't accepted, if it isn't.
-    pub fn refusal(&self, edit: &Edit) -> Option<EditRefusal>
+    pub(crate) fn refusal(&self, edit: &Edit) -> Option<EditRefusal>
         requires { AreSorted (maps_of self.now) }
         ensures { result ≡ refusal_in (maps_of self.now) edit.now }
     {

@@ -1,6 +1,6 @@
 // Laws of the catalogue. Each function does nothing when it is called.
 ghost use Rattle.share_catalog.specs.Laws.{ComesBackEmpty, CountedIsNeverFull, EditionsRise, GrantsAgain, LeavesOthers, LeavesShares};
-ghost use Rattle.share_catalog.specs.ViewLaws.{BindingsAreListed, BindingsAreShown, GrantsAreListed, GrantsAreShown, HoldersAreFound, TablesAreJoined, TablesAreShown};
+ghost use Rattle.share_catalog.specs.ViewLaws.{BindingsAreListed, BindingsAreShown, EditsLeaveViews, GrantsAreListed, GrantsAreShown, HoldersAreFound, TablesAreJoined, TablesAreShown, ViewsAreShown};
 
 /// A law: a share that was dropped and made again has no bindings and no grants. It does nothing
 /// when it is called.
@@ -46,6 +46,13 @@ pub fn listings_are_views()
     ensures grants { GrantsAreListed }
     ensures bindings { BindingsAreListed }
     ensures tables { TablesAreJoined }
+{}
+
+/// A law: a view holds no more than what it shows, and an edit that names neither a recipient nor a
+/// share that it is granted leaves the recipient's view. It does nothing when it is called.
+pub fn foreign_edits_leave_views()
+    ensures shown { ViewsAreShown }
+    ensures edits { EditsLeaveViews }
 {}
 
 /// A law: a token finds the holder of its digest. It does nothing when it is called.

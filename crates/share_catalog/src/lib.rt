@@ -19,8 +19,9 @@ pub use catalog::Catalog;
 pub use credential::Credential;
 pub use edit::{Binding, Edit, EditRefusal};
 pub use laws::{
-    counted_is_never_full, editions_rise, grant_comes_back_later, holders_are_found,
-    listings_are_views, others_see_the_same, share_comes_back_empty, views_show_edits,
+    counted_is_never_full, editions_rise, foreign_edits_leave_views, grant_comes_back_later,
+    holders_are_found, listings_are_views, others_see_the_same, share_comes_back_empty,
+    views_show_edits,
 };
 pub use listing::{Bound, Granted};
 pub use location::Location;

@@ -133,7 +133,7 @@ impl Held {
     }
 
     // The grants of a recipient.
-    pub fn grants_of<'a>(
+    pub(crate) fn grants_of<'a>(
         &'a self,
         alloc: Global,
         name: &str,
@@ -146,7 +146,7 @@ impl Held {
     }
 
     // The bindings of a share.
-    pub fn bindings_of<'a>(
+    pub(crate) fn bindings_of<'a>(
         &'a self,
         alloc: Global,
         name: &str,

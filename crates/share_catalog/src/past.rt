@@ -8,7 +8,7 @@ use std::snapshot::Snapshot;
 // A list of edits that is remembered for proofs alone: none, or one more than a list before it.
 #[derive(Drop)]
 #[cycle(past)]
-pub struct Past {
+pub(crate) struct Past {
     before: Option<(Snapshot<Past>, Snapshot<Edit>)>,
 }
 
@@ -29,14 +29,14 @@ impl Model for Past {
 }
 
 impl Past {
-    pub fn new() -> Past
+    pub(crate) fn new() -> Past
         ensures { result ≡ [] }
     {
         Past { before: None }
     }
 
     // The list with one edit more.
-    pub fn with(&self, edit: &Edit) -> Past
+    pub(crate) fn with(&self, edit: &Edit) -> Past
         ensures { result ≡ self.now ++ edit.now ∷ [] }
     {
         Past {

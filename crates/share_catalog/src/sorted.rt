@@ -18,13 +18,13 @@ use std::cmp::Ordering;
 
 // A key with what is held of it.
 #[derive(Drop)]
-pub struct Entry<K, V> {
-    pub key: K,
-    pub value: V,
+pub(crate) struct Entry<K, V> {
+    pub(crate) key: K,
+    pub(crate) value: V,
 }
 
 // Where a name stands, or would stand.
-pub fn place_of_name<V>(items: &[Entry<CatalogName, V>], name: &str) -> Result<usize, usize>
+pub(crate) fn place_of_name<V>(items: &[Entry<CatalogName, V>], name: &str) -> Result<usize, usize>
     requires { IsTrue (is_sorted (slice_cmp nat_cmp) (entries (λ k. k) items.now)) }
     ensures place { result ≡ place_of (slice_cmp nat_cmp) name.now (entries (λ k. k) items.now) }
     ensures bound { IsSearchInRange result (length items.now) }
@@ -33,7 +33,10 @@ pub fn place_of_name<V>(items: &[Entry<CatalogName, V>], name: &str) -> Result<u
 }
 
 // Where a digest stands, or would stand.
-pub fn place_of_digest<V>(items: &[Entry<[u8; 32], V>], digest: &[u8; 32]) -> Result<usize, usize>
+pub(crate) fn place_of_digest<V>(
+    items: &[Entry<[u8; 32], V>],
+    digest: &[u8; 32],
+) -> Result<usize, usize>
     requires { IsTrue (is_sorted (slice_cmp nat_cmp) (entries (λ k. k) items.now)) }
     ensures place { result ≡ place_of (slice_cmp nat_cmp) digest.now (entries (λ k. k) items.now) }
     ensures bound { IsSearchInRange result (length items.now) }
@@ -42,7 +45,10 @@ pub fn place_of_digest<V>(items: &[Entry<[u8; 32], V>], digest: &[u8; 32]) -> Re
 }
 
 // Where a table's name stands, or would stand.
-pub fn place_of_table<V>(items: &[Entry<TableName, V>], table: &TableName) -> Result<usize, usize>
+pub(crate) fn place_of_table<V>(
+    items: &[Entry<TableName, V>],
+    table: &TableName,
+) -> Result<usize, usize>
     requires { IsTrue (is_sorted texts_cmp (entries parts_of items.now)) }
     ensures place { result ≡ place_of texts_cmp (parts_of table.now) (entries parts_of items.now) }
     ensures bound { IsSearchInRange result (length items.now) }
@@ -61,7 +67,7 @@ fn compare_pair(pair: &Pair, recipient: &str, share: &str) -> Ordering
 }
 
 // Where a recipient with a share stands, or would stand.
-pub fn place_of_pair<V>(
+pub(crate) fn place_of_pair<V>(
     items: &[Entry<Pair, V>],
     recipient: &str,
     share: &str,
@@ -74,7 +80,7 @@ pub fn place_of_pair<V>(
 }
 
 // The value at a place, none where the key isn't there.
-pub fn value_at<K, V>(items: &[Entry<K, V>], place: Result<usize, usize>) -> Option<&V>
+pub(crate) fn value_at<K, V>(items: &[Entry<K, V>], place: Result<usize, usize>) -> Option<&V>
     requires { IsSearchInRange place (length items.now) }
     ensures { option_map (λ v. v.now) result ≡ value_in place items.now }
 {
@@ -85,7 +91,7 @@ pub fn value_at<K, V>(items: &[Entry<K, V>], place: Result<usize, usize>) -> Opt
 }
 
 // Puts a value at a place: a new one of a key that is there, or a new entry, for which there is room.
-pub fn put<K: Drop, V: Drop>(
+pub(crate) fn put<K: Drop, V: Drop>(
     items: &mut Vec<Entry<K, V>>,
     place: Result<usize, usize>,
     key: K,
@@ -104,7 +110,7 @@ pub fn put<K: Drop, V: Drop>(
 }
 
 // Takes the entry of a key out.
-pub fn take<K: Drop, V: Drop>(
+pub(crate) fn take<K: Drop, V: Drop>(
     items: &mut Vec<Entry<K, V>>,
     place: Result<usize, usize>,
 ) -> Option<V>
@@ -120,7 +126,7 @@ pub fn take<K: Drop, V: Drop>(
 }
 
 // Puts the value of a name, for which there is room.
-pub fn put_name<V: Drop>(items: &mut Vec<Entry<CatalogName, V>>, name: CatalogName, value: V)
+pub(crate) fn put_name<V: Drop>(items: &mut Vec<Entry<CatalogName, V>>, name: CatalogName, value: V)
     requires sorted { IsTrue (is_sorted (slice_cmp nat_cmp) (entries (λ k. k) items.old.items)) }
     requires room { vec_len items.old < vec_capacity items.old }
     ensures { entries (λ k. k) items.new.items ≡ put_in (slice_cmp nat_cmp) name value (entries (λ k. k) items.old.items) }
@@ -130,7 +136,7 @@ pub fn put_name<V: Drop>(items: &mut Vec<Entry<CatalogName, V>>, name: CatalogNa
 }
 
 // Puts the value of a digest, for which there is room.
-pub fn put_digest<V: Drop>(items: &mut Vec<Entry<[u8; 32], V>>, digest: [u8; 32], value: V)
+pub(crate) fn put_digest<V: Drop>(items: &mut Vec<Entry<[u8; 32], V>>, digest: [u8; 32], value: V)
     requires sorted { IsTrue (is_sorted (slice_cmp nat_cmp) (entries (λ k. k) items.old.items)) }
     requires room { vec_len items.old < vec_capacity items.old }
     ensures { entries (λ k. k) items.new.items ≡ put_in (slice_cmp nat_cmp) digest value (entries (λ k. k) items.old.items) }
@@ -140,7 +146,7 @@ pub fn put_digest<V: Drop>(items: &mut Vec<Entry<[u8; 32], V>>, digest: [u8; 32]
 }
 
 // Puts the value of a table's name, for which there is room.
-pub fn put_table<V: Drop>(items: &mut Vec<Entry<TableName, V>>, table: TableName, value: V)
+pub(crate) fn put_table<V: Drop>(items: &mut Vec<Entry<TableName, V>>, table: TableName, value: V)
     requires sorted { IsTrue (is_sorted texts_cmp (entries parts_of items.old.items)) }
     requires room { vec_len items.old < vec_capacity items.old }
     ensures { entries parts_of items.new.items ≡ put_in texts_cmp (parts_of table) value (entries parts_of items.old.items) }
@@ -150,7 +156,7 @@ pub fn put_table<V: Drop>(items: &mut Vec<Entry<TableName, V>>, table: TableName
 }
 
 // Puts the value of a pair, for which there is room.
-pub fn put_pair<V: Drop>(items: &mut Vec<Entry<Pair, V>>, pair: Pair, value: V)
+pub(crate) fn put_pair<V: Drop>(items: &mut Vec<Entry<Pair, V>>, pair: Pair, value: V)
     requires sorted { IsTrue (is_sorted texts_cmp (entries pair_texts items.old.items)) }
     requires room { vec_len items.old < vec_capacity items.old }
     ensures { entries pair_texts items.new.items ≡ put_in texts_cmp (pair_texts pair) value (entries pair_texts items.old.items) }
@@ -160,7 +166,7 @@ pub fn put_pair<V: Drop>(items: &mut Vec<Entry<Pair, V>>, pair: Pair, value: V)
 }
 
 // Takes the value of a digest out.
-pub fn take_digest<V: Drop>(items: &mut Vec<Entry<[u8; 32], V>>, digest: &[u8; 32])
+pub(crate) fn take_digest<V: Drop>(items: &mut Vec<Entry<[u8; 32], V>>, digest: &[u8; 32])
     requires { IsTrue (is_sorted (slice_cmp nat_cmp) (entries (λ k. k) items.old.items)) }
     ensures items { entries (λ k. k) items.new.items ≡ take_out (slice_cmp nat_cmp) digest.now (entries (λ k. k) items.old.items) }
     ensures room { vec_len items.old < vec_capacity items.old → vec_len items.new < vec_capacity items.new }
@@ -170,7 +176,7 @@ pub fn take_digest<V: Drop>(items: &mut Vec<Entry<[u8; 32], V>>, digest: &[u8; 3
 }
 
 // How many tables stand before those of a share.
-pub fn start_of_share<V>(items: &[Entry<TableName, V>], share: &str) -> usize
+pub(crate) fn start_of_share<V>(items: &[Entry<TableName, V>], share: &str) -> usize
     requires { IsTrue (is_sorted texts_cmp (entries parts_of items.now)) }
     ensures before { AllWithin (λ x. slice_cmp nat_cmp x.key.share share.now ≡ Less) items.now 0 result }
     ensures bound { result ≤ length items.now }
@@ -179,7 +185,7 @@ pub fn start_of_share<V>(items: &[Entry<TableName, V>], share: &str) -> usize
 }
 
 // How many pairs stand before those of a recipient.
-pub fn start_of_recipient<V>(items: &[Entry<Pair, V>], recipient: &str) -> usize
+pub(crate) fn start_of_recipient<V>(items: &[Entry<Pair, V>], recipient: &str) -> usize
     requires { IsTrue (is_sorted texts_cmp (entries pair_texts items.now)) }
     ensures before { AllWithin (λ x. slice_cmp nat_cmp x.key.recipient recipient.now ≡ Less) items.now 0 result }
     ensures bound { result ≤ length items.now }

@@ -6,51 +6,51 @@ use json_tree::Edition;
 
 // A share that was ever made.
 #[derive(Clone, Copy)]
-pub struct ShareState {
+pub(crate) struct ShareState {
     // Whether it is there now.
-    pub stands: bool,
+    pub(crate) stands: bool,
     // How often it was made.
-    pub made: u64,
+    pub(crate) made: u64,
 }
 
 // A recipient that was ever made.
 #[derive(Clone, Copy)]
-pub struct RecipientState {
+pub(crate) struct RecipientState {
     // Whether it is there now.
-    pub stands: bool,
+    pub(crate) stands: bool,
     // How often it was made.
-    pub made: u64,
+    pub(crate) made: u64,
     // The credential that it got last.
-    pub credential: Credential,
+    pub(crate) credential: Credential,
 }
 
 // A table that was ever bound.
 #[derive(Drop)]
-pub struct TableState {
+pub(crate) struct TableState {
     // What the last edit of the table itself left.
-    pub binding: Option<Binding>,
+    pub(crate) binding: Option<Binding>,
     // How often its share had been made then. The binding ended where the share was dropped since.
-    pub share_made: u64,
+    pub(crate) share_made: u64,
     // How often the table was bound.
-    pub edition: Edition,
+    pub(crate) edition: Edition,
 }
 
 // A pair that was ever granted.
 #[derive(Clone, Copy)]
-pub struct GrantState {
+pub(crate) struct GrantState {
     // What the last edit of the pair itself left.
-    pub granted: bool,
+    pub(crate) granted: bool,
     // How often its recipient had been made then. The grant ended where it was dropped since.
-    pub recipient_made: u64,
+    pub(crate) recipient_made: u64,
     // How often its share had been made then. The grant ended where it was dropped since.
-    pub share_made: u64,
+    pub(crate) share_made: u64,
     // How often the pair was granted.
-    pub edition: Edition,
+    pub(crate) edition: Edition,
 }
 
 // A recipient with a share.
 #[derive(Drop)]
-pub struct Pair {
-    pub recipient: CatalogName,
-    pub share: CatalogName,
+pub(crate) struct Pair {
+    pub(crate) recipient: CatalogName,
+    pub(crate) share: CatalogName,
 }

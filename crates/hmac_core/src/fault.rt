@@ -1,13 +1,15 @@
-// Why a payload isn't read.
+// Why a text isn't read as one that was signed.
 ghost use Rattle.std.specs.Prelude.{◌≡◌};
-ghost use Rattle.page_token.specs.declared.fault.Fault.TheVariants.{NoMemory};
+ghost use Rattle.hmac_core.specs.declared.fault.Fault.TheVariants.{NoMemory};
 
 use std::alloc::AllocError;
 
+/// Why a text isn't read as one that was signed.
 #[derive(Clone, Copy, Debug, PartialEq, Eq)]
-pub(crate) enum Fault {
-    // The bytes are no payload.
+pub enum Fault {
+    /// The text isn't spelt so.
     NotSpelt,
+    /// Memory ran out.
     NoMemory,
 }
 
