@@ -53,19 +53,19 @@ pub enum Reply {
 pub enum FinalHead {
     /// The head of a response.
     Head {
-        /// Its place.
+        /// The response's place.
         at: u64,
         /// Its last head.
         head: ResponseHead,
     },
-    /// The heads of the response at that place break the rules, are larger than is allowed, or switch protocols.
-    Bad {
-        /// Where it begins.
-        at: u64,
-    },
     /// The input ended before the response at that place, or inside its heads.
     Truncated {
-        /// Where it begins.
+        /// The response's place.
+        at: u64,
+    },
+    /// The heads of the response at that place break the rules, are larger than is allowed, or switch protocols.
+    Bad {
+        /// The response's place.
         at: u64,
     },
     /// A read failed.
