@@ -4,3 +4,4 @@ pub mod ReadBack
 pub mod Pieces
 pub mod BodyBack
 pub mod ErrorBack
+pub mod PartLemmas

@@ -10,8 +10,7 @@ ghost use Rattle.share_lines.specs.Parts.{file_in, meta_in};
 ghost use Rattle.share_lines.specs.Kept.{Kept, KeptFile};
 ghost use Rattle.share_lines.specs.Printing.{end_fields, file_fields, is_printable, kind_fields, kind_name as name_of_kind, line_data, line_text, meta_fields, parquet_fields, protocol_fields};
 
-use crate::parts::{FileParts, MetaParts};
-use crate::{EndLine, Line, Millis, Version};
+use crate::{EndLine, FileParts, Line, MetaParts, Millis, Version};
 use json_print::{
     Length, Tokens, count_field, new_writer, nonempty_pairs_field, optional_text_field,
     optional_whole_field, pairs_field, printed, text_field, texts_field,

@@ -1,13 +1,17 @@
-// Whole lines.
-ghost use Rattle.std.specs.Prelude.{◌≡◌, ◌++◌, [], ◌∷◌, OnOk, OnErr, IfOk};
+// Lines of a table's version, and of borrowed parts.
+ghost use Rattle.std.specs.Prelude.{◌≡◌, ◌++◌, [], ◌∷◌, OnOk, OnErr, IfOk, length};
 ghost use Rattle.json.specs.Print.{print};
 ghost use Rattle.json.specs.Token as token;
+ghost use Rattle.json_print.specs.Lengths.{capped};
+ghost use Rattle.json_print.specs.Tokens.{value_tokens};
 ghost use Rattle.share_lines.specs.Lines.{file_line, meta_line, protocol_line};
+ghost use Rattle.share_lines.specs.Parts.{file_data, file_in, line_of};
+ghost use Rattle.share_lines.specs.Printing.{line_text};
 
-use crate::parts::{FileParts, MetaParts};
 use crate::printing::{file_object, meta_object};
+use crate::{FileKind, FileParts, MetaParts};
 use json::Writer;
-use json_print::new_writer;
+use json_print::{Length, Tokens, new_writer};
 use log_actions::{AddFile, MetaData};
 use std::alloc::{AllocError, Global};
 
@@ -30,9 +34,7 @@ fn ended(mut line: Writer) -> Result<Vec<u8>, AllocError>
     ensures { IfOk result (λ v. v.items ≡ print (line.tokens ++ token.end_object ∷ []) ++ 10 ∷ []) }
 {
     line.end_object()?;
-    let mut bytes = line.into_inner();
-    bytes.push(b'\n')?;
-    Ok(bytes)
+    with_line_feed(line)
 }
 
 /// Appends the protocol line. On `Err`, which is want of memory, nothing is appended, here and in the
@@ -55,14 +57,61 @@ pub fn push_meta(alloc: Global, out: &mut Vec<u8>, meta: &MetaData) -> Result<()
     out.extend_from_slice(&text)
 }
 
-/// Appends a file's line. It is written in a buffer of its own and copied, which takes less time than to let the kit's
-/// writer go on at the end of a long one: that fills the room ahead with zeros, for each line anew.
+// What was written, and a line feed.
+fn with_line_feed(writer: Writer) -> Result<Vec<u8>, AllocError>
+    requires { writer.before ≡ [] }
+    ensures { IfOk result (λ v. v.items ≡ print writer.tokens ++ 10 ∷ []) }
+{
+    let mut bytes = writer.into_inner();
+    bytes.push(b'\n')?;
+    Ok(bytes)
+}
+
+// The object of a line that has a file.
+fn kind_object<W: Tokens>(
+    writer: &mut W,
+    kind: FileKind,
+    file: &FileParts<'_>,
+) -> Result<(), W::Error>
+    ensures { OnOk result (W.adds writer.old writer.new (value_tokens (file_data kind (file_in file.now)))) }
+{
+    writer.begin_object()?;
+    writer.key(kind.word())?;
+    file_object(writer, file)?;
+    writer.end_object()
+}
+
+/// Appends the line of a file by its parts. It is written in a buffer of its own and copied, which takes less time than to let
+/// the kit's writer go on at the end of a long one: that fills the room ahead with zeros, for each line anew.
+pub fn push_file_parts(
+    alloc: Global,
+    out: &mut Vec<u8>,
+    kind: FileKind,
+    file: &FileParts<'_>,
+) -> Result<(), AllocError>
+    ensures line { OnOk result (out.new.items ≡ out.old.items ++ (line_text (line_of kind (file_in file.now)) ++ 10 ∷ [])) }
+    ensures kept { OnErr result (out.new.items ≡ out.old.items) }
+{
+    let mut writer = new_writer(alloc, ROOM)?;
+    kind_object(&mut writer, kind, file)?;
+    let text = with_line_feed(writer)?;
+    out.extend_from_slice(&text)
+}
+
+/// How many bytes `push_file_parts` appends, but for the line feed: 2^64 - 1 where they are more. It
+/// takes no memory.
+pub fn file_parts_len(kind: FileKind, file: &FileParts<'_>) -> u64
+    ensures { result ≡ capped (length (line_text (line_of kind (file_in file.now)))) }
+{
+    let mut length = Length::new();
+    let Ok(()) = kind_object(&mut length, kind, file);
+    length.bytes
+}
+
+/// Appends a file's line, whose place is its path.
 pub fn push_file(alloc: Global, out: &mut Vec<u8>, file: &AddFile) -> Result<(), AllocError>
     ensures line { OnOk result (out.new.items ≡ out.old.items ++ file_line file.now) }
     ensures kept { OnErr result (out.new.items ≡ out.old.items) }
 {
-    let mut line = begin(alloc, "file")?;
-    file_object(&mut line, &FileParts::of_add(file))?;
-    let text = ended(line)?;
-    out.extend_from_slice(&text)
+    push_file_parts(alloc, out, FileKind::File, &FileParts::of_add(file))
 }
