@@ -1,7 +1,7 @@
 // Lines that were read, printed: the form of each kind, written by hand.
 use crate::{action_of_line, line_len, line_of_action};
 use json_tree::Text;
-use std::alloc::Global;
+use std::alloc::{AllocError, Global};
 use std::process::Abort;
 use std::test::Fail;
 
@@ -96,4 +96,40 @@ fn prints_each_kind(rt: HostRuntime) -> Result<(), Fail> {
         prints(&rt, rt.alloc(), wanted, wanted)?;
     }
     Ok(())
+}
+
+// The line of an add whose statistics have so many letters.
+fn long_line(alloc: Global, letters: usize) -> Result<String, AllocError> {
+    let mut line = String::from_str(
+        alloc,
+        "{\"add\":{\"dataChange\":true,\"modificationTime\":0,\"partitionValues\":{},\
+            \"path\":\"a\",\"size\":0,\"stats\":\"",
+    )?;
+    for _ in 0..letters {
+        line.push('s')?;
+    }
+    line.push_str("\"}}")?;
+    Ok(line)
+}
+
+// The line of a metaData with so many partition columns.
+fn wide_line(alloc: Global, columns: usize) -> Result<String, AllocError> {
+    let mut line = String::from_str(
+        alloc,
+        "{\"metaData\":{\"configuration\":{},\"format\":{\"options\":{},\"provider\":\"parquet\"},\
+            \"id\":\"7\",\"partitionColumns\":[\"c\"",
+    )?;
+    for _ in 1..columns {
+        line.push_str(",\"c\"")?;
+    }
+    line.push_str("],\"schemaString\":\"{}\"}}")?;
+    Ok(line)
+}
+
+#[test]
+fn prints_much(rt: HostRuntime) -> Result<(), Fail> {
+    let long = long_line(rt.alloc(), 1 << 20)?;
+    prints(&rt, rt.alloc(), long.as_str(), long.as_str())?;
+    let wide = wide_line(rt.alloc(), 200)?;
+    prints(&rt, rt.alloc(), wide.as_str(), wide.as_str())
 }
