@@ -22,7 +22,8 @@ use Rattle.share_catalog.specs.declared.edit.Binding.{Binding}
 use Rattle.share_catalog.specs.declared.edit.Edit.{Edit}
 use Rattle.share_catalog.specs.declared.edit.Edit.TheVariants as edit
 use Rattle.catalog_log.specs.Printing.{Kept, KeptCredential, KeptLocation, KeptTable, bind_fields, edit_data, edit_fields, expiry_value, kind_name, record_data, record_line, record_text, recipient_fields, table_fields}
-use Rattle.catalog_log.specs.Reading.{◌>>=◌, binding_in, credential_in, digest_of, edit_in, expiry_of, is_location_text, millis, passing, same_digits, table_in}
+use Rattle.json_tree.specs.Options.{◌>>=◌}
+use Rattle.catalog_log.specs.Reading.{binding_in, credential_in, digest_of, edit_in, expiry_of, is_location_text, millis, passing, same_digits, table_in}
 use Rattle.catalog_log.specs.Records.{edit_of_record, is_line_feed, of_tree, or_bad, record_in, without_line_feed}
 
 -- ---- the fields

@@ -1,10 +1,11 @@
 -- How the edits of a catalogue are read (RFC 8259; the fields are this server's own).
-use Rattle.std.specs.Prelude.{ℕ, ℤ, pos, negsuc, ◌&&◌, ◌+◌, ◌==◌, List, [], ◌∷◌, Bool, Option, Some, None, Result, Ok, Err, option_map, option_and_then, is_some, if◌then◌else◌, cond, bytes_eq, codes, count_by}
+use Rattle.std.specs.Prelude.{ℕ, ℤ, pos, negsuc, ◌&&◌, ◌+◌, ◌==◌, List, [], ◌∷◌, Bool, Option, Some, None, Result, Ok, Err, option_map, is_some, if◌then◌else◌, cond, bytes_eq, codes, count_by}
 use Rattle.serde_json.specs.Data.{Data}
 use Rattle.serde_json.specs.Find.{as_bool, as_str}
 use Rattle.hex.specs.Hex.{decode_sized, encode_lower}
 use Rattle.hex.specs.declared.FromHexError.{FromHexError}
 use Rattle.json_tree.specs.Fields.{present, whole}
+use Rattle.json_tree.specs.Options.{◌>>=◌}
 use Rattle.edge_core.specs.Names.{is_name}
 use Rattle.share_catalog.specs.Grammar.{is_catalog_name}
 use Rattle.share_catalog.specs.Locations.{is_location}
@@ -13,10 +14,6 @@ use Rattle.share_catalog.specs.declared.table_name.TableName.{TableName}
 use Rattle.share_catalog.specs.declared.edit.Binding.{Binding}
 use Rattle.share_catalog.specs.declared.edit.Edit.{Edit}
 use Rattle.share_catalog.specs.declared.edit.Edit.TheVariants as edit
-
-infixl 10 ◌>>=◌
-abbrev pub ◌>>=◌ : {A B : Type 0} → Option A → (A → Option B) → Option B
-o >>= f = option_and_then f o
 
 -- the text of a field
 abbrev pub text_in : List ℕ → Data → Option (List ℕ)

@@ -7,7 +7,8 @@ use Rattle.json_tree.specs.Tree.{tree_in}
 use Rattle.json_tree.specs.declared.tree.TreeFault.{TreeFault}
 use Rattle.json_tree.specs.declared.tree.TreeFault.TheVariants as tree
 use Rattle.share_catalog.specs.declared.edit.Edit.{Edit}
-use Rattle.catalog_log.specs.Reading.{◌>>=◌, edit_in, millis}
+use Rattle.json_tree.specs.Options.{◌>>=◌}
+use Rattle.catalog_log.specs.Reading.{edit_in, millis}
 use Rattle.catalog_log.specs.declared.fault.RecordFault.{RecordFault}
 use Rattle.catalog_log.specs.declared.fault.RecordFault.TheVariants as fault
 

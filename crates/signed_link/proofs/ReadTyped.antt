@@ -9,7 +9,8 @@ use Rattle.percent_encoding.specs.Percent.{percent_decode}
 use Rattle.share_catalog.specs.Grammar.{is_catalog_name}
 use Rattle.signed_link.specs.declared.parts.LinkParts.{LinkParts}
 use Rattle.signed_link.specs.Link.{IsInRange, IsValue}
-use Rattle.signed_link.specs.Reading.{◌>>=◌, cut, after, value_in, number_of, number_in, name_of, path_of, parts_in}
+use Rattle.json_tree.specs.Options.{◌>>=◌}
+use Rattle.signed_link.specs.Reading.{cut, after, value_in, number_of, number_in, name_of, path_of, parts_in}
 use Rattle.signed_link.proofs.Read.{same_parts}
 
 -- the next of the steps of what was read

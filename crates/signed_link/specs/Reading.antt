@@ -1,28 +1,13 @@
 -- How links are read, from left to right. What is read is spelt again and compared, so this may take more than
 -- links: leading zeros, a plus, escapes of any byte, and any tag.
-use Rattle.std.specs.Prelude.{◌≡◌, ℕ, ◌^◌, ◌&&◌, ◌==◌, List, length, drop, Option, Some, None, Result, Ok, Err, ⊤, nat_lt, nat_eq, if◌then◌else◌, codes}
+use Rattle.std.specs.Prelude.{ℕ, ◌^◌, ◌&&◌, ◌==◌, List, length, drop, Option, Some, None, nat_lt, nat_eq, if◌then◌else◌, codes}
 use Rattle.std.specs.List.{position_or_len, before_first, after_first, starts_with}
 use Rattle.std.specs.Str.{is_utf8, all_ascii_digits}
 use Rattle.std.specs.Str.Parse.{digits_value, without_leading_plus}
 use Rattle.percent_encoding.specs.Percent.{percent_decode}
 use Rattle.share_catalog.specs.Grammar.{is_catalog_name}
-use Rattle.signed_link.specs.declared.fault.Fault.{Fault}
-use Rattle.signed_link.specs.declared.fault.Fault.TheVariants as fault
+use Rattle.json_tree.specs.Options.{◌>>=◌}
 use Rattle.signed_link.specs.declared.parts.LinkParts.{LinkParts}
-
-infixl 10 ◌>>=◌
-abbrev pub ◌>>=◌ : {A B : Type 0} → Option A → (A → Option B) → Option B
-(Some x) >>= f = f x
-None >>= f = None
-
--- What a function returned, seen by view, is what reading gives. Want of memory says nothing.
-abbrev pub Fails : {Y : Type 0} → Fault → Option Y → Type 0
-Fails fault.NoMemory read = ⊤
-Fails fault.NotSpelt read = read ≡ None
-
-abbrev pub Gives : {X Y : Type 0} → (X → Y) → Result X Fault → Option Y → Type 0
-Gives view (Ok x) read = read ≡ Some (view x)
-Gives view (Err e) read = Fails e read
 
 -- what comes before the first byte c, and what comes after it
 unfoldable pub cut : ℕ → List ℕ → Option (List ℕ × List ℕ)

@@ -2,7 +2,6 @@
 #![tactic(auto)]
 
 mod escape;
-mod fault;
 mod parts;
 mod reading;
 mod signed;

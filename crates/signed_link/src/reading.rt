@@ -1,9 +1,10 @@
 // Links read. What is read is no more than a guess: the caller spells it again and compares.
 ghost use Rattle.std.specs.Prelude.{◌≡◌, ◌^◌, ◌<◌, Some, IfOk};
-ghost use Rattle.signed_link.specs.Reading.{Gives, cut, after, value_in, number_of, number_in, name_of, path_of, parts_in};
+ghost use Rattle.hmac_core.specs.Faults.{Gives};
+ghost use Rattle.signed_link.specs.Reading.{cut, after, value_in, number_of, number_in, name_of, path_of, parts_in};
 
-use crate::fault::Fault;
 use crate::parts::LinkParts;
+use hmac_core::Fault;
 use json_tree::{Edition, Millis, Text};
 use percent_encoding::{DecodeError, percent_decode_str};
 use share_catalog::{CatalogName, TableName};

@@ -6,11 +6,10 @@ ghost use Rattle.signed_link.specs.Laws.{LinksAreSpelt, OneLink, SpellingsAreRea
 ghost use Rattle.signed_link.specs.Link.{cut_tail, endpoint_path, unsigned, IsInRange, IsLink, IsValue};
 ghost use Rattle.signed_link.specs.Parts.{parts_of};
 
-use crate::fault::Fault;
 use crate::parts::LinkParts;
 use crate::reading::parts_in;
 use crate::spelling::{signed, unsigned};
-use hmac_core::{HmacKey, are_tag_digits};
+use hmac_core::{Fault, HmacKey, are_tag_digits};
 use json_tree::Text;
 use std::alloc::{AllocError, Global};
 

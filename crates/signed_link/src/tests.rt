@@ -18,33 +18,47 @@ fn string(alloc: Global, text: &str) -> Result<String, AllocError> {
     String::from_str(alloc, text)
 }
 
-fn day_1(alloc: Global) -> Result<LinkParts, Fail> {
-    let table = TableName::of(
-        string(alloc, "s1")?,
-        string(alloc, "sc")?,
-        string(alloc, "t1")?,
-    );
-    let recipient = CatalogName::of(string(alloc, "r1")?);
+fn table(alloc: Global) -> Result<TableName, Fail> {
+    let share = string(alloc, "s1")?;
+    let schema = string(alloc, "sc")?;
+    let table = TableName::of(share, schema, string(alloc, "t1")?);
+    Ok(table.ok_or("no table's name")?)
+}
+
+fn recipient(alloc: Global) -> Result<CatalogName, Fail> {
+    Ok(CatalogName::of(string(alloc, "r1")?).ok_or("no name")?)
+}
+
+// The parts of the link, but for its path.
+fn leading_to(alloc: Global, path: String) -> Result<LinkParts, Fail> {
+    let path = Text::of(path);
+    let once = Edition::of(1).ok_or("an edition")?;
+    let expires = Millis::of(3_600_000).ok_or("a moment")?;
     Ok(LinkParts {
-        table: table.ok_or("no table's name")?,
-        path: Text::of(string(alloc, "day=1/a.parquet")?),
-        binding: Edition::of(1).ok_or("an edition")?,
-        expires: Millis::of(3_600_000).ok_or("a moment")?,
-        grant: Edition::of(1).ok_or("an edition")?,
-        recipient: recipient.ok_or("no name")?,
+        table: table(alloc)?,
+        path,
+        binding: once,
+        expires,
+        grant: once,
+        recipient: recipient(alloc)?,
     })
+}
+
+// The helpers have no clauses, so that a test carries few facts.
+fn linked(alloc: Global, endpoint: &str, path: String) -> Result<Text, Fail> {
+    let parts = leading_to(alloc, path)?;
+    Ok(link(alloc, &HmacKey::of(&KEY), endpoint, &parts)?)
+}
+
+fn read(alloc: Global, byte: u8, target: &str) -> Result<Option<LinkParts>, AllocError> {
+    parts_of(alloc, &HmacKey::of(&[byte; 32]), target)
 }
 
 #[test]
 fn spells_a_link(rt: HostRuntime) -> Result<(), Fail> {
     let alloc = rt.alloc();
-    let parts = day_1(alloc)?;
-    let text = link(
-        alloc,
-        &HmacKey::of(&KEY),
-        "http://127.0.0.1:8080/delta-sharing",
-        &parts,
-    )?;
+    let path = string(alloc, "day=1/a.parquet")?;
+    let text = linked(alloc, "http://127.0.0.1:8080/delta-sharing", path)?;
     assert!(rt; text.as_str() == LINK);
     Ok(())
 }
@@ -57,7 +71,7 @@ fn leads_to(
     binding: u64,
     recipient: &str,
 ) -> Result<bool, AllocError> {
-    match parts_of(alloc, &HmacKey::of(&KEY), target)? {
+    match read(alloc, 2, target)? {
         Some(parts) => Ok(
             parts.path.as_str() == path
                 && parts.binding.get() == binding
@@ -67,24 +81,27 @@ fn leads_to(
     }
 }
 
+// Targets, with their paths, the editions of their bindings and their recipients.
+const LINKS: [(&str, &str, u64, &str); 3] = [
+    (TARGET, "day=1/a.parquet", 1, "r1"),
+    (
+        "/delta-sharing/files/s.1_-/sc/t1/%C3%A9%20%3F%26%3D%25%2F~?b=9223372036854775807&e=0&g=7&r=r-2&t=a16ecfd645974e21b983c74cc393c4532d581cc89b2690966c57868f6aad9b62",
+        "é ?&=%/~",
+        (1 << 63) - 1,
+        "r-2",
+    ),
+    (
+        "/delta-sharing/files/s1/sc/t1/?b=1&e=3600000&g=1&r=r1&t=488df310746f5a6f916b50587b9f3daab1363bfedcbf1b2d94fde0ef103e9a89",
+        "",
+        1,
+        "r1",
+    ),
+];
+
 #[test]
 fn reads_links(rt: HostRuntime) -> Result<(), Fail> {
     let alloc = rt.alloc();
-    for (target, path, binding, recipient) in [
-        (TARGET, "day=1/a.parquet", 1, "r1"),
-        (
-            "/delta-sharing/files/s.1_-/sc/t1/%C3%A9%20%3F%26%3D%25%2F~?b=9223372036854775807&e=0&g=7&r=r-2&t=a16ecfd645974e21b983c74cc393c4532d581cc89b2690966c57868f6aad9b62",
-            "é ?&=%/~",
-            (1 << 63) - 1,
-            "r-2",
-        ),
-        (
-            "/delta-sharing/files/s1/sc/t1/?b=1&e=3600000&g=1&r=r1&t=488df310746f5a6f916b50587b9f3daab1363bfedcbf1b2d94fde0ef103e9a89",
-            "",
-            1,
-            "r1",
-        ),
-    ] {
+    for (target, path, binding, recipient) in LINKS {
         assert!(rt;
             leads_to(alloc, target, path, binding, recipient)?,
             "{target}"
@@ -93,53 +110,54 @@ fn reads_links(rt: HostRuntime) -> Result<(), Fail> {
     Ok(())
 }
 
-// A path of a mebibyte, of which no byte is escaped.
-#[test]
-fn a_long_path_comes_back(rt: HostRuntime) -> Result<(), Fail> {
-    let alloc = rt.alloc();
+// A mebibyte, of which no byte is escaped.
+fn long_path(alloc: Global) -> Result<String, AllocError> {
     let mut path = String::new(alloc);
     for _ in 0..1 << 16 {
         path.push_str("0123456789abcdef")?;
     }
-    let mut parts = day_1(alloc)?;
-    parts.path = Text::of(path);
-    let key = HmacKey::of(&KEY);
-    let text = link(alloc, &key, "/delta-sharing", &parts)?;
+    Ok(path)
+}
+
+#[test]
+fn a_long_path_comes_back(rt: HostRuntime) -> Result<(), Fail> {
+    let alloc = rt.alloc();
+    let text = linked(alloc, "/delta-sharing", long_path(alloc)?)?;
     assert!(rt; text.as_str().len() == (1 << 20) + TARGET.len() - 19);
-    assert!(rt; parts_of(alloc, &key, text.as_str())?.is_some());
+    assert!(rt; read(alloc, 2, text.as_str())?.is_some());
     Ok(())
 }
+
+// Under the key these are no links.
+const OTHERS: [&str; 14] = [
+    "",
+    "/delta-sharing/files/",
+    // The link with its host.
+    LINK,
+    // A byte at the end.
+    "/delta-sharing/files/s1/sc/t1/day%3D1%2Fa.parquet?b=1&e=3600000&g=1&r=r1&t=cde8925f25c9f209b7167a21cac87b606b31f783cee12ffeecc77883b42e2c78&",
+    // The tag in upper-case digits.
+    "/delta-sharing/files/s1/sc/t1/day%3D1%2Fa.parquet?b=1&e=3600000&g=1&r=r1&t=CDE8925F25C9F209B7167A21CAC87B606B31F783CEE12FFEECC77883B42E2C78",
+    // The tag of another binding's link.
+    "/delta-sharing/files/s1/sc/t1/day%3D1%2Fa.parquet?b=2&e=3600000&g=1&r=r1&t=cde8925f25c9f209b7167a21cac87b606b31f783cee12ffeecc77883b42e2c78",
+    // With their right tags: `%3d`, a slash in the path, `%64` for `d`, a path that isn't UTF-8, `01`, `+1`, 2^63, and a share
+    // that is none.
+    "/delta-sharing/files/s1/sc/t1/day%3d1%2Fa.parquet?b=1&e=3600000&g=1&r=r1&t=909074f30d51c3e3290f93054764fe3ddd6cc53565a9b89e2d7debb34d3001ac",
+    "/delta-sharing/files/s1/sc/t1/day%3D1/a.parquet?b=1&e=3600000&g=1&r=r1&t=1e92aaf46a516ea949e22bd3df18fb93fcea7342789a3bd7e25dc19664451ca3",
+    "/delta-sharing/files/s1/sc/t1/%64ay%3D1%2Fa.parquet?b=1&e=3600000&g=1&r=r1&t=ad32c897cf761fca2058175902fc50f037105e299a95f7b9905fce7c2c47cedd",
+    "/delta-sharing/files/s1/sc/t1/day%3D1%2Fa.parquet%FF?b=1&e=3600000&g=1&r=r1&t=6d000d592c45767b4593040d15c3d96930d3248bf96149b8405791ad67bee1e9",
+    "/delta-sharing/files/s1/sc/t1/day%3D1%2Fa.parquet?b=01&e=3600000&g=1&r=r1&t=c1a68d00add2267d32db0d7c5b97590fa380f25558c9aa7233c1dc9319c8f0d6",
+    "/delta-sharing/files/s1/sc/t1/day%3D1%2Fa.parquet?b=+1&e=3600000&g=1&r=r1&t=7f9d4b34e18a2ab40afd6297027b412bc30ac3eaa8dba560d66939664f86b757",
+    "/delta-sharing/files/s1/sc/t1/day%3D1%2Fa.parquet?b=9223372036854775808&e=3600000&g=1&r=r1&t=fe6eac0bc74418c31f00a89071b9192f851dd471201a5cde1358fa93b260cd1f",
+    "/delta-sharing/files/S1/sc/t1/day%3D1%2Fa.parquet?b=1&e=3600000&g=1&r=r1&t=49e7f4e9e85b4cc3b9689a7a6f222cd387b674fd5f47afa874723138dc23640b",
+];
 
 #[test]
 fn refuses_other_texts(rt: HostRuntime) -> Result<(), Fail> {
     let alloc = rt.alloc();
-    assert!(rt; parts_of(alloc, &HmacKey::of(&[3; 32]), TARGET)?.is_none());
-    for other in [
-        "",
-        "/delta-sharing/files/",
-        // The link with its host.
-        LINK,
-        // A byte at the end.
-        "/delta-sharing/files/s1/sc/t1/day%3D1%2Fa.parquet?b=1&e=3600000&g=1&r=r1&t=cde8925f25c9f209b7167a21cac87b606b31f783cee12ffeecc77883b42e2c78&",
-        // The tag in upper-case digits.
-        "/delta-sharing/files/s1/sc/t1/day%3D1%2Fa.parquet?b=1&e=3600000&g=1&r=r1&t=CDE8925F25C9F209B7167A21CAC87B606B31F783CEE12FFEECC77883B42E2C78",
-        // The tag of another binding's link.
-        "/delta-sharing/files/s1/sc/t1/day%3D1%2Fa.parquet?b=2&e=3600000&g=1&r=r1&t=cde8925f25c9f209b7167a21cac87b606b31f783cee12ffeecc77883b42e2c78",
-        // With their right tags: `%3d`, a slash in the path, `%64` for `d`, a path that isn't UTF-8, `01`, `+1`, 2^63, and a share
-        // that is none.
-        "/delta-sharing/files/s1/sc/t1/day%3d1%2Fa.parquet?b=1&e=3600000&g=1&r=r1&t=909074f30d51c3e3290f93054764fe3ddd6cc53565a9b89e2d7debb34d3001ac",
-        "/delta-sharing/files/s1/sc/t1/day%3D1/a.parquet?b=1&e=3600000&g=1&r=r1&t=1e92aaf46a516ea949e22bd3df18fb93fcea7342789a3bd7e25dc19664451ca3",
-        "/delta-sharing/files/s1/sc/t1/%64ay%3D1%2Fa.parquet?b=1&e=3600000&g=1&r=r1&t=ad32c897cf761fca2058175902fc50f037105e299a95f7b9905fce7c2c47cedd",
-        "/delta-sharing/files/s1/sc/t1/day%3D1%2Fa.parquet%FF?b=1&e=3600000&g=1&r=r1&t=6d000d592c45767b4593040d15c3d96930d3248bf96149b8405791ad67bee1e9",
-        "/delta-sharing/files/s1/sc/t1/day%3D1%2Fa.parquet?b=01&e=3600000&g=1&r=r1&t=c1a68d00add2267d32db0d7c5b97590fa380f25558c9aa7233c1dc9319c8f0d6",
-        "/delta-sharing/files/s1/sc/t1/day%3D1%2Fa.parquet?b=+1&e=3600000&g=1&r=r1&t=7f9d4b34e18a2ab40afd6297027b412bc30ac3eaa8dba560d66939664f86b757",
-        "/delta-sharing/files/s1/sc/t1/day%3D1%2Fa.parquet?b=9223372036854775808&e=3600000&g=1&r=r1&t=fe6eac0bc74418c31f00a89071b9192f851dd471201a5cde1358fa93b260cd1f",
-        "/delta-sharing/files/S1/sc/t1/day%3D1%2Fa.parquet?b=1&e=3600000&g=1&r=r1&t=49e7f4e9e85b4cc3b9689a7a6f222cd387b674fd5f47afa874723138dc23640b",
-    ] {
-        assert!(rt;
-            parts_of(alloc, &HmacKey::of(&KEY), other)?.is_none(),
-            "{other}"
-        );
+    assert!(rt; read(alloc, 3, TARGET)?.is_none());
+    for other in OTHERS {
+        assert!(rt; read(alloc, 2, other)?.is_none(), "{other}");
     }
     Ok(())
 }
