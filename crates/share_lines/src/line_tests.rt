@@ -1,7 +1,8 @@
 // Lines and bodies read and printed; the expected texts and places are worked by hand.
 use crate::{
-    EndLine, FileLine, Line, LinesFault, MetaLine, Millis, Version, error_of, error_text, line_len,
-    line_text, lines_of, lines_text, push_line,
+    EndLine, FileKind, FileLine, FileParts, Line, LinesFault, MetaLine, Millis, Version, error_of,
+    error_text, file_parts_len, line_len, line_text, lines_of, lines_text, push_file_parts,
+    push_line,
 };
 use case_table::Refusal;
 use json_tree::{Pairs, Text, Texts};
@@ -99,6 +100,45 @@ fn prints_a_file(rt: HostRuntime) -> Result<(), Fail> {
         printed.as_str(),
         "{\"file\":{\"expirationTimestamp\":3600000,\"id\":\"a\",\"partitionValues\":{},\"size\":10,\"stats\":\"{}\",\"url\":\"http://h/a?b=1\"}}"
     );
+    Ok(())
+}
+
+// The four kinds of lines that have a file, each with the text in front of its object.
+const KINDS: [(FileKind, &str); 4] = [
+    (FileKind::File, "{\"file\":"),
+    (FileKind::Add, "{\"add\":"),
+    (FileKind::Cdf, "{\"cdf\":"),
+    (FileKind::Remove, "{\"remove\":"),
+];
+
+const FILE_OBJECT: &str =
+    "{\"expirationTimestamp\":5,\"id\":\"a\",\"partitionValues\":{},\"size\":10,\"timestamp\":-1,\"url\":\"http://h/a?b=1\",\"version\":2}}";
+
+#[test]
+fn prints_borrowed_parts(rt: HostRuntime) -> Result<(), Fail> {
+    let alloc = rt.alloc();
+    let (url, id, stats) = (text(alloc, "http://h/a?b=1")?, text(alloc, "a")?, None);
+    let values = Pairs::new(alloc);
+    let file = FileParts {
+        url: &url,
+        id: &id,
+        values: &values,
+        size: size(10)?,
+        stats: &stats,
+        expires: Millis::of(5),
+        time: Some(-1),
+        version: Version::of(2),
+    };
+    for (kind, begin) in KINDS {
+        let mut out = Vec::new(alloc);
+        push_file_parts(alloc, &mut out, kind, &file)?;
+        let text = format!(in alloc; "{begin}{FILE_OBJECT}\n")?;
+        assert!(rt; out.as_slice() == text.as_bytes(), "{begin}");
+        assert!(rt;
+            file_parts_len(kind, &file) + 1 == text.len() as u64,
+            "{begin}"
+        );
+    }
     Ok(())
 }
 
