@@ -61,11 +61,7 @@ fn push_listed(
 }
 
 // The filter of a hint: all files pass where there is none, and where it is no predicate.
-fn filter_by(
-    alloc: Global,
-    hint: &Option<Text>,
-    meta: &MetaData,
-) -> Result<Filter, AllocError>
+fn filter_by(alloc: Global, hint: &Option<Text>, meta: &MetaData) -> Result<Filter, AllocError>
     ensures { IfOk result (IsFilter (pred_by hint.now) meta.now) }
 {
     let pred = match hint {
