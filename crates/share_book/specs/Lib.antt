@@ -1,0 +1,10 @@
+pub mod History
+pub mod Lawful
+pub mod Legal
+pub mod PastView
+pub mod Pasts
+pub mod TableView
+pub mod Tables
+pub mod Views
+pub mod BookView
+pub mod Books

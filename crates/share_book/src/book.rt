@@ -1,0 +1,302 @@
+// What the turn is taken for.
+ghost use Rattle.std.specs.Prelude.{◌≡◌, ◌<◌, ◌≤◌, ◌+◌, ◌-◌, ◌++◌, ◌∷◌, [], length, slice_index, None, Some, IfOk, IfSome, OnOk, OnErr, IsSome, MatchBool, true, map};
+ghost use Rattle.std.specs.List.{list_any};
+ghost use Rattle.share_catalog.specs.Catalogue.{bound_location, refusal_of};
+ghost use Rattle.share_catalog.specs.CatalogState.{unless};
+ghost use Rattle.log_actions.specs.CommitTexts.{commit_text};
+ghost use Rattle.share_book.specs.History as history;
+ghost use Rattle.share_book.specs.History.{caller_of, entry, open_on, pending, starts, table_on};
+ghost use Rattle.share_book.specs.Legal.{Follows, IsKeptLog, IsLegal, TakesCommit, There, TakesLog, has_log};
+ghost use Rattle.share_book.specs.Tables.{IsState};
+ghost use Rattle.std.specs.Arc.{arc_value};
+ghost use Rattle.share_book.specs.Pasts.{Raised};
+ghost use Rattle.share_book.specs.Books.{IsReady, OthersRest, OwnIsLawful, commit_act, committed, is_table_at, added, edit_act, edited, loaded, rests};
+ghost use Rattle.share_book.specs.declared.entry.Act.TheVariants as act;
+
+use crate::entry::{Act, Entry, SharedCommit, SharedEdit};
+use crate::past::Past;
+use crate::table::{LogState, ReadyLog, Table};
+use log_actions::Commit;
+use share_catalog::{Catalog, Edit, EditRefusal};
+use std::alloc::{AllocError, Global};
+use std::marker::Model;
+use std::sync::Arc;
+use turn_cell::Kept;
+
+/// The catalogue, the tables' logs and the history of both.
+#[derive(Drop)]
+pub struct Book {
+    past: Past,
+    catalog: Catalog,
+    tables: Vec<Table>,
+}
+
+impl Model for Book {
+    ghost use Rattle.std.specs.Prelude.{map, vec_len};
+    ghost use Rattle.std.specs.Vec.{vec_capacity};
+    ghost use Rattle.share_book.specs.BookView.{BookView};
+
+    ghost Value = { BookView };
+
+    ghost use Rattle.share_book.specs.Books.{IsBook, room_left};
+
+    ghost view = { λ b. record { past = b.past; edit_room = b.catalog.spare; commit_rooms = map room_left b.tables.items } };
+
+    ghost invariant = { λ b. IsBook b.past b.catalog.edits b.tables.items (vec_len b.tables) (vec_capacity b.tables) };
+}
+
+// The act of an edit.
+fn edit_act(own: bool, edit: SharedEdit) -> Act
+    ensures { result ≡ edit_act own edit }
+{
+    if own { Act::OwnEdit(edit) } else { Act::FoundEdit(edit) }
+}
+
+// Whether a table's log is stored at the location.
+fn has_table(tables: &[Table], location: &str) -> bool
+    ensures { result ≡ list_any (is_table_at location.now) tables.now }
+{
+    tables.iter().any(|table| is_table_at(table, location))
+}
+
+fn is_table_at(table: &Table, location: &str) -> bool
+    ensures { result ≡ is_table_at location.now table.now }
+{
+    table.location().as_str() == location
+}
+
+// The act of a commit.
+fn commit_act(own: bool, commit: SharedCommit) -> Act
+    ensures { result ≡ commit_act own commit }
+{
+    if own { Act::Own(commit) } else { Act::Found(commit) }
+}
+
+impl Book {
+    /// A book of no entries.
+    pub fn new(alloc: Global) -> Result<Book, AllocError>
+        ensures { IfOk result (λ b. b ≡ record { past = record { history = []; rooms = 0 ∷ []; log_room = 0 }; edit_room = 0; commit_rooms = [] }) }
+    {
+        Ok(Book {
+            past: Past::new(alloc)?,
+            catalog: Catalog::new(alloc),
+            tables: Vec::new(alloc),
+        })
+    }
+
+    /// The number of entries.
+    pub fn len(&self) -> u64
+        ensures length { result ≡ length self.now.past.history }
+        ensures legal { IsLegal self.now.past.history }
+        ensures rooms { length self.now.past.rooms ≡ length (starts self.now.past.history) + 1 }
+    {
+        self.past.len()
+    }
+
+    /// Takes memory for four entries on log 0, an edit and a log. The error is want of memory; some of it may be taken then.
+    pub fn reserve_catalog(&mut self, alloc: Global) -> Result<(), AllocError>
+        ensures raised { Raised self.old.past self.new.past }
+        ensures tables { self.new.commit_rooms ≡ self.old.commit_rooms }
+        ensures logs { self.old.past.log_room ≤ self.new.past.log_room }
+        ensures edits { 1 ≤ self.old.edit_room → 1 ≤ self.new.edit_room }
+        ensures ready { OnOk result (IsReady self.new) }
+        ensures others { OthersRest 0 self.old → OthersRest 0 self.new }
+    {
+        self.tables.reserve(1)?;
+        self.catalog.reserve(alloc)?;
+        self.past.reserve_log()?;
+        self.past.reserve()?;
+        Ok(())
+    }
+
+    /// Adds a Begin, unless one is open on the log. Then nothing changes.
+    pub fn begin(&mut self, caller: u32, log: u32) -> bool
+        requires there { log < length self.old.past.rooms }
+        requires room { 0 < slice_index self.old.past.rooms log }
+        requires settled { pending self.old.past.history ≡ None }
+        ensures others { OthersRest log self.old → OthersRest log self.new }
+        ensures begun { MatchBool result ((open_on log self.old.past.history ≡ None) × (self.new ≡ added self.old (entry caller log act.Begin)))
+            (IsSome (open_on log self.old.past.history) × (self.new ≡ self.old)) }
+    {
+        self.past.len();
+        if self.past.holder(log).is_some() {
+            return false;
+        }
+        self.past.push(Entry {
+            caller,
+            log,
+            act: Act::Begin,
+        });
+        true
+    }
+
+    /// Ends what the caller began.
+    pub fn abort(&mut self, caller: u32, log: u32)
+        requires there { log < length self.old.past.rooms }
+        requires room { 0 < slice_index self.old.past.rooms log }
+        requires settled { pending self.old.past.history ≡ None }
+        requires begun { open_on log self.old.past.history ≡ Some caller }
+        ensures added { self.new ≡ added self.old (entry caller log act.Abort) }
+        ensures others { OthersRest log self.old → OthersRest log self.new }
+    {
+        self.past.push(Entry {
+            caller,
+            log,
+            act: Act::Abort,
+        });
+    }
+
+    /// The catalogue's answer to an edit.
+    pub fn admits(&self, edit: &Edit) -> Result<(), EditRefusal>
+        ensures { result ≡ unless (refusal_of (history.edits self.now.past.history) edit.now) }
+    {
+        self.catalog.admits(edit)
+    }
+
+    /// How many edits there are.
+    pub fn edit_count(&self) -> u64
+        ensures { result ≡ length (history.edits self.now.past.history) }
+    {
+        self.catalog.count()
+    }
+
+    /// Whether a log was loaded from the location.
+    pub fn has_log(&self, location: &str) -> bool
+        ensures { result ≡ has_log self.now.past.history location.now }
+    {
+        has_table(&self.tables, location)
+    }
+
+    /// Adds an edit, or tells why it isn't accepted. Then nothing changes.
+    pub fn edit(
+        &mut self,
+        caller: u32,
+        edit: Edit,
+        shared: SharedEdit,
+        own: bool,
+    ) -> Result<(), EditRefusal>
+        requires room { 0 < slice_index self.old.past.rooms 0 }
+        requires spare { 1 ≤ self.old.edit_room }
+        requires begun { open_on 0 self.old.past.history ≡ Some caller }
+        requires same { shared ≡ edit }
+        requires located { IfSome (bound_location edit) (λ location. has_log self.old.past.history location ≡ true) }
+        requires follows { Follows (pending self.old.past.history) (edit_act own edit) }
+        ensures answer { result ≡ unless (refusal_of (history.edits self.old.past.history) edit) }
+        ensures accepted { OnOk result (self.new ≡ edited self.old caller own edit) }
+        ensures refused { OnErr result (self.new ≡ self.old) }
+        ensures others { OthersRest 0 self.old → OthersRest 0 self.new }
+    {
+        self.past.len();
+        self.catalog.apply(edit)?;
+        self.past.push(Entry {
+            caller,
+            log: 0,
+            act: edit_act(own, shared),
+        });
+        Ok(())
+    }
+
+    /// Adds a commit to a table's log.
+    pub fn commit(
+        &mut self,
+        caller: u32,
+        log: u32,
+        commit: Arc<Commit>,
+        shared: SharedCommit,
+        bytes: u64,
+        own: bool,
+    )
+        requires there { log < length self.old.past.rooms }
+        requires room { 0 < slice_index self.old.past.rooms log }
+        requires spare { 0 < slice_index self.old.commit_rooms (log - 1) }
+        requires settled { pending self.old.past.history ≡ None }
+        requires begun { open_on log self.old.past.history ≡ Some caller }
+        requires same { shared ≡ commit.value }
+        requires bytes { bytes ≡ length (commit_text commit.value) }
+        requires takes { TakesCommit self.old.past.history log commit.value }
+        requires lawful { OwnIsLawful own self.old.past.history log commit.value }
+        ensures committed { self.new ≡ committed self.old caller log own commit.value }
+        ensures others { OthersRest log self.old → OthersRest log self.new }
+    {
+        self.past.len();
+        let table = &mut self.tables[log as usize - 1];
+        table.push(commit, bytes);
+        self.past.push(Entry {
+            caller,
+            log,
+            act: commit_act(own, shared),
+        });
+    }
+
+    /// Blocks a table's log at its length.
+    pub fn block(&mut self, caller: u32, log: u32)
+        requires there { log < length self.old.past.rooms }
+        requires room { 0 < slice_index self.old.past.rooms log }
+        requires settled { pending self.old.past.history ≡ None }
+        requires begun { open_on log self.old.past.history ≡ Some caller }
+        requires free { (0 < log) × There (table_on log self.old.past.history) (λ t. t.block ≡ None) }
+        ensures blocked { There (table_on log self.old.past.history) (λ t. self.new ≡ added self.old (entry caller log (act.Blocked (length t.commits)))) }
+        ensures others { OthersRest log self.old → OthersRest log self.new }
+    {
+        self.past.len();
+        let table = &mut self.tables[log as usize - 1];
+        let version = table.block();
+        self.past.push(Entry {
+            caller,
+            log,
+            act: Act::Blocked(version),
+        });
+    }
+
+    /// The commits of a table's log. The error is want of memory.
+    pub fn commits(&self, alloc: Global, log: u32) -> Result<Vec<Arc<Commit>>, AllocError>
+        requires there { log < length self.now.past.rooms }
+        requires table { 0 < log }
+        ensures { IfOk result (λ v. There (table_on log self.now.past.history) (λ t. t.commits ≡ map arc_value v.items)) }
+    {
+        self.past.len();
+        let table = &self.tables[log as usize - 1];
+        table.commits(alloc)
+    }
+
+    /// How far a table's log is known.
+    pub fn state(&self, log: u32) -> LogState
+        requires there { log < length self.now.past.rooms }
+        requires table { 0 < log }
+        ensures { There (table_on log self.now.past.history) (λ t. IsState t result × IsKeptLog t.commits) }
+    {
+        self.past.len();
+        let table = &self.tables[log as usize - 1];
+        table.state()
+    }
+
+    /// Adds a table's log. The next entry is an edit that binds its location.
+    pub fn load_log(&mut self, caller: u32, log: ReadyLog)
+        requires room { 0 < slice_index self.old.past.rooms 0 }
+        requires line { 0 < self.old.past.log_room }
+        requires settled { pending self.old.past.history ≡ None }
+        requires begun { open_on 0 self.old.past.history ≡ Some caller }
+        requires fresh { TakesLog self.old.past.history 0 log }
+        ensures loaded { self.new ≡ loaded self.old caller log }
+        ensures others { OthersRest 0 self.old → OthersRest 0 self.new }
+    {
+        self.past.len();
+        let ReadyLog { table, start } = log;
+        self.tables.push_reserved(table);
+        self.past.push_load(caller, start);
+    }
+}
+
+impl Kept for Book {
+    type Entry = Entry;
+
+    ghost caller = { caller_of };
+
+    ghost history = { λ b. b.past.history };
+
+    ghost rests = { rests };
+
+    fn count(&self) -> u64 {
+        self.len()
+    }
+}

@@ -1,0 +1,162 @@
+// A table's log as the book keeps it.
+ghost use Rattle.std.specs.Prelude.{◌≡◌, ◌<◌, ◌≤◌, [], ◌∷◌, ◌++◌, IfOk, IfSome, length, map};
+ghost use Rattle.std.specs.Arc.{arc_value};
+ghost use Rattle.log_actions.specs.CommitTexts.{printed_bytes};
+ghost use Rattle.log_actions.specs.CommitTexts.{commit_text};
+ghost use Rattle.share_book.specs.Legal.{IsKeptLog};
+ghost use Rattle.share_book.specs.Tables.{IsState, with_block, with_commit};
+
+use crate::entry::LogStart;
+use edge_core::Name;
+use log_actions::Commit;
+use log_store::Commits;
+use std::alloc::{AllocError, Global};
+use std::marker::Model;
+use std::sync::Arc;
+
+/// How far a table's log is known.
+#[derive(Clone, Copy)]
+pub struct LogState {
+    /// How many versions are kept.
+    pub kept: u64,
+    /// The bytes of their printed texts.
+    pub bytes: u64,
+    /// The version that isn't kept.
+    pub block: Option<u64>,
+}
+
+/// The commits of a table's log, with their marks and the sum of their printed bytes.
+#[derive(Drop)]
+pub(crate) struct Table {
+    location: Name,
+    commits: Vec<Arc<Commit>>,
+    bytes: u64,
+    block: Option<u64>,
+    // For how many more commits there is room.
+    room: usize,
+}
+
+impl Model for Table {
+    ghost use Rattle.std.specs.Prelude.{map, vec_len};
+    ghost use Rattle.std.specs.Vec.{vec_capacity};
+    ghost use Rattle.std.specs.Arc.{arc_value};
+    ghost use Rattle.share_book.specs.TableView.{TableView};
+
+    ghost Value = { TableView };
+
+    ghost use Rattle.share_book.specs.Tables.{IsTable};
+
+    ghost view = { λ t. record { log = record { location = t.location; commits = map arc_value t.commits.items; block = t.block }; room = t.room } };
+
+    ghost invariant = { λ t. IsTable (map arc_value t.commits.items) t.bytes (vec_len t.commits) (vec_capacity t.commits) t.room };
+}
+
+impl Table {
+    /// Where the log is stored.
+    pub(crate) fn location(&self) -> &Name
+        ensures { result.now ≡ self.now.log.location }
+    {
+        &self.location
+    }
+
+    /// The commits, in order. The error is want of memory.
+    pub(crate) fn commits(&self, alloc: Global) -> Result<Vec<Arc<Commit>>, AllocError>
+        ensures { IfOk result (λ v. map arc_value v.items ≡ self.now.log.commits) }
+    {
+        shared(alloc, &self.commits)
+    }
+
+    /// How many commits there are, and the bytes of their texts.
+    pub(crate) fn state(&self) -> LogState
+        ensures state { IsState self.now.log result }
+        ensures kept { IsKeptLog self.now.log.commits }
+    {
+        LogState {
+            kept: self.commits.len() as u64,
+            bytes: self.bytes,
+            block: self.block,
+        }
+    }
+
+    /// Says that the next version isn't kept, and answers its number.
+    pub(crate) fn block(&mut self) -> u64
+        ensures version { result ≡ length self.old.log.commits }
+        ensures blocked { self.new ≡ with_block self.old }
+    {
+        let version = self.commits.len() as u64;
+        self.block = Some(version);
+        version
+    }
+
+    /// Adds a commit, for which there is room.
+    pub(crate) fn push(&mut self, commit: Arc<Commit>, bytes: u64)
+        requires room { 0 < self.old.room }
+        requires kept { IsKeptLog (self.old.log.commits ++ commit.value ∷ []) }
+        requires bytes { bytes ≡ length (commit_text commit.value) }
+        ensures { self.new ≡ with_commit self.old commit.value }
+    {
+        self.commits.push_reserved(commit);
+        self.bytes += bytes;
+        self.room -= 1;
+    }
+}
+
+// The same commits again.
+fn shared(alloc: Global, commits: &[Arc<Commit>]) -> Result<Vec<Arc<Commit>>, AllocError>
+    ensures { IfOk result (λ v. map arc_value v.items ≡ map arc_value commits.now) }
+{
+    let mut copies = Vec::new(alloc);
+    for commit in commits {
+        copies.push(Arc::try_clone(commit)?)?;
+    }
+    Ok(copies)
+}
+
+/// A table's log that may be added to the book: seen as its location, its commits and its block.
+#[derive(Drop)]
+pub struct ReadyLog {
+    pub(crate) table: Table,
+    pub(crate) start: LogStart,
+}
+
+impl Model for ReadyLog {
+    ghost use Rattle.share_book.specs.declared.entry.LogStart.{LogStart};
+
+    ghost Value = { LogStart };
+
+    ghost use Rattle.share_book.specs.Tables.{IsReady};
+
+    ghost view = { λ r. r.start };
+
+    ghost invariant = { λ r. IsReady r.table r.start };
+}
+
+/// A table's log with its marks.
+pub fn ready(
+    alloc: Global,
+    location: Name,
+    commits: Commits,
+    bytes: u64,
+    block: Option<u64>,
+) -> Result<ReadyLog, AllocError>
+    requires kept { IsKeptLog commits }
+    requires bytes { bytes ≡ printed_bytes commits }
+    requires block { IfSome block (λ n. n ≡ length commits) }
+    ensures { IfOk result (λ r. r ≡ record { location = location; commits = commits; block = block }) }
+{
+    let table = Table {
+        location: location.copy(alloc)?,
+        commits: shared(alloc, commits.items())?,
+        bytes,
+        block,
+        room: 0,
+    };
+    Ok(ReadyLog {
+        table,
+        start: LogStart {
+            location,
+            commits,
+            block,
+        },
+    })
+}
