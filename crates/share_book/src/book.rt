@@ -10,7 +10,7 @@ ghost use Rattle.share_book.specs.Legal.{Follows, IsKeptLog, IsLegal, TakesCommi
 ghost use Rattle.share_book.specs.Tables.{IsState};
 ghost use Rattle.std.specs.Arc.{arc_value};
 ghost use Rattle.share_book.specs.Pasts.{Raised};
-ghost use Rattle.share_book.specs.Books.{IsReady, OthersRest, OwnIsLawful, commit_act, committed, is_table_at, added, edit_act, edited, loaded, rests};
+ghost use Rattle.share_book.specs.Books.{HasRooms, OthersRest, OwnIsLawful, commit_act, committed, is_table_at, added, edit_act, edited, loaded, rests};
 ghost use Rattle.share_book.specs.declared.entry.Act.TheVariants as act;
 
 use crate::entry::{Act, Entry, SharedCommit, SharedEdit};
@@ -99,7 +99,7 @@ impl Book {
         ensures tables { self.new.commit_rooms ≡ self.old.commit_rooms }
         ensures logs { self.old.past.log_room ≤ self.new.past.log_room }
         ensures edits { 1 ≤ self.old.edit_room → 1 ≤ self.new.edit_room }
-        ensures ready { OnOk result (IsReady self.new) }
+        ensures ready { OnOk result (HasRooms self.new) }
         ensures others { OthersRest 0 self.old → OthersRest 0 self.new }
     {
         self.tables.reserve(1)?;

@@ -9,3 +9,6 @@ mod table;
 pub use book::Book;
 pub use entry::{Act, Entry, LogStart, SharedCommit, SharedEdit};
 pub use table::{LogState, ReadyLog, ready};
+
+#[cfg(test)]
+mod tests;
