@@ -49,7 +49,11 @@ impl Model for Book {
 fn edit_act(own: bool, edit: SharedEdit) -> Act
     ensures { result ≡ edit_act own edit }
 {
-    if own { Act::OwnEdit(edit) } else { Act::FoundEdit(edit) }
+    if own {
+        Act::OwnEdit(edit)
+    } else {
+        Act::FoundEdit(edit)
+    }
 }
 
 // Whether a table's log is stored at the location.
@@ -69,7 +73,11 @@ fn is_table_at(table: &Table, location: &str) -> bool
 fn commit_act(own: bool, commit: SharedCommit) -> Act
     ensures { result ≡ commit_act own commit }
 {
-    if own { Act::Own(commit) } else { Act::Found(commit) }
+    if own {
+        Act::Own(commit)
+    } else {
+        Act::Found(commit)
+    }
 }
 
 impl Book {
