@@ -1,8 +1,8 @@
 -- What stands behind the line of a chunk: its content, CR LF, or what stops it.
-use Rattle.std.proofs.Common.{◌≡◌, ◌≢◌, ℕ, ◌+◌, ◌<◌, ◌≤◌, Bool, true, false, not, cond, leb, eqb, List, [], ◌∷◌, ◌++◌, length, take, get_or, Option, Some, None, Result, Ok, Err, refl, sym, ap, ◌∙◌, arith, append_assoc, length-append}
+use Rattle.std.proofs.Common.{◌≡◌, ◌≢◌, ℕ, ◌+◌, ◌<◌, ◌≤◌, Bool, true, false, not, cond, leb, eqb, List, [], ◌∷◌, ◌++◌, length, take, drop, get_or, Option, Some, None, Result, Ok, Err, refl, sym, ap, ◌∙◌, arith, append_assoc, length-append, length-take-le, take-add}
 use Rattle.std.proofs.lemmas.Bool.{le-leb, lt-leb, eq-eqb, ne_eqb}
 use Rattle.std.proofs.lemmas.Bool.Decides.{nat_tests}
-use Rattle.std.proofs.lemmas.List.{get_or-append-add, get_or_append_left}
+use Rattle.std.proofs.lemmas.List.{get_or-append-add, get_or_append_left, length-take, length-drop}
 use Rattle.httparse.specs.Ascii.{crlf_bytes}
 use Rattle.http_message.specs.Bodies.{BodyReading, unended, refused, content_stop}
 use Rattle.http_message.specs.declared.refusal.Flaw.TheVariants.{BadMessage}
@@ -61,6 +61,16 @@ pub crlf_front : (u : List ℕ) → 2 ≤ length u → get_or u 0 0 ≡ 13 → g
 crlf_front [] room cr lf = absurd (omega (arith, room))
 crlf_front (x ∷ []) room cr lf = absurd (omega (arith, room))
 crlf_front (x ∷ y ∷ rest) room cr lf = ap (λ a. a ∷ y ∷ []) cr ∙ ap (λ b. 13 ∷ b ∷ []) lf
+
+-- content that is there has so many bytes, and two behind them
+pub content_room : (size : ℕ) (u : List ℕ) → take 2 (drop size u) ≡ crlf_bytes → size + 2 ≤ length u
+content_room size u there = omega (arith, ap length there, length-take 2 (drop size u), length-drop size u)
+
+-- content that is there, used in one step
+pub content_used : (size : ℕ) (body body_new u : List ℕ) → take 2 (drop size u) ≡ crlf_bytes → body_new ≡ body ++ take size u → IsContent size body body_new (take (size + 2) u)
+content_used size body body_new u there grown =
+    let room = content_room size u there in
+    (take size u, length-take-le size u (omega (arith, room)), take-add size 2 u ∙ ap (λ x. take size u ++ x) there, grown)
 
 -- ---- with content in front
 

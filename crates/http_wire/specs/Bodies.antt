@@ -1,5 +1,5 @@
 -- What reading the parts of a body finds.
-use Rattle.std.specs.Prelude.{◌≡◌, ℕ, ◌-◌, ◌<◌, ◌≤◌, List, [], ◌++◌, length, Option, Some, None, Result, Ok, Err, ⊤}
+use Rattle.std.specs.Prelude.{◌≡◌, ℕ, ◌-◌, ◌<◌, ◌≤◌, List, [], ◌++◌, length, take, drop, Option, Some, None, Result, Ok, Err, ⊤}
 use Rattle.httparse.specs.Ascii.{crlf_bytes}
 use Rattle.http_message.specs.Bodies.{BodyReading, whole, unended, refused, behind, Chunk, IsChunk, print_chunk, content_stop, ReadsChunked, ReadsTrailersText}
 use Rattle.http_message.specs.ResponseMessages.{ReadsResponseBody}
@@ -30,6 +30,10 @@ PartFound Goes Reads used rest left (Err e) = ⊤
 -- what stops the content of a chunk of that size
 abbrev pub StopsContent : ℕ → List ℕ → BodyReading → Type 0
 StopsContent size stream reading = content_stop size stream ≡ Some reading
+
+-- content of that size is there, with CR LF behind it
+abbrev pub IsContentThere : ℕ → List ℕ → Type 0
+IsContentThere size bytes = take 2 (drop size bytes) ≡ crlf_bytes
 
 -- the used bytes are content of that size and CR LF, and the content went behind the body
 abbrev pub IsContent : ℕ → (body body_new : List ℕ) → List ℕ → Type 0

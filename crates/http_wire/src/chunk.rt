@@ -1,8 +1,8 @@
 // Reading the chunks of a body (RFC 9112, section 7.1).
-ghost use Rattle.std.specs.Prelude.{◌≡◌, ◌≤◌, ◌<◌, ◌-◌, [], Ok, Some, length};
+ghost use Rattle.std.specs.Prelude.{◌≡◌, ◌≤◌, ◌<◌, ◌-◌, [], Ok, Some, MatchBool, length, ⊤};
 ghost use Rattle.httparse.specs.Ascii.{crlf_bytes};
 ghost use Rattle.http_message.specs.Bodies.{unended, ReadsChunked, ReadsTrailers};
-ghost use Rattle.http_wire.specs.Bodies.{IsContent, IsNextChunk, PartFound, StopsContent, TellsTrailersText, TookBytes};
+ghost use Rattle.http_wire.specs.Bodies.{IsContent, IsContentThere, IsNextChunk, PartFound, StopsContent, TellsTrailersText, TookBytes};
 ghost use Rattle.http_wire.specs.Fills.{GoesBehind, RoseAtFault};
 ghost use Rattle.http_wire.specs.Streams.{Drew};
 ghost use Rattle.http_wire.specs.declared.chunk.Part.TheVariants as part;
@@ -75,7 +75,15 @@ fn content_end<S: Source>(inbox: &mut Inbox, source: &mut S) -> Result<Part, Hal
     Ok(Part::More)
 }
 
-// Reads the content of a chunk, of that size, and the CR LF behind it.
+// Whether content of that size is there, with CR LF behind it.
+fn has_content(bytes: &[u8], size: usize) -> bool
+    ensures { MatchBool result (IsContentThere size bytes.now) ⊤ }
+{
+    let there = bytes.len();
+    there >= 2 && there - 2 >= size && bytes[size] == b'\r' && bytes[size + 1] == b'\n'
+}
+
+// Reads the content of a chunk, of that size, and the CR LF behind it. Where all of it is there, it is used in one step.
 fn content<S: Source>(
     inbox: &mut Inbox,
     source: &mut S,
@@ -87,6 +95,11 @@ fn content<S: Source>(
     ensures read { Drew S.left (λ b. StopsContent size b unended) inbox.old inbox.new source.old source.new (λ used. PartFound (IsContent size body.old.items body.new.items) (StopsContent size) used inbox.new.0 (S.left source.new) result) }
     ensures unlike { result ≡ Ok part.Whole → ⊥ }
 {
+    if has_content(inbox.bytes(), size) {
+        body.extend_from_slice(&inbox.bytes()[..size])?;
+        inbox.consume(size + 2);
+        return Ok(Part::More);
+    }
     match take_bytes(inbox, source, size, body)? {
         Need::Enough => content_end(inbox, source),
         Need::Ended => Ok(Part::Ended),
