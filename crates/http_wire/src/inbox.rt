@@ -1,5 +1,5 @@
 // The bytes that were read from a source and not yet used.
-ghost use Rattle.std.specs.Prelude.{◌≡◌, ◌≤◌, ◌<◌, ◌+◌, ◌-◌, ◌^◌, ◌*◌, [], OnOk, drop, length, max, min, vec_capacity};
+ghost use Rattle.std.specs.Prelude.{◌≡◌, ◌≤◌, ◌<◌, ◌+◌, ◌-◌, ◌^◌, ◌*◌, [], IfOk, OnOk, drop, length, max, min, vec_capacity};
 ghost use Rattle.http_wire.specs.Fills.{Awaits, Fills, GoesBehind, IsDrained, MovesSome, RoseAtFault};
 ghost use Rattle.http_wire.specs.Streams.{Drew};
 
@@ -46,6 +46,8 @@ pub(crate) struct Inbox {
     buffer: Vec<u8>,
     at: usize,
     place: u64,
+    // What reads go into. It is made at the first read.
+    piece: Vec<u8>,
 }
 
 impl Model for Inbox {
@@ -66,6 +68,7 @@ impl Inbox {
             buffer: Vec::new(alloc),
             at: 0,
             place: 0,
+            piece: Vec::new(alloc),
         }
     }
 
@@ -112,10 +115,10 @@ impl Inbox {
         ensures later { S.faults source.old ≤ S.faults source.new }
         ensures cause { RoseAtFault (S.faults source.old) (S.faults source.new) result }
     {
-        let mut piece = [0u8; PIECE];
         self.compact();
         self.buffer.reserve(PIECE)?;
-        match source.read(&mut piece) {
+        let piece = lend(&mut self.piece, PIECE)?;
+        match source.read(piece) {
             Took::Bytes(count) => {
                 self.buffer.extend_from_slice(&piece[..count])?;
                 Ok(Filled::More)
@@ -149,10 +152,10 @@ impl Inbox {
         ensures cause { RoseAtFault (S.faults source.old) (S.faults source.new) result }
         ensures moved { Drew S.left (λ b. b ≡ []) self.old self.new source.old source.new (λ used. GoesBehind most body.old.items body.new.items used × MovesSome used self.new.0 (S.left source.new) result) }
     {
-        let mut piece = [0u8; PIECE];
         let size = most.min(PIECE);
         make_room(body, size, most)?;
-        match source.read(&mut piece[..size]) {
+        let piece = lend(&mut self.piece, size)?;
+        match source.read(piece) {
             Took::Bytes(count) => {
                 body.extend_from_slice(&piece[..count])?;
                 self.place = self.place.saturating_add(count as u64);
@@ -188,6 +191,17 @@ impl Inbox {
         self.drain(most, body)?;
         Ok(Filled::More)
     }
+}
+
+// So many bytes to read into, of a piece that is made once.
+fn lend(piece: &mut Vec<u8>, size: usize) -> Result<&mut [u8], AllocError>
+    requires { size ≤ 8192 }
+    ensures { IfOk result (λ lent. length lent.now ≡ size) }
+{
+    if piece.len() < PIECE {
+        piece.extend_from_slice(&[0; PIECE])?;
+    }
+    Ok(&mut piece[..size])
 }
 
 // Makes room for so many bytes behind the body, of which at most `most` are to come. Where it grows it doubles what came, but not

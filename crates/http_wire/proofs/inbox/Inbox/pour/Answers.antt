@@ -8,6 +8,9 @@ use Rattle.http_wire.proofs.inbox.Inbox.pour.Goals as goal
 pub returns-in_err-make_room-clause-moved : goal.returns-in_err-make_room-clause-moved
 returns-in_err-make_room-clause-moved g c = ([], [], draws_none g.S.Source.left (λ b. b ≡ []) _ _ _ _ (search rules) refl, (record { grown = search (rules, append-nil); fits = omega arith }, (let p = err_from_is_err_and c.from_residual.result c.from_residual.ensures.1 in rw p.1 tt)))
 
+pub returns-in_err-piece-clause-moved : goal.returns-in_err-piece-clause-moved
+returns-in_err-piece-clause-moved g c = ([], [], draws_none g.S.Source.left (λ b. b ≡ []) _ _ _ _ (search rules) refl, (record { grown = search (rules, append-nil); fits = omega arith }, (let p = err_from_is_err_and c.from_residual-in_err-piece.result c.from_residual-in_err-piece.ensures.1 in rw p.1 tt)))
+
 pub returns-in_ok-extend_from_slice-in-Bytes-clause-moved : goal.returns-in_ok-extend_from_slice-in-Bytes-clause-moved
 returns-in_ok-extend_from_slice-in-Bytes-clause-moved g c =
     let more = take c.in-Bytes.count c.read.new.out in
