@@ -58,12 +58,3 @@ pub use sink::{Flushing, Gave, Sink};
 pub use source::{Source, Took};
 pub use store::{Got, Listed, Measured, Put, Store};
 pub use writing::write_all;
-
-#[cfg(test)]
-mod line_tests;
-#[cfg(test)]
-mod test_calls;
-#[cfg(test)]
-mod tests;
-#[cfg(test)]
-mod thread_tests;

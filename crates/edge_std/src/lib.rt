@@ -9,16 +9,10 @@
 mod file_store;
 mod files;
 mod std_clock;
-#[cfg(test)]
-mod stream_tests;
 mod streams;
 mod tcp;
 mod tcp_door;
-#[cfg(test)]
-mod tcp_tests;
 mod tcp_way;
-#[cfg(test)]
-mod tests;
 
 pub use file_store::FileStore;
 pub use std_clock::StdClock;

@@ -10,6 +10,4 @@ pub mod head;
 pub mod law;
 pub mod refusal;
 pub mod response;
-#[cfg(test)]
-mod tests;
 mod text;

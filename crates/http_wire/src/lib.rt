@@ -20,8 +20,3 @@ pub use http_message::refusal::Flaw;
 pub use http_message::response::ResponseHead;
 pub use responses::{FinalHead, Reply, Responses};
 pub use wire::{Message, Wire};
-
-#[cfg(test)]
-mod session_tests;
-#[cfg(test)]
-mod tests;

@@ -3,8 +3,12 @@ ghost use Rattle.std.specs.Prelude.{◌≡◌, [], IfOk};
 ghost use Rattle.edge_core.specs.Calls.{calls_failed};
 ghost use Rattle.edge_core.specs.Memory.{sink_bytes, sink_calls};
 
-use super::*;
-use crate::test_calls::{LARGE, flush, holds, listen, sink, source, write, write_whole};
+use crate::calls::{LARGE, flush, holds, listen, sink, source, write, write_whole};
+use edge_core::{
+    Clock, Flushing, Gathering, Gave, LAST_MOMENT, Limited, Link, Listener, Listening, MemClock,
+    MemClosed, MemLine, MemLink, MemListener, MemPeer, MemSink, MemSource, Opened, Sink, Source,
+    Taken, Took,
+};
 use std::alloc::{AllocError, Global};
 use std::test::Fail;
 
@@ -20,6 +24,18 @@ fn a_clock_repeats_its_last_moment(rt: HostRuntime) -> Result<(), AllocError> {
         assert_eq!(rt; moment(&mut clock), wanted);
     }
     assert_eq!(rt; moment(&mut MemClock::new(Vec::new(alloc))), 0);
+    Ok(())
+}
+
+#[test]
+fn a_clock_has_many_moments(rt: HostRuntime) -> Result<(), AllocError> {
+    let mut moments = vec![in rt.alloc(); 7u64; 100_000]?;
+    moments.push(8)?;
+    let mut clock = MemClock::new(moments);
+    for _ in 0..100_000u32 {
+        assert_eq!(rt; moment(&mut clock), 7);
+    }
+    assert_eq!(rt; moment(&mut clock), 8);
     Ok(())
 }
 

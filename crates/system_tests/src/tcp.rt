@@ -1,11 +1,11 @@
 //! Connections over 127.0.0.1, and the clock.
 ghost use Rattle.std.specs.Prelude.{◌≡◌, IfOk, true};
 
-use crate::{StdClock, TcpDoor, TcpSink, TcpSource, TcpWay, Timeouts};
 use edge_core::{
     Clock, Gave, LAST_MOMENT, Limited, Link, Listener, Listening, LockedDoor, Opened, SharedDoor,
     Sink, Source, Taken, Took, write_all,
 };
+use edge_std::{StdClock, TcpDoor, TcpSink, TcpSource, TcpWay, Timeouts};
 use std::alloc::Global;
 use std::io::{Read, Write};
 use std::net::TcpStream;

@@ -1,8 +1,11 @@
 //! Names, and sources, sinks and stores in memory at work.
-use super::*;
-use crate::test_calls::{
+use crate::calls::{
     LARGE, get, have_texts, holds, letters, list, name, put, read, sink, size, source, write,
     write_whole,
+};
+use edge_core::{
+    Foreign, Gave, Got, Measured, MemStore, Name, Put, Segment, Segments, Stored, Took,
+    is_name_text, is_segment_text,
 };
 use std::alloc::{AllocError, Global};
 use std::test::Fail;

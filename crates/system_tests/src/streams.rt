@@ -1,11 +1,14 @@
 // Streams over fakes that give and take pieces, and fail.
 ghost use Rattle.std.specs.Prelude.{◌≤◌, length};
 
-use crate::{StdSink, StdSource};
 use edge_core::{Gave, Sink, Source, Took};
+use edge_std::{StdSink, StdSource};
 use std::io;
 use std::io::{ErrorKind, Read, Write};
 use std::test::Fail;
+
+// 1 MiB.
+const LARGE: usize = 1_048_576;
 
 // Gives "ab", fails, gives "c", and is at its end.
 #[derive(Drop)]
@@ -87,5 +90,20 @@ fn a_sink_tells_how_much_went_out(rt: HostRuntime) -> Result<(), Fail> {
     assert!(rt; matches!(sink.write(b"fg"), Gave::Bytes(2)));
     drop(sink);
     assert!(rt; taken.kept.as_slice() == b"abcdefg".as_slice());
+    Ok(())
+}
+
+#[test]
+fn large_pieces_pass(rt: HostRuntime) -> Result<(), Fail> {
+    let bytes = vec![in rt.alloc(); b'x'; LARGE]?;
+    let mut source = StdSource::new(bytes.as_slice());
+    let mut out = vec![in rt.alloc(); 0u8; LARGE]?;
+    assert!(rt; matches!(source.read(&mut out), Took::Bytes(LARGE)));
+    assert!(rt; out == bytes);
+    let mut written = Vec::new(rt.alloc());
+    let mut sink = StdSink::new(&mut written);
+    assert!(rt; matches!(sink.write(&bytes), Gave::Bytes(LARGE)));
+    drop(sink);
+    assert!(rt; written == bytes);
     Ok(())
 }

@@ -1,10 +1,11 @@
-use crate::chunk::chunk_line;
-use crate::ends::{blank_len, end_after, line_count};
-use crate::field::{Fields, count_named, first_named};
-use crate::framing::{Form, closes, request_form};
-use crate::head::{head_in, is_trailers};
-use crate::refusal::Flaw;
-use crate::response::{is_interim, response_form, response_in};
+//! Texts of messages, and what they are read as.
+use http_message::chunk::chunk_line;
+use http_message::ends::{blank_len, end_after, line_count};
+use http_message::field::{Fields, count_named, first_named};
+use http_message::framing::{Form, closes, request_form};
+use http_message::head::{head_in, is_trailers};
+use http_message::refusal::Flaw;
+use http_message::response::{is_interim, response_form, response_in};
 use std::alloc::{AllocError, Global};
 
 const MOST: u64 = 16_777_216;

@@ -1,11 +1,18 @@
 // Sessions of requests, and responses, cut in many ways.
-use crate::{FinalHead, Message, Reply, Responses, Wire};
 use edge_core::MemSource;
+use http_wire::{FinalHead, Head, Message, Reply, Responses, Wire};
 use std::alloc::{AllocError, Global};
 
 // Three requests, the second of which has chunks, an extension and a trailer.
 const SESSION: &[u8] =
     b"GET /a HTTP/1.1\r\nHost: x\r\n\r\nPOST /b HTTP/1.1\r\nHost: x\r\nTransfer-Encoding: chunked\r\n\r\n4;n=v\r\nWiki\r\n5\r\npedia\r\n0\r\nA: b\r\n\r\n\r\nPUT /c HTTP/1.0\nContent-Length: 3\n\nxyz";
+
+// A request of the session: the version of HTTP/1, its target and its body.
+type Row<'a> = (u8, &'a str, &'a [u8]);
+
+fn is_row(row: Row, head: &Head, body: &[u8]) -> bool {
+    head.minor == row.0 && head.target.as_str() == row.1 && body == row.2
+}
 
 // Whether the message is the session's of that number: its three requests, and then the end.
 fn is_of_session(number: u8, message: &Message) -> bool {
@@ -16,14 +23,12 @@ fn is_of_session(number: u8, message: &Message) -> bool {
             body,
             closes,
         } => {
-            let body = body.as_slice();
-            let target = head.target.as_str();
-            match number {
-                0 => *at == 0 && target == "/a" && body.is_empty() && !*closes,
-                1 => *at == 28 && target == "/b" && body == b"Wikipedia".as_slice() && !*closes,
-                2 => *at == 119 && head.minor == 0 && body == b"xyz".as_slice() && *closes,
-                _ => false,
-            }
+            let (place, ends, row) = match number {
+                0 => (0u64, false, (1u8, "/a", b"".as_slice())),
+                1 => (28, false, (1, "/b", b"Wikipedia".as_slice())),
+                _ => (119, true, (0, "/c", b"xyz".as_slice())),
+            };
+            *at == place && *closes == ends && is_row(row, head, body)
         }
         Message::End => number == 3,
         _ => false,
@@ -65,7 +70,7 @@ fn a_session_is_the_same_however_it_is_cut(rt: HostRuntime) -> Result<(), AllocE
 }
 
 // What an answer is.
-#[derive(Clone, Copy, Debug, PartialEq, Eq)]
+#[derive(Clone, Copy, PartialEq, Eq)]
 enum Told {
     // A response of that status, with so many bytes of body.
     Response(u16, usize),

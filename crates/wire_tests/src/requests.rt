@@ -1,10 +1,10 @@
 // What the first message is, over texts in one piece and in single bytes, where the read behind the text fails.
-use crate::{Flaw, Message, Wire};
 use edge_core::MemSource;
+use http_wire::{Flaw, Message, Wire};
 use std::alloc::{AllocError, Global};
 
 // What a message is.
-#[derive(Clone, Copy, Debug, PartialEq, Eq)]
+#[derive(Clone, Copy, PartialEq, Eq)]
 enum Told {
     // A request whose body has so many bytes.
     Body(usize),

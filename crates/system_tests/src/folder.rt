@@ -1,6 +1,6 @@
 //! A store in a real folder, which each test makes for itself.
-use crate::FileStore;
 use edge_core::{Got, Listed, Measured, Name, Put, Segment, Store};
+use edge_std::FileStore;
 use std::alloc::{AllocError, Global};
 use std::fs::DirBuilder;
 use std::io::ErrorKind;

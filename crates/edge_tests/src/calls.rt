@@ -1,5 +1,8 @@
 //! Calls of what is tested, without clauses, so that the proof of a test carries none of theirs.
-use super::*;
+use edge_core::{
+    Flushing, Gave, Got, Listed, Listener, Listening, Measured, MemSink, MemSource, Name, Put,
+    Segment, Segments, Sink, Source, Store, Took, write_all,
+};
 use std::alloc::{AllocError, Global};
 use std::test::Fail;
 

@@ -1,6 +1,10 @@
 //! Stores, listeners and gates that two threads share.
-use super::*;
-use crate::test_calls::{get, list, size};
+use crate::calls::{get, list, size};
+use edge_core::{
+    Clock, Gate, Got, HoldGate, Listener, Listening, LockedDoor, LockedStore, Measured, MemClock,
+    MemLine, MemListener, MemSink, MemSource, MemStore, Name, OpenGate, Put, SharedDoor, Store,
+    Taken,
+};
 use std::alloc::{AllocError, Global};
 use std::sync::{Arc, Mutex, Wait};
 use std::test::Fail;
