@@ -1,5 +1,5 @@
 -- The fields of a JSON object, by their kinds.
-use Rattle.std.specs.Prelude.{ℕ, ℤ, List, [], ◌∷◌, Option, Some, None, Result, Ok, Err, option_map, option_and_then}
+use Rattle.std.specs.Prelude.{ℕ, ℤ, List, [], ◌∷◌, Option, Some, None, Result, Ok, Err, option_map, option_and_then, is_some, cond}
 use Rattle.serde_json.specs.Data.{Data, null, boolean, number, string, array, object, Items, no_items, item, Members, no_members, member}
 use Rattle.serde_json.specs.Find.{get, as_number, as_str, as_array, as_object, as_i64}
 use Rattle.json_tree.specs.declared.fields.FieldFault.{FieldFault}
@@ -17,6 +17,10 @@ non_null (object ms) = Some (object ms)
 -- the member of that name, unless it is null
 abbrev pub present : List ℕ → Data → Option Data
 present name d = option_and_then non_null (get name d)
+
+-- how many there are of a member that isn't null
+abbrev pub count_of : List ℕ → Data → ℕ
+count_of name d = cond (is_some (present name d)) 1 0
 
 -- what was read of a value, or that it is of another kind
 abbrev pub or_wrong : {X : Type 0} → Option X → Result X FieldFault

@@ -3,4 +3,5 @@ pub mod Gives
 pub mod Lists
 pub mod Options
 pub mod Pairs
+pub mod Results
 pub mod Tree

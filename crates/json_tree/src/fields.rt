@@ -1,8 +1,8 @@
 // The fields of an object, by their kinds.
-ghost use Rattle.std.specs.Prelude.{◌≡◌, option_map};
+ghost use Rattle.std.specs.Prelude.{◌≡◌, ◌≤◌, option_map};
 ghost use Rattle.serde_json.specs.View.{view, items_view, members_view};
 ghost use Rattle.serde_json.specs.Find.{as_bool, as_str};
-ghost use Rattle.json_tree.specs.Fields.{field, or_wrong, pair_in as named_text, pairs, pairs_of, present, texts, texts_of, whole};
+ghost use Rattle.json_tree.specs.Fields.{count_of, field, or_wrong, pair_in as named_text, pairs, pairs_of, present, texts, texts_of, whole};
 ghost use Rattle.json_tree.specs.Lists.{pair_of};
 ghost use Rattle.json_tree.specs.Gives.{Gives, GivesBy};
 ghost use Rattle.json_tree.specs.declared.fields.FieldFault.TheVariants.{NoMemory};
@@ -44,6 +44,18 @@ pub fn member_at<'a>(object: &'a Value, name: &str) -> Option<&'a Value>
     match object.get(name) {
         Some(Value::Null) => None,
         other => other,
+    }
+}
+
+/// How many members of that name the object has that aren't null: one, or none.
+pub fn count_at(object: &Value, name: &str) -> u8
+    ensures value { result ≡ count_of name.now (view object.now) }
+    ensures small { result ≤ 1 }
+{
+    if member_at(object, name).is_some() {
+        1
+    } else {
+        0
     }
 }
 

@@ -8,7 +8,7 @@ mod small;
 mod text;
 mod tree;
 
-pub use fields::{FieldFault, flag_at, member_at, pairs_at, text_at, texts_at, whole_at};
+pub use fields::{FieldFault, count_at, flag_at, member_at, pairs_at, text_at, texts_at, whole_at};
 pub use pairs::{Pair, Pairs, copy_pairs_or_none};
 pub use small::{Edition, Millis, Place, Version};
 pub use text::{Text, Texts, copy_text_or_none};

@@ -25,6 +25,14 @@ impl Model for Millis {
 }
 
 impl Millis {
+    /// The moment of a number that is known to be below 2^63.
+    pub fn of_small(millis: u64) -> Millis
+        requires { millis < 2 ^ 63 }
+        ensures { result ≡ millis }
+    {
+        Millis { millis }
+    }
+
     /// The moment, or `None` exactly where the number is 2^63 or above.
     pub fn of(millis: u64) -> Option<Millis>
         ensures { MatchOption result (2 ^ 63 ≤ millis) (λ m. (m ≡ millis) × (millis < 2 ^ 63)) }
@@ -64,6 +72,14 @@ impl Model for Version {
 }
 
 impl Version {
+    /// The version of a number that is known to be below 2^63.
+    pub fn of_small(version: u64) -> Version
+        requires { version < 2 ^ 63 }
+        ensures { result ≡ version }
+    {
+        Version { version }
+    }
+
     /// The version, or `None` exactly where the number is 2^63 or above.
     pub fn of(version: u64) -> Option<Version>
         ensures { MatchOption result (2 ^ 63 ≤ version) (λ v. (v ≡ version) × (version < 2 ^ 63)) }
@@ -109,6 +125,14 @@ impl Edition {
         ensures { result ≡ 0 }
     {
         Edition { times: 0 }
+    }
+
+    /// The edition of a number that is known to be below 2^63.
+    pub fn of_small(times: u64) -> Edition
+        requires { times < 2 ^ 63 }
+        ensures { result ≡ times }
+    {
+        Edition { times }
     }
 
     /// The edition, or `None` exactly where the number is 2^63 or above.
@@ -160,6 +184,14 @@ impl Model for Place {
 }
 
 impl Place {
+    /// The place of a number that is known to be below 2^63.
+    pub fn of_small(before: u64) -> Place
+        requires { before < 2 ^ 63 }
+        ensures { result ≡ before }
+    {
+        Place { before }
+    }
+
     /// The place, or `None` exactly where the number is 2^63 or above.
     pub fn of(before: u64) -> Option<Place>
         ensures { MatchOption result (2 ^ 63 ≤ before) (λ p. (p ≡ before) × (before < 2 ^ 63)) }

@@ -1,9 +1,11 @@
 -- The body of a query (Delta Sharing PROTOCOL.md, "Read Data from a Table").
-use Rattle.std.specs.Prelude.{◌≡◌, ℕ, ◌+◌, ◌-◌, ◌^◌, ℤ, pos, negsuc, List, [], ◌∷◌, Bool, Option, Some, None, Result, Ok, Err, ⊤, is_some, is_none, nat_le, ◌&&◌, if◌then◌else◌, codes}
+use Rattle.std.specs.Prelude.{ℕ, ◌+◌, ◌-◌, ◌^◌, ℤ, pos, negsuc, List, [], ◌∷◌, Bool, true, false, Option, Some, None, Result, Ok, Err, is_some, is_none, nat_le, ◌&&◌, if◌then◌else◌, codes}
 use Rattle.std.specs.Result.{result_ok}
 use Rattle.serde_json.specs.Data.{Data}
 use Rattle.serde_json.specs.Find.{as_str, as_object}
 use Rattle.json_tree.specs.Fields.{field, present, whole}
+use Rattle.json_tree.specs.Gives.{Answers}
+use Rattle.json_tree.specs.Results.{◌>>=◌}
 use Rattle.json_tree.specs.Tree.{tree_in}
 use Rattle.json_tree.specs.declared.fields.FieldFault.{FieldFault}
 use Rattle.json_tree.specs.declared.fields.FieldFault.TheVariants as kind
@@ -16,11 +18,6 @@ use Rattle.share_request.specs.declared.query.QueryFault.{QueryFault}
 use Rattle.share_request.specs.declared.query.QueryFault.TheVariants as fault
 use Rattle.share_request.specs.declared.query.QueryField.{QueryField}
 use Rattle.share_request.specs.declared.query.QueryField.TheVariants as name
-
-infixl 10 ◌>>=◌
-abbrev pub ◌>>=◌ : {A B : Type 0} → Result A QueryFault → (A → Result B QueryFault) → Result B QueryFault
-Ok a >>= f = f a
-Err e >>= f = Err e
 
 -- a field of another kind makes the body a bad one
 abbrev pub or_bad_body : {X : Type 0} → Result (Option X) FieldFault → Result (Option X) QueryFault
@@ -93,11 +90,14 @@ abbrev pub query_in : List ℕ → Result QueryBody QueryFault
 query_in [] = Ok no_query
 query_in (b ∷ bs) = query_of_tree (tree_in (b ∷ bs))
 
+abbrev pub lacks_memory : QueryFault → Bool
+lacks_memory fault.BadBody = false
+lacks_memory (fault.BadParameter field) = false
+lacks_memory fault.NoMemory = true
+
 -- The answer is what was read, or why it is refused. Want of memory says nothing.
 abbrev pub Gives : {X : Type 0} → Result X QueryFault → Result X QueryFault → Type 0
-Gives (Ok x) read = read ≡ Ok x
-Gives (Err fault.NoMemory) read = ⊤
-Gives (Err e) read = read ≡ Err e
+Gives result read = Answers lacks_memory result read
 
 -- what a reader's fault of a field or of a whole text makes of a body
 abbrev pub field_fault : FieldFault → QueryFault
