@@ -1,5 +1,6 @@
 pub mod Basics
 pub mod NameLaws
+pub mod Numbered
 pub mod Prefixes
 pub mod Listings
 pub mod Growth

@@ -13,7 +13,7 @@ use Rattle.json_print.specs.Plain.{IsPlain}
 use Rattle.json_print.proofs.RoundTrip.{read-compact_text}
 use Rattle.json_print.proofs.Lookups.{ReadsBack, OnSomeReadsBack, field_back, absent_back, text_read, texts_read, pairs_read, some_texts_read, some_pairs_read, some_text_read}
 use Rattle.json_print.proofs.Plainness.{IsPlainTo, ArePlainTo, plain-object_of, plain-texts_value, plain-pairs_value, plain-whole_value, plain-text_or_none, plain-texts_or_none, plain-pairs_or_none, plain-whole_or_none, plain-count_or_none, whole_read, some_whole_read}
-use Rattle.log_actions.specs.Faults.{◌>>=◌}
+use Rattle.json_tree.specs.Results.{◌>>=◌}
 use Rattle.log_actions.specs.Ranges.{times_end}
 use Rattle.log_actions.specs.Reading.{as_action, count, format_in, protocol_of, meta_data_of, add_of, remove_of, cdc_of, txn_of, commit_info_of}
 use Rattle.log_actions.specs.Lines.{action_in, after_tree, action_at}

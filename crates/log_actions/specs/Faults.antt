@@ -1,24 +1,23 @@
--- Reading with the first fault that is met.
-use Rattle.std.specs.Prelude.{◌≡◌, Result, Ok, Err, ⊤}
+-- What the reading of a line answers.
+use Rattle.std.specs.Prelude.{Bool, true, false, Result}
 use Rattle.case_table.specs.declared.action_fields.Field.{Field}
+use Rattle.json_tree.specs.Gives.{Answers}
 use Rattle.json_tree.specs.declared.fields.FieldFault.{FieldFault}
 use Rattle.json_tree.specs.declared.fields.FieldFault.TheVariants as field
 use Rattle.log_actions.specs.declared.line_fault.LineFault.{LineFault}
 use Rattle.log_actions.specs.declared.line_fault.LineFault.TheVariants as fault
 
-infixl 10 ◌>>=◌
-abbrev pub ◌>>=◌ : {A B : Type 0} → Result A LineFault → (A → Result B LineFault) → Result B LineFault
-(Ok x) >>= f = f x
-(Err e) >>= f = Err e
+abbrev pub lacks_memory : LineFault → Bool
+lacks_memory fault.NotUtf8 = false
+lacks_memory fault.NotJson = false
+lacks_memory fault.NotOneKey = false
+lacks_memory fault.NotObject = false
+lacks_memory (fault.Field which) = false
+lacks_memory fault.NoMemory = true
 
 -- The answer is what reading gives. Want of memory says nothing.
-abbrev pub Fails : {X : Type 0} → LineFault → Result X LineFault → Type 0
-Fails fault.NoMemory read = ⊤
-Fails e read = read ≡ Err e
-
 abbrev pub Gives : {X : Type 0} → Result X LineFault → Result X LineFault → Type 0
-Gives (Ok x) read = read ≡ Ok x
-Gives (Err e) read = Fails e read
+Gives result read = Answers lacks_memory result read
 
 -- the fault of that field
 abbrev pub fault_of : Field → FieldFault → LineFault

@@ -6,7 +6,7 @@ use Rattle.json_tree.specs.Tree.{tree_in}
 use Rattle.json_tree.specs.declared.tree.TreeFault.{TreeFault}
 use Rattle.json_tree.specs.declared.tree.TreeFault.TheVariants as tree
 use Rattle.json_tree.specs.Fields.{non_null}
-use Rattle.log_actions.specs.Faults.{◌>>=◌}
+use Rattle.json_tree.specs.Results.{◌>>=◌}
 use Rattle.log_actions.specs.Reading.{protocol_of, meta_data_of, add_of, remove_of, cdc_of, txn_of, commit_info_of}
 use Rattle.log_actions.specs.declared.line_fault.LineFault.{LineFault}
 use Rattle.log_actions.specs.declared.line_fault.LineFault.TheVariants as fault

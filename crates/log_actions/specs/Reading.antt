@@ -7,7 +7,8 @@ use Rattle.json_tree.specs.declared.fields.FieldFault.{FieldFault}
 use Rattle.case_table.specs.declared.action_fields.Field as table
 use Rattle.case_table.specs.declared.action_fields.Field.TheVariants.{ProtocolMinReaderVersion, ProtocolMinWriterVersion, ProtocolReaderFeatures, ProtocolWriterFeatures, MetaDataId, MetaDataName, MetaDataDescription, MetaDataFormat, MetaDataSchemaString, MetaDataPartitionColumns, MetaDataConfiguration, MetaDataCreatedTime, AddPath, AddPartitionValues, AddSize, AddModificationTime, AddDataChange, AddStats, AddTags, RemovePath, RemoveDeletionTimestamp, RemoveDataChange, RemovePartitionValues, RemoveSize, CdcPath, CdcPartitionValues, CdcSize, TxnAppId, TxnVersion, TxnLastUpdated}
 use Rattle.log_actions.specs.Ranges.{within, times_end}
-use Rattle.log_actions.specs.Faults.{◌>>=◌, fault_of}
+use Rattle.json_tree.specs.Results.{◌>>=◌}
+use Rattle.log_actions.specs.Faults.{fault_of}
 use Rattle.log_actions.specs.declared.line_fault.LineFault.{LineFault}
 use Rattle.log_actions.specs.declared.line_fault.LineFault.TheVariants.{Field, NotObject}
 use Rattle.log_actions.specs.declared.actions.AddFile.{AddFile}
