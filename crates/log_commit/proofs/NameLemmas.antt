@@ -1,76 +1,19 @@
 -- The names of commits are names.
-use Rattle.std.proofs.Common.{◌≡◌, ℕ, zero, suc, ◌+◌, ◌-◌, ◌*◌, ◌<◌, ◌≤◌, ◌==◌, ◌||◌, not, List, [], ◌∷◌, ◌++◌, length, take, refl, sym, ap, ◌∙◌, Bool, true, false, arith, rules, bytes_eq, get_or, tests, codes, nat_lt, nat_le, length-append, true≢false, cond, Option, Some, None, is_some, Result, Ok, Err}
-use Rattle.std.specs.Prelude.{◌^◌, replicate, IsTrue, IsSome, IfOk, MatchOption}
-use Rattle.std.specs.List.{list_any, list_all}
+use Rattle.std.proofs.Common.{◌≡◌, ℕ, ◌+◌, ◌-◌, ◌*◌, ◌<◌, ◌≤◌, List, ◌++◌, length, take, refl, sym, ap, ◌∙◌, Bool, true, false, arith, rules, get_or, tests, codes, nat_lt, nat_le, length-append, true≢false, cond, Option, Some, None, is_some, Result, Ok, Err}
+use Rattle.std.specs.Prelude.{◌^◌, IsTrue, IsSome, IfOk, MatchOption}
+use Rattle.std.specs.List.{list_all}
 use Rattle.std.specs.Char.{digit_value, is_ascii_digit}
-use Rattle.std.specs.Str.Parse.{AllDigits, digits_value}
-use Rattle.std.specs.Fmt.{decimal, styled_decimal, format_spec, padded_integral, char_count}
-use Rattle.std.proofs.lemmas.Bool.{ne_eqb, lt-ltb, and_right}
+use Rattle.std.specs.Str.Parse.{digits_value}
+use Rattle.std.proofs.lemmas.Bool.{and_right}
 use Rattle.std.proofs.lemmas.Bool.Decides.{nat_tests}
 use Rattle.std.proofs.lemmas.Int.Digits.{digits_value_more}
 use Rattle.std.proofs.lemmas.Str.Parse.{digits_value-take-le}
-use Rattle.std.proofs.lemmas.Fmt.{decimal_is_IsNumeral, length-decimal-le}
-use Rattle.std.proofs.lemmas.List.{append-nil, length-replicate}
-use Rattle.std.proofs.lemmas.List.Folds.{list_any-append, list_all_at}
-use Rattle.std.proofs.lemmas.Slice.Eq.{bytes_eq-Decides}
-use Rattle.edge_core.specs.Names.{has_slash, has_zero, is_one_segment, is_name}
+use Rattle.std.proofs.lemmas.List.Folds.{list_all_at}
+use Rattle.edge_core.specs.Names.{is_name}
 use Rattle.edge_core.proofs.Basics.{nat_le_true}
 use Rattle.edge_core.proofs.NameLaws.{is_name-in_folder, is_name-in_folders}
+use Rattle.edge_core.proofs.Numbered.{numbered_size, numbered_is_one}
 use Rattle.log_commit.specs.Names.{folder, segment_of, commit_name, name_of}
-
--- a number in 20 digits
-pub in_20_digits : (n : ℕ) → styled_decimal (format_spec 32 0 4 20 (2 ^ 64 - 1)) n ≡ replicate (20 - length (decimal n)) 48 ++ decimal n
-unfolding padded_integral char_count
-in_20_digits n = let z : 20 - length (decimal n) - 0 - 0 ≡ 20 - length (decimal n) = omega arith in ap (λ k. replicate k 48 ++ (decimal n ++ [])) z ∙ ap (λ t. replicate (20 - length (decimal n)) 48 ++ t) (append-nil (decimal n))
-
-neither : (a b : Bool) → a ≡ false → b ≡ false → (a || b) ≡ false
-neither a b p q = rw (p, q) refl
-
-differs : (c x : ℕ) → digit_value c < 10 → digit_value x ≡ 36 → (c == x) ≡ false
-differs c x digit other = ne_eqb c x (λ e. let same : digit_value c ≡ digit_value x = ap digit_value e in omega arith)
-
--- digits have no byte that isn't one
-digits_free : (x : ℕ) (cs : List ℕ) → digit_value x ≡ 36 → AllDigits 10 cs → list_any (λ b. b == x) cs ≡ false
-digits_free x [] other all = refl
-digits_free x (c ∷ cs) other all = neither _ _ (differs c x all.0 other) (digits_free x cs other all.1)
-
-zeros_free : (x k : ℕ) → digit_value x ≡ 36 → list_any (λ b. b == x) (replicate k 48) ≡ false
-zeros_free x zero other = refl
-zeros_free x (suc k) other = neither _ _ (differs 48 x (omega arith) other) (zeros_free x k other)
-
-segment_free : (x version : ℕ) → digit_value x ≡ 36 → list_any (λ b. b == x) (codes ".json") ≡ false → version < 2 ^ 64 → list_any (λ b. b == x) (segment_of version) ≡ false
-segment_free x version other end lt =
-    let zeros = zeros_free x (20 - length (decimal version)) other in
-    let digits = digits_free x (decimal version) other ((decimal_is_IsNumeral version lt).0).1 in
-    list_any-append (λ b. b == x) (replicate (20 - length (decimal version)) 48 ++ decimal version) (codes ".json")
-    ∙ neither _ _ (list_any-append (λ b. b == x) (replicate (20 - length (decimal version)) 48) (decimal version) ∙ neither _ _ zeros digits) end
-
--- the segment of a version has 25 bytes
-pub segment_size : (version : ℕ) → version < 2 ^ 64 → length (segment_of version) ≡ 25
-segment_size version lt =
-    let most : length (decimal version) ≤ 20 = length-decimal-le 20 version (omega arith) (omega arith) lt in
-    simp (length-append, length-replicate) (omega arith)
-
-not_short : (s t : List ℕ) (b : Bool) → bytes_eq s t ≡ b → length t < length s → not b ≡ true
-not_short s t false e lt = refl
-not_short s t true e lt = let same : length s ≡ length t = ap length ((bytes_eq-Decides s t).0 e) in absurd (omega arith)
-
-long_segment : (s : List ℕ) → 2 < length s → has_slash s ≡ false → has_zero s ≡ false → is_one_segment s ≡ true
-long_segment s long slash none =
-    let some : nat_lt 0 (length s) ≡ true = lt-ltb 0 (length s) (omega arith) in
-    let dot : not (bytes_eq s (codes ".")) ≡ true = not_short s (codes ".") _ refl (omega arith) in
-    let dots : not (bytes_eq s (codes "..")) ≡ true = not_short s (codes "..") _ refl (omega arith) in
-    rw (some, dot, dots, slash, none) refl
-
--- the segment of a version has no slash
-pub segment_no_slash : (version : ℕ) → version < 2 ^ 64 → has_slash (segment_of version) ≡ false
-segment_no_slash version lt = segment_free 47 version refl refl lt
-
--- the segment of a version is a segment
-pub segment_is_one : (version : ℕ) → version < 2 ^ 64 → is_one_segment (segment_of version) ≡ true
-segment_is_one version lt =
-    let size = segment_size version lt in
-    long_segment (segment_of version) (omega arith) (segment_free 47 version refl refl lt) (segment_free 0 version refl refl lt)
 
 nat_le_is : (m n : ℕ) → nat_le m n ≡ true → m ≤ n
 nat_le_is m n e = search (arith, e)
@@ -83,10 +26,10 @@ whole_size f s = simp length-append refl
 
 short_case : (location : List ℕ) (version : ℕ) (b : Bool) → nat_le (length (commit_name location version)) 1024 ≡ b → is_name location ≡ true → version < 2 ^ 64 → is_name (commit_name location version) ≡ b
 short_case location version true e is lt =
-    let size = segment_size version lt in
+    let size = numbered_size version lt in
     let fits : length (commit_name location version) ≤ 1024 = nat_le_is _ _ e in
     let long : length (commit_name location version) ≡ length location + 12 + 25 = whole_size (folder location) (segment_of version) ∙ omega (arith, whole_size location (codes "_delta_log"), size) in
-    is_name-in_folders location (codes "_delta_log") (segment_of version) is refl (segment_is_one version lt) (omega arith)
+    is_name-in_folders location (codes "_delta_log") (segment_of version) is refl (numbered_is_one version lt) (omega arith)
 short_case location version false e is lt = long_name (commit_name location version) e
 
 -- a version's commit has a name exactly where it has at most 1,024 bytes
@@ -110,7 +53,7 @@ folder_is_name location is short = is_name-in_folder location (codes "_delta_log
 -- each version has a name at a short location
 pub short_has_name : (location : List ℕ) (version : ℕ) → version < 2 ^ 64 → length location ≤ 256 → is_some (name_of location version) ≡ true
 short_has_name location version lt short =
-    let size = segment_size version lt in
+    let size = numbered_size version lt in
     let long : length (commit_name location version) ≡ length location + 12 + 25 = whole_size (folder location) (segment_of version) ∙ omega (arith, whole_size location (codes "_delta_log"), size) in
     let fits : nat_le (length (commit_name location version)) 1024 ≡ true = nat_le_true (length (commit_name location version)) 1024 (omega arith) in
     ap (λ b. is_some (cond b (Some (commit_name location version)) None)) fits

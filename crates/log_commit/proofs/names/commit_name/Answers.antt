@@ -1,6 +1,7 @@
 use Rattle.std.proofs.Common.{◌≡◌, ◌∙◌, string_bytes, append_assoc, refl, arith}
 use Rattle.log_commit.specs.Names.{commit_name}
-use Rattle.log_commit.proofs.NameLemmas.{commit_is_name, in_20_digits, made_name}
+use Rattle.edge_core.proofs.Numbered.{in_20_digits}
+use Rattle.log_commit.proofs.NameLemmas.{commit_is_name, made_name}
 use Rattle.log_commit.proofs.names.commit_name.Goals as goal
 
 pub returns : goal.returns
