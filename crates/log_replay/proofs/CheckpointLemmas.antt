@@ -18,8 +18,10 @@ use Rattle.log_actions.specs.declared.actions.MetaData.{MetaData}
 use Rattle.log_actions.specs.declared.actions.Txn.{Txn}
 use Rattle.log_replay.specs.declared.refusal.ReplayRefusal.{ReplayRefusal}
 use Rattle.log_replay.specs.Reconciliation.{actions_in, as_meta, as_protocol, as_txn, at_keys, has_app, last_meta, last_protocol, last_txns, latest_txns, live, live_adds, live_files}
-use Rattle.log_replay.specs.Support.{IsSupported, refusal_at, refusal_of}
-use Rattle.log_replay.specs.State.{State, checkpoint_of, next_state, state_from, state_of}
+use Rattle.log_replay.specs.Support.{refusal_of}
+use Rattle.log_replay.specs.Standing.{IsSupported, refusal_at}
+use Rattle.log_replay.specs.State.{State, state_from, state_of}
+use Rattle.log_replay.specs.Snapshots.{checkpoint_of, next_state}
 use Rattle.log_replay.specs.Applied.{after, txns_of}
 use Rattle.log_replay.proofs.AppliedLemmas.{last_or-filter_map, txns-append}
 use Rattle.log_replay.proofs.LiveLemmas.{get-live, keys_tie, latest}

@@ -3,3 +3,5 @@ pub mod Support
 pub mod State
 pub mod Applied
 pub mod Times
+pub mod Standing
+pub mod Snapshots

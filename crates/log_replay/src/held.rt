@@ -25,7 +25,7 @@ pub struct Held<'a> {
 
 impl<'a> Held<'a> {
     ghost use Rattle.log_replay.specs.Applied.{Applies, AreParts, Holds};
-    ghost use Rattle.log_replay.specs.State.{checkpoint_of};
+    ghost use Rattle.log_replay.specs.Snapshots.{checkpoint_of};
 
     pub fn new(alloc: Global) -> Self
         ensures { Holds result [] }

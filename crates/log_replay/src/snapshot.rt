@@ -28,7 +28,8 @@ pub struct Parts<'a> {
 }
 
 impl Model for Snapshot {
-    ghost use Rattle.log_replay.specs.State.{AppsRise, PathsRise, State};
+    ghost use Rattle.log_replay.specs.State.{State};
+    ghost use Rattle.log_replay.specs.Snapshots.{AppsRise, PathsRise};
 
     ghost Value = { State };
 
@@ -126,7 +127,8 @@ pub struct SnapshotRef<'a> {
 
 impl<'a> Model for SnapshotRef<'a> {
     ghost use Rattle.std.specs.Prelude.{map};
-    ghost use Rattle.log_replay.specs.State.{AppsRise, PathsRise, State};
+    ghost use Rattle.log_replay.specs.State.{State};
+    ghost use Rattle.log_replay.specs.Snapshots.{AppsRise, PathsRise};
     ghost use Rattle.log_replay.specs.Applied.{state_in};
 
     ghost Value = { State };
@@ -157,7 +159,7 @@ fn copy_txns(alloc: Global, txns: &[&Txn]) -> Result<Vec<Txn>, AllocError>
 }
 
 impl<'a> SnapshotRef<'a> {
-    ghost use Rattle.log_replay.specs.State.{AppsRise, PathsRise};
+    ghost use Rattle.log_replay.specs.Snapshots.{AppsRise, PathsRise};
     ghost use Rattle.log_replay.specs.Applied.{state_in};
 
     // The state of these parts at a version.
