@@ -3,7 +3,7 @@ use Rattle.std.proofs.Common.{◌≡◌, Option, refl, ◌∙◌, subst, Bool, t
 use Rattle.std.specs.Bool.{OnTrue}
 use Rattle.edge_core.specs.Objects.{Objects, Looks}
 use Rattle.edge_core.proofs.Growth.{Grows-itself, Grows-on}
-use Rattle.log_store.specs.Reading.{Looked}
+use Rattle.log_store.specs.Loads.{Looked}
 
 same_still : (b : Bool) (o : Option Objects) → OnTrue b (o ≡ o)
 same_still true o = refl

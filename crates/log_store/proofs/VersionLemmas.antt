@@ -13,7 +13,7 @@ use Rattle.std.proofs.lemmas.Slice.Eq.{bytes_eq-Decides}
 use Rattle.edge_core.specs.Objects.{Objects, listing}
 use Rattle.edge_core.proofs.Listings.{listing_has, listing_rises}
 use Rattle.log_commit.specs.Names.{IsSegmentOf, folder, segment_of, version_of}
-use Rattle.log_commit.proofs.NameLemmas.{segment_no_slash}
+use Rattle.edge_core.proofs.Numbered.{numbered_no_slash}
 use Rattle.log_commit.proofs.Segments.{found_is, names_it, segment_order}
 use Rattle.log_store.specs.Log.{end_of, text_at, versions_in}
 use Rattle.log_store.specs.Reading.{AreStored, leading_from}
@@ -103,7 +103,7 @@ named_in v (s ∷ ss) small =
 pub is_stored : (location : List ℕ) (os : Objects) (v : ℕ) → v < 2 ^ 63 → list_any (λ w. w == v) (versions_in location os) ≡ is_some (text_at location os v)
 is_stored location os v small =
     named_in v (listing (folder location) os) small
-    ∙ listing_has (folder location) (segment_of v) os (segment_no_slash v (omega (arith, small)))
+    ∙ listing_has (folder location) (segment_of v) os (numbered_no_slash v (omega (arith, small)))
     ∙ ap (λ n. is_some (finmap.get os n)) (sym (append_assoc (folder location) (codes "/") (segment_of v)))
 
 step_or_here : (first w v : ℕ) (vs : List ℕ) → w ≡ first → first ≤ v → (first + 1 ≤ v → list_any (λ x. x == v) vs ≡ true) → list_any (λ x. x == v) (w ∷ vs) ≡ true

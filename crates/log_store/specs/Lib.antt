@@ -1,3 +1,4 @@
 pub mod Log
 pub mod Reading
 pub mod Refusals
+pub mod Loads

@@ -1,27 +1,19 @@
 -- What the steps of a load give, of a store that others may add to.
-use Rattle.std.specs.Prelude.{◌≡◌, ℕ, ◌+◌, ◌<◌, ◌≤◌, ◌^◌, ◌==◌, List, [], ◌∷◌, ◌++◌, length, Option, Some, None, IfSome, option_map, Result, Ok, Err, ⊤, Bool, true, nat_lt, if◌then◌else◌}
-use Rattle.std.specs.Bool.{OnTrue}
-use Rattle.edge_core.specs.Objects.{Objects, Grows, listing}
+use Rattle.std.specs.Prelude.{◌≡◌, ℕ, ◌+◌, ◌<◌, ◌≤◌, ◌^◌, ◌==◌, List, [], ◌∷◌, ◌++◌, length, Option, Some, None, IfSome, option_map, Result, Ok, Err, ⊤, nat_lt, if◌then◌else◌}
+use Rattle.edge_core.specs.Objects.{Objects, listing}
 use Rattle.log_actions.specs.declared.actions.Action.{Action}
 use Rattle.log_commit.specs.Texts.{commit_in}
-use Rattle.log_replay.specs.Support.{IsSupported, Standing, standing_of}
+use Rattle.log_replay.specs.Standing.{IsSupported, Standing, standing_of}
 use Rattle.log_actions.specs.CommitTexts.{printed_bytes}
 use Rattle.log_store.specs.Log.{cause_of, missing, text_at}
 use Rattle.log_store.specs.declared.loaded.Block.{Block}
 use Rattle.log_store.specs.declared.loaded.BlockCause.{BlockCause}
 use Rattle.log_store.specs.declared.loaded.BlockCause.TheVariants as cause
-use Rattle.log_store.specs.declared.loaded.Loaded.{Loaded}
 use Rattle.log_store.specs.declared.reading.Fetched.{Fetched}
 use Rattle.log_store.specs.declared.reading.Fetched.TheVariants as fetched
 use Rattle.log_store.specs.declared.refusal.LoadRefusal.{LoadRefusal}
 use Rattle.log_store.specs.declared.refusal.Stop.{Stop}
 use Rattle.log_store.specs.declared.refusal.Stop.TheVariants as stop
-
--- Calls that store nothing, one after the other: others may have added, but not where the store was alone, and then it is still.
-pub record Looked (old new : Option Objects) (was is : Bool) : Type 0 where
-  pub grows : Grows old new
-  pub same : OnTrue was (new ≡ old)
-  pub stays : OnTrue was (is ≡ true)
 
 -- an object that is longer than the limit
 abbrev pub IsOver : ℕ → Option (List ℕ) → Type 0
@@ -70,13 +62,6 @@ pub record IsKept (commits : List (List Action)) (bytes : ℕ) (standing : Stand
   pub stands : standing ≡ standing_of commits
   pub counted : bytes ≡ printed_bytes commits
   pub fits : bytes ≤ 2 ^ 26
-
--- What holds of each log that was loaded, also of a store that doesn't tell: each version is read, and a block stands at the version after them.
-pub record IsLoaded (l : Loaded) : Type 0 where
-  pub supported : IsSupported l.commits
-  pub counted : l.bytes ≡ printed_bytes l.commits
-  pub fits : l.bytes ≤ 2 ^ 26
-  pub next : IfSome l.block (λ b. b.version ≡ length l.commits)
 
 -- the commits of the versions below n are stored
 abbrev pub AreStored : List ℕ → ℕ → Objects → Type 0

@@ -2,7 +2,8 @@
 ghost use Rattle.std.specs.Prelude.{◌≡◌, ◌<◌, ◌^◌, ◌++◌, ◌∷◌, [], IfOk, OnOk, OnErr, false, length, map};
 ghost use Rattle.log_actions.specs.CommitTexts.{printed_bytes};
 ghost use Rattle.log_store.specs.Log.{cause_with};
-ghost use Rattle.log_store.specs.Reading.{IsLoaded, Stops};
+ghost use Rattle.log_store.specs.Reading.{Stops};
+ghost use Rattle.log_store.specs.Loads.{IsLoaded};
 ghost use Rattle.log_store.specs.Refusals.{failed_step};
 ghost use Rattle.std.specs.Prelude.{IfSome};
 

@@ -5,7 +5,8 @@ ghost use Rattle.edge_core.specs.Faults.{Cause};
 ghost use Rattle.edge_core.specs.Objects.{Between};
 ghost use Rattle.log_commit.specs.Names.{folder};
 ghost use Rattle.log_store.specs.Log.{log_in};
-ghost use Rattle.log_store.specs.Reading.{IsListed, IsLoaded, Looked};
+ghost use Rattle.log_store.specs.Reading.{IsListed};
+ghost use Rattle.log_store.specs.Loads.{IsLoaded, Looked};
 ghost use Rattle.log_store.specs.Refusals.{failed_load};
 
 use crate::loaded::{Block, Loaded};

@@ -3,7 +3,8 @@ ghost use Rattle.std.specs.Prelude.{◌≡◌, ◌<◌, ◌≤◌, ◌+◌, ◌^
 ghost use Rattle.edge_core.specs.Faults.{Cause};
 ghost use Rattle.log_commit.specs.Names.{commit_name};
 ghost use Rattle.log_store.specs.Log.{log_below, text_at};
-ghost use Rattle.log_store.specs.Reading.{AreStored, IsCommitAt, IsFetched, IsLoaded, Keeps, Looked};
+ghost use Rattle.log_store.specs.Reading.{AreStored, IsCommitAt, IsFetched, Keeps};
+ghost use Rattle.log_store.specs.Loads.{IsLoaded, Looked};
 ghost use Rattle.log_store.specs.Refusals.{failed_load, failed_step};
 ghost use Rattle.std.specs.FinMap as finmap;
 

@@ -3,7 +3,8 @@ ghost use Rattle.std.specs.Prelude.{◌≡◌, ◌<◌, ◌≤◌, ◌^◌, IfNo
 ghost use Rattle.std.specs.Option.{option_or};
 ghost use Rattle.log_commit.specs.Names.{folder, version_of as version_in};
 ghost use Rattle.log_store.specs.Log.{least_of, missing};
-ghost use Rattle.log_store.specs.Reading.{IsLoaded, gap_at, leading_from};
+ghost use Rattle.log_store.specs.Reading.{gap_at, leading_from};
+ghost use Rattle.log_store.specs.Loads.{IsLoaded};
 
 use crate::loaded::{Block, BlockCause, Loaded};
 use edge_core::{Name, Segment};

@@ -1,7 +1,7 @@
 use Rattle.std.proofs.Common.{◌≡◌, ◌≤◌}
 use Rattle.edge_core.specs.Objects.{Between}
 use Rattle.log_store.specs.Log.{log_in}
-use Rattle.log_store.specs.Reading.{IsLoaded, Looked}
+use Rattle.log_store.specs.Loads.{IsLoaded, Looked}
 use Rattle.log_store.proofs.log.load.Given as goal
 
 abbrev pub invariant-loop-again : goal.invariant-loop-again

@@ -1,7 +1,7 @@
 use Rattle.std.proofs.Common.{◌≤◌, ◌+◌, ◌-◌, length}
 use Rattle.std.specs.Prelude.{IfSome}
 use Rattle.std.specs.FinMap as finmap
-use Rattle.log_store.specs.Reading.{Looked}
+use Rattle.log_store.specs.Loads.{Looked}
 use Rattle.log_store.proofs.Fetching.{IsFront}
 use Rattle.log_store.proofs.reading.fetch.Given as goal
 

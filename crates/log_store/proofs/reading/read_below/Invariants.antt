@@ -1,6 +1,6 @@
 use Rattle.std.proofs.Common.{◌≡◌, ◌≤◌, ◌<◌, length, vec_len}
 use Rattle.std.specs.Prelude.{IfSome}
-use Rattle.log_store.specs.Reading.{Looked}
+use Rattle.log_store.specs.Loads.{Looked}
 use Rattle.log_store.proofs.Keeping.{IsReading}
 use Rattle.log_store.proofs.reading.read_below.Given as goal
 
