@@ -36,7 +36,8 @@ fn version_field<W: Tokens>(
     count_field(line, name, version.get().into())
 }
 
-fn size_field<W: Tokens>(line: &mut W, size: FileSize) -> Result<(), W::Error>
+/// Writes the size of a file.
+pub fn size_field<W: Tokens>(line: &mut W, size: FileSize) -> Result<(), W::Error>
     ensures written { OnOk result (W.adds line.old line.new (field_tokens (codes "size", Some (count_value size)))) }
     ensures bound { size < 2 ^ 63 }
 {
