@@ -7,7 +7,8 @@ use Rattle.std.specs.Str.Parse.{digits_value}
 use Rattle.std.proofs.lemmas.Bool.{and_parts, cases_eq, leb-true, ne_eqb}
 use Rattle.std.proofs.lemmas.Str.{digit_value_digit}
 use Rattle.part_values.specs.Day.{civil_day, day_of}
-use Rattle.part_values.specs.DigitPairs.{◌>>=◌, day_by_pairs}
+use Rattle.json_tree.specs.Options.{◌>>=◌}
+use Rattle.part_values.specs.DigitPairs.{day_by_pairs}
 
 splits : (p q a b c d f g i j : Bool) (w x y z : ℕ) (k : ℕ → ℕ → ℕ → ℕ → Option ℤ) (v : Option ℤ)
     → (a ≡ true → b ≡ true → c ≡ true → d ≡ true → f ≡ true → g ≡ true → i ≡ true → j ≡ true → k w x y z ≡ v)

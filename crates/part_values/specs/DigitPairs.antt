@@ -1,11 +1,8 @@
 -- A date by its pairs of digits, as the code reads it.
-use Rattle.std.specs.Prelude.{ℕ, ℤ, pos, ◌+◌, ◌-◌, ◌*◌, ◌&&◌, ◌==◌, Bool, List, length, slice_index, Option, Some, None, option_and_then, if◌then◌else◌}
+use Rattle.std.specs.Prelude.{ℕ, ℤ, pos, ◌+◌, ◌-◌, ◌*◌, ◌&&◌, ◌==◌, Bool, List, length, slice_index, Option, Some, None, if◌then◌else◌}
 use Rattle.std.specs.Char.{is_ascii_digit}
+use Rattle.json_tree.specs.Options.{◌>>=◌}
 use Rattle.part_values.specs.Day.{civil_day}
-
-infixl 10 ◌>>=◌
-abbrev pub ◌>>=◌ : {A B : Type 0} → Option A → (A → Option B) → Option B
-o >>= f = option_and_then f o
 
 -- two digits
 abbrev pub two_digits : ℕ → ℕ → Option ℕ

@@ -87,8 +87,8 @@ fn kind_named(name: &str) -> PartType
     }
 }
 
-// The text at that name in an object.
-fn text_in<'a>(object: &'a Value, name: &str) -> Option<&'a str>
+/// The text at that name in an object.
+pub fn text_in<'a>(object: &'a Value, name: &str) -> Option<&'a str>
     ensures { option_map (λ t. t.now) result ≡ the_text_in name.now (view object.now) }
 {
     match object.get(name) {

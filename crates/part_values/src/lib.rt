@@ -7,7 +7,7 @@ mod day;
 mod value;
 mod whole;
 
-pub use columns::{Column, Columns, columns_of};
+pub use columns::{Column, Columns, columns_of, text_in};
 pub use value::{PartType, PartValue, value_of};
 
 #[cfg(test)]
