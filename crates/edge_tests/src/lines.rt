@@ -27,18 +27,6 @@ fn a_clock_repeats_its_last_moment(rt: HostRuntime) -> Result<(), AllocError> {
     Ok(())
 }
 
-#[test]
-fn a_clock_has_many_moments(rt: HostRuntime) -> Result<(), AllocError> {
-    let mut moments = vec![in rt.alloc(); 7u64; 100_000]?;
-    moments.push(8)?;
-    let mut clock = MemClock::new(moments);
-    for _ in 0..100_000u32 {
-        assert_eq!(rt; moment(&mut clock), 7);
-    }
-    assert_eq!(rt; moment(&mut clock), 8);
-    Ok(())
-}
-
 // A sink with room for 8 bytes, whose write of the number 1 is to fail.
 fn failing_sink(alloc: Global) -> Result<MemSink, AllocError>
     ensures unfailed { IfOk result (λ s. calls_failed (sink_calls s) ≡ 0) }

@@ -128,14 +128,14 @@ meta_same s actions own is =
     ∙ ap (λ o. last_or o (filter_map as_meta own)) (is ∙ ap (λ ms. last_or (Some s.meta) ms) (sym (none_of_files as_meta s.txns s.files (λ t. refl) (λ a. refl))))
     ∙ sym (last_or-filter_map as_meta None (checkpoint_of s) own)
 
-supported : (log : List (List Action)) → 0 < length log → refusal_of log ≡ None → IsSupported log
+pub supported : (log : List (List Action)) → 0 < length log → refusal_of log ≡ None → IsSupported log
 supported [] some is = absurd (omega (arith, some))
 supported (c ∷ cs) some is = is
 
 no_state : (e : ReplayRefusal) (s : State) → Err e ≡ Ok s → ⊥
 no_state e s is = cc
 
-not_empty : (log : List (List Action)) (s : State) → state_of log ≡ Ok s → 0 < length log
+pub not_empty : (log : List (List Action)) (s : State) → state_of log ≡ Ok s → 0 < length log
 not_empty [] s is = absurd (no_state _ s is)
 not_empty (c ∷ cs) s is = omega arith
 

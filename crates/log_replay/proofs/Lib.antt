@@ -9,4 +9,5 @@ pub mod Reached
 pub mod NextLemmas
 pub mod PartLemmas
 pub mod CheckpointLemmas
+pub mod HeadLemmas
 pub mod TimeLemmas

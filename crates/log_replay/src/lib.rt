@@ -16,5 +16,5 @@ mod times;
 pub use commits::{advance, replay, replay_ref};
 pub use refusal::{Cause, NoState, ReplayRefusal};
 pub use snapshot::{Snapshot, SnapshotRef};
-pub use standing::Support;
+pub use standing::{Support, refusal_after};
 pub use times::{Bound, Mark, Unresolved, mark_of, marks_of, resolve};

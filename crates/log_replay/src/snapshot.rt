@@ -39,6 +39,8 @@ impl Model for Snapshot {
 }
 
 impl Snapshot {
+    ghost use Rattle.log_replay.specs.Snapshots.{PathsRise};
+
     /// The version: how many commits came after the first.
     pub fn version(&self) -> u64
         ensures { result ≡ self.now.version }
@@ -70,7 +72,8 @@ impl Snapshot {
 
     /// The live files in byte order of path.
     pub fn files(&self) -> &[AddFile]
-        ensures { result.now ≡ self.now.files }
+        ensures files { result.now ≡ self.now.files }
+        ensures order { PathsRise self.now.files }
     {
         &self.files
     }
