@@ -99,56 +99,94 @@ fn have_texts(segments: &[Segment], wanted: &[&str]) -> bool {
     true
 }
 
+// Ends the test where this doesn't hold, and says what.
+fn must(holds: bool, what: &str) -> Result<(), Fail> {
+    if holds { Ok(()) } else { Err(Fail::from(what)) }
+}
+
 fn remove(rt: &HostRuntime, folder: &str) -> Result<(), Fail> {
     fs::remove_dir_all(rt, folder)?;
     Ok(())
 }
 
-#[test]
-fn stores_once_and_reads_again(rt: HostRuntime) -> Result<(), Fail> {
+fn store_once(rt: &HostRuntime, store: &mut FileStore) -> Result<(), Fail> {
     let alloc = rt.alloc();
-    let folder = fresh_folder(&rt)?;
-    let mut store = store_in(&rt, folder.as_str())?;
-    assert!(rt; is_absent(alloc, &mut store, "t/_delta_log/0.json")?);
+    must(
+        is_absent(alloc, store, "t/_delta_log/0.json")?,
+        "nothing is there yet",
+    )?;
     for (object, bytes, wanted) in [
         ("t/_delta_log/0.json", b"abc".as_slice(), Put::Stored),
         ("t/_delta_log/0.json", b"other".as_slice(), Put::Exists),
         ("t/_delta_log/1.json", b"d".as_slice(), Put::Stored),
     ] {
-        assert!(rt; put(alloc, &mut store, object, bytes)? == wanted);
+        must(
+            put(alloc, store, object, bytes)? == wanted,
+            "a name is stored once",
+        )?;
     }
-    assert!(rt; holds(alloc, &mut store, "t/_delta_log/0.json", b"abc")?);
-    assert!(rt; lists(alloc, &mut store, "t/_delta_log", &["0.json", "1.json"])?);
+    must(
+        holds(alloc, store, "t/_delta_log/0.json", b"abc")?,
+        "the first bytes stay",
+    )?;
+    must(
+        lists(alloc, store, "t/_delta_log", &["0.json", "1.json"])?,
+        "both are listed",
+    )?;
+    Ok(())
+}
+
+#[test]
+fn stores_once_and_reads_again(rt: HostRuntime) -> Result<(), Fail> {
+    let folder = fresh_folder(&rt)?;
+    let mut store = store_in(&rt, folder.as_str())?;
+    store_once(&rt, &mut store)?;
     remove(&rt, folder.as_str())
+}
+
+fn store_large(rt: &HostRuntime, store: &mut FileStore) -> Result<(), Fail> {
+    let alloc = rt.alloc();
+    let bytes = vec![in alloc; b'x'; 1_048_576]?;
+    must(put(alloc, store, "large", &bytes)? == Put::Stored, "stored")?;
+    must(holds(alloc, store, "large", &bytes)?, "whole")?;
+    Ok(())
 }
 
 #[test]
 fn stores_a_large_object(rt: HostRuntime) -> Result<(), Fail> {
-    let alloc = rt.alloc();
     let folder = fresh_folder(&rt)?;
     let mut store = store_in(&rt, folder.as_str())?;
-    let bytes = vec![in alloc; b'x'; 1_048_576]?;
-    assert!(rt; put(alloc, &mut store, "large", &bytes)? == Put::Stored);
-    assert!(rt; holds(alloc, &mut store, "large", &bytes)?);
+    store_large(&rt, &mut store)?;
     remove(&rt, folder.as_str())
+}
+
+fn pass_folders_over(rt: &HostRuntime, folder: &str, store: &mut FileStore) -> Result<(), Fail> {
+    let alloc = rt.alloc();
+    must(
+        put(alloc, store, "a/b/c", b"c")? == Put::Stored,
+        "a folder is made",
+    )?;
+    must(
+        put(alloc, store, "a/b", b"x")? == Put::Failed,
+        "no object in place of a folder",
+    )?;
+    // The folder's name is told, and nothing is there to be read. A file in a folder's place: the folder isn't there, and
+    // nothing is below it.
+    for object in ["a/b", "a/b/c/d"] {
+        must(is_absent(alloc, store, object)?, "no object")?;
+    }
+    must(lists(alloc, store, "a", &["b"])?, "the folder is told")?;
+    for dir in ["a/b/c", "none"] {
+        must(lists(alloc, store, dir, &[])?, "nothing is below a file")?;
+    }
+    Ok(())
 }
 
 #[test]
 fn folders_are_no_objects(rt: HostRuntime) -> Result<(), Fail> {
-    let alloc = rt.alloc();
     let folder = fresh_folder(&rt)?;
     let mut store = store_in(&rt, folder.as_str())?;
-    assert!(rt; put(alloc, &mut store, "a/b/c", b"c")? == Put::Stored);
-    assert!(rt; put(alloc, &mut store, "a/b", b"x")? == Put::Failed);
-    // The folder's name is told, and nothing is there to be read. A file in a folder's place: the folder isn't there, and
-    // nothing is below it.
-    for object in ["a/b", "a/b/c/d"] {
-        assert!(rt; is_absent(alloc, &mut store, object)?);
-    }
-    assert!(rt; lists(alloc, &mut store, "a", &["b"])?);
-    for dir in ["a/b/c", "none"] {
-        assert!(rt; lists(alloc, &mut store, dir, &[])?);
-    }
+    pass_folders_over(&rt, folder.as_str(), &mut store)?;
     remove(&rt, folder.as_str())
 }
 
@@ -176,33 +214,38 @@ fn entries(rt: &HostRuntime, folder: &str) -> Result<usize, Fail> {
     Ok(count)
 }
 
-#[test]
-fn links_that_lead_to_no_file_are_no_objects(rt: HostRuntime) -> Result<(), Fail> {
+fn pass_links_over(rt: &HostRuntime, folder: &str, store: &mut FileStore) -> Result<(), Fail> {
     let alloc = rt.alloc();
-    let folder = fresh_folder(&rt)?;
-    let mut store = store_in(&rt, folder.as_str())?;
-    assert!(rt; put(alloc, &mut store, "d/file", b"f")? == Put::Stored);
-    link_all(&rt, folder.as_str())?;
-    assert!(rt; holds(alloc, &mut store, "d/good", b"f")?);
+    must(put(alloc, store, "d/file", b"f")? == Put::Stored, "a file")?;
+    link_all(rt, folder)?;
+    must(
+        holds(alloc, store, "d/good", b"f")?,
+        "a link to a file is the file",
+    )?;
     for link in ["d/loop", "d/nowhere", "d/up"] {
-        assert!(rt; is_absent(alloc, &mut store, link)?, "{link}");
-        assert!(rt;
-            put(alloc, &mut store, link, b"x")? == Put::Failed,
-            "{link}"
-        );
+        must(is_absent(alloc, store, link)?, link)?;
+        must(put(alloc, store, link, b"x")? == Put::Failed, link)?;
     }
     // Each name is told, and what a failed put wrote is gone.
     let names = ["file", "good", "loop", "nowhere", "up"];
-    assert!(rt; lists(alloc, &mut store, "d", &names)?);
-    assert!(rt; entries(&rt, folder.as_str())? == names.len());
-    remove(&rt, folder.as_str())
+    must(lists(alloc, store, "d", &names)?, "each name is told")?;
+    must(
+        entries(rt, folder)? == names.len(),
+        "what a failed put wrote is gone",
+    )?;
+    Ok(())
 }
 
 #[test]
-fn pieces_are_those_of_the_named_object(rt: HostRuntime) -> Result<(), Fail> {
-    let alloc = rt.alloc();
+fn links_that_lead_to_no_file_are_no_objects(rt: HostRuntime) -> Result<(), Fail> {
     let folder = fresh_folder(&rt)?;
     let mut store = store_in(&rt, folder.as_str())?;
+    pass_links_over(&rt, folder.as_str(), &mut store)?;
+    remove(&rt, folder.as_str())
+}
+
+fn read_pieces(rt: &HostRuntime, store: &mut FileStore) -> Result<(), Fail> {
+    let alloc = rt.alloc();
     // Names in another order than their bytes', and names of one length.
     for (object, bytes) in [
         ("d/b1", b"first."),
@@ -210,10 +253,7 @@ fn pieces_are_those_of_the_named_object(rt: HostRuntime) -> Result<(), Fail> {
         ("d/a", b"third."),
         ("d/10", b"fourth"),
     ] {
-        assert!(rt;
-            put(alloc, &mut store, object, bytes)? == Put::Stored,
-            "{object}"
-        );
+        must(put(alloc, store, object, bytes)? == Put::Stored, object)?;
     }
     let mut out = [0u8; 3];
     for (object, from, count, piece) in [
@@ -222,25 +262,53 @@ fn pieces_are_those_of_the_named_object(rt: HostRuntime) -> Result<(), Fail> {
         ("d/b1", 3, 3, b"st."),
         ("d/b1", 6, 0, b"st."),
     ] {
-        assert!(rt; get(alloc, &mut store, object, from, &mut out)? == Got::Bytes(count));
-        assert!(rt; out == *piece);
+        must(
+            get(alloc, store, object, from, &mut out)? == Got::Bytes(count),
+            "the named object is read",
+        )?;
+        must(out == *piece, "its bytes at that place")?;
     }
-    assert!(rt; lists(alloc, &mut store, "d", &["10", "a", "a2", "b1"])?);
-    remove(&rt, folder.as_str())
+    must(
+        lists(alloc, store, "d", &["10", "a", "a2", "b1"])?,
+        "all are listed in order",
+    )?;
+    Ok(())
 }
 
 #[test]
-fn a_name_too_long_for_the_disk_fails(rt: HostRuntime) -> Result<(), Fail> {
-    let alloc = rt.alloc();
+fn pieces_are_those_of_the_named_object(rt: HostRuntime) -> Result<(), Fail> {
     let folder = fresh_folder(&rt)?;
     let mut store = store_in(&rt, folder.as_str())?;
+    read_pieces(&rt, &mut store)?;
+    remove(&rt, folder.as_str())
+}
+
+fn name_too_long(rt: &HostRuntime, store: &mut FileStore) -> Result<(), Fail> {
+    let alloc = rt.alloc();
     let mut long = String::new(alloc);
     for _ in 0..300 {
         long.push('n')?;
     }
-    assert!(rt; put(alloc, &mut store, long.as_str(), b"x")? == Put::Failed);
-    assert!(rt; get(alloc, &mut store, long.as_str(), 0, &mut [0u8; 4])? == Got::Failed);
-    assert!(rt; size(alloc, &mut store, long.as_str())? == Measured::Failed);
+    must(
+        put(alloc, store, long.as_str(), b"x")? == Put::Failed,
+        "not stored",
+    )?;
+    must(
+        get(alloc, store, long.as_str(), 0, &mut [0u8; 4])? == Got::Failed,
+        "not read",
+    )?;
+    must(
+        size(alloc, store, long.as_str())? == Measured::Failed,
+        "not measured",
+    )?;
+    Ok(())
+}
+
+#[test]
+fn a_name_too_long_for_the_disk_fails(rt: HostRuntime) -> Result<(), Fail> {
+    let folder = fresh_folder(&rt)?;
+    let mut store = store_in(&rt, folder.as_str())?;
+    name_too_long(&rt, &mut store)?;
     remove(&rt, folder.as_str())
 }
 
@@ -251,17 +319,31 @@ fn leave_half(rt: &HostRuntime, folder: &str) -> Result<(), Fail> {
     Ok(())
 }
 
+fn pass_halves_over(rt: &HostRuntime, folder: &str, store: &mut FileStore) -> Result<(), Fail> {
+    let alloc = rt.alloc();
+    must(put(alloc, store, "d/one", b"1")? == Put::Stored, "one")?;
+    leave_half(rt, folder)?;
+    must(put(alloc, store, "d/two", b"22")? == Put::Stored, "two")?;
+    must(
+        lists(alloc, store, "d", &["one", "two"])?,
+        "what is half written is passed over",
+    )?;
+    must(
+        is_absent(alloc, store, "d/.share-put-0")?,
+        "half an object is none",
+    )?;
+    must(
+        put(alloc, store, "d/.share-put-1", b"x")? == Put::Failed,
+        "the name is taken",
+    )?;
+    Ok(())
+}
+
 #[test]
 fn what_has_no_name_yet_is_passed_over(rt: HostRuntime) -> Result<(), Fail> {
-    let alloc = rt.alloc();
     let folder = fresh_folder(&rt)?;
     let mut store = store_in(&rt, folder.as_str())?;
-    assert!(rt; put(alloc, &mut store, "d/one", b"1")? == Put::Stored);
-    leave_half(&rt, folder.as_str())?;
-    assert!(rt; put(alloc, &mut store, "d/two", b"22")? == Put::Stored);
-    assert!(rt; lists(alloc, &mut store, "d", &["one", "two"])?);
-    assert!(rt; is_absent(alloc, &mut store, "d/.share-put-0")?);
-    assert!(rt; put(alloc, &mut store, "d/.share-put-1", b"x")? == Put::Failed);
+    pass_halves_over(&rt, folder.as_str(), &mut store)?;
     remove(&rt, folder.as_str())
 }
 
