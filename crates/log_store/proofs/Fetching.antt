@@ -7,7 +7,7 @@ use Rattle.std.proofs.lemmas.Option.{same_Some}
 use Rattle.std.specs.FinMap as finmap
 use Rattle.edge_core.specs.Objects.{Objects, IsPiece, Gets, Grows}
 use Rattle.edge_core.specs.declared.store.Got.TheVariants as got
-use Rattle.log_store.specs.Reading.{IsOver}
+use Rattle.log_store.specs.Loads.{IsOver}
 
 -- the first bytes of an object, or none where it is absent
 abbrev pub IsFront : List ℕ → Option (List ℕ) → Type 0

@@ -9,23 +9,9 @@ use Rattle.log_store.specs.Log.{cause_of, missing, text_at}
 use Rattle.log_store.specs.declared.loaded.Block.{Block}
 use Rattle.log_store.specs.declared.loaded.BlockCause.{BlockCause}
 use Rattle.log_store.specs.declared.loaded.BlockCause.TheVariants as cause
-use Rattle.log_store.specs.declared.reading.Fetched.{Fetched}
-use Rattle.log_store.specs.declared.reading.Fetched.TheVariants as fetched
 use Rattle.log_store.specs.declared.refusal.LoadRefusal.{LoadRefusal}
 use Rattle.log_store.specs.declared.refusal.Stop.{Stop}
 use Rattle.log_store.specs.declared.refusal.Stop.TheVariants as stop
-
--- an object that is longer than the limit
-abbrev pub IsOver : ℕ → Option (List ℕ) → Type 0
-IsOver limit None = ⊥
-IsOver limit (Some all) = limit < length all
-
--- a whole object of at most so many bytes, or why there is none
-abbrev pub IsFetched : ℕ → Option (List ℕ) → Result Fetched LoadRefusal → Type 0
-IsFetched limit found (Ok (fetched.Bytes v)) = (found ≡ Some v.items) × (length v.items ≤ limit)
-IsFetched limit found (Ok fetched.Absent) = found ≡ None
-IsFetched limit found (Ok fetched.TooLong) = IsOver limit found
-IsFetched limit found (Err refusal) = ⊤
 
 -- why the commit of bytes that may be absent isn't kept
 abbrev pub cause_found : List (List Action) → Option (List ℕ) → Option BlockCause

@@ -4,12 +4,15 @@
 mod kept;
 mod loaded;
 mod log;
+mod probing;
 mod reading;
 mod refusal;
 mod versions;
 
 pub use loaded::{Block, BlockCause, Commits, Loaded};
 pub use log::load;
+pub use probing::{Probed, probe};
+pub use reading::{Fetched, fetch};
 pub use refusal::LoadRefusal;
 
 #[cfg(test)]

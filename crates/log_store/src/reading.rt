@@ -3,8 +3,8 @@ ghost use Rattle.std.specs.Prelude.{◌≡◌, ◌<◌, ◌≤◌, ◌+◌, ◌^
 ghost use Rattle.edge_core.specs.Faults.{Cause};
 ghost use Rattle.log_commit.specs.Names.{commit_name};
 ghost use Rattle.log_store.specs.Log.{log_below, text_at};
-ghost use Rattle.log_store.specs.Reading.{AreStored, IsCommitAt, IsFetched, Keeps};
-ghost use Rattle.log_store.specs.Loads.{IsLoaded, Looked};
+ghost use Rattle.log_store.specs.Reading.{AreStored, IsCommitAt, Keeps};
+ghost use Rattle.log_store.specs.Loads.{IsFetched, IsLoaded, Looked};
 ghost use Rattle.log_store.specs.Refusals.{failed_load, failed_step};
 ghost use Rattle.std.specs.FinMap as finmap;
 
@@ -16,27 +16,32 @@ use log_actions::Commit;
 use log_commit::{CommitFault, commit_of, name_of};
 use std::alloc::{AllocError, Global};
 
-// What a store has under a name.
+/// What a store has under a name.
 #[derive(Drop)]
-pub(crate) enum Fetched {
+pub enum Fetched {
+    /// The object's bytes.
     Bytes(Vec<u8>),
+    /// No object has the name.
     Absent,
+    /// The object has more bytes than were asked for.
     TooLong,
 }
 
 const PIECE: usize = 65_536;
 
-const MOST_TEXT: usize = 16 << 20;
+pub(crate) const MOST_TEXT: usize = 16 << 20;
 
 // Room for a piece.
-fn piece_room(alloc: Global) -> Result<Vec<u8>, AllocError>
+pub(crate) fn piece_room(alloc: Global) -> Result<Vec<u8>, AllocError>
     ensures { IfOk result (λ v. 0 < vec_len v) }
 {
     vec![in alloc; 0; PIECE]
 }
 
-// An object of at most so many bytes.
-fn fetch<W: Store>(
+/// An object of at most `limit` bytes, read in pieces of the length of `piece`; in which of the
+/// calls of the store it is absent or longer decides. A fault comes only where the store's count of
+/// faults rose in this call.
+pub fn fetch<W: Store>(
     alloc: Global,
     store: &mut W,
     name: &Name,
