@@ -16,8 +16,3 @@ pub use fields::{
 pub use lengths::Length;
 pub use text::{begin_object, end_object, new_writer, printed};
 pub use tokens::Tokens;
-
-#[cfg(test)]
-mod line_tests;
-#[cfg(test)]
-mod tests;

@@ -13,6 +13,3 @@ pub use pairs::{Pair, Pairs, copy_pairs_or_none};
 pub use small::{Edition, Millis, Place, Version};
 pub use text::{Text, Texts, copy_text_or_none};
 pub use tree::{TreeFault, tree_of};
-
-#[cfg(test)]
-mod tests;

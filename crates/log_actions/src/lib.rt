@@ -24,12 +24,3 @@ pub use lines::{action_of, action_of_line};
 pub use paths::{is_good_path, path_name};
 pub use printing::{line_len, line_of_action, size_field};
 pub use ranges::{CommitTime, FileSize, ProtocolVersion};
-
-#[cfg(test)]
-mod field_tests;
-#[cfg(test)]
-mod path_tests;
-#[cfg(test)]
-mod print_tests;
-#[cfg(test)]
-mod tests;

@@ -13,10 +13,3 @@ pub use names::{name_of, version_of};
 pub use print::bytes_of;
 pub use rules::commit_from;
 pub use text::{MOST_BYTES, commit_of};
-
-#[cfg(test)]
-mod name_tests;
-#[cfg(test)]
-mod print_tests;
-#[cfg(test)]
-mod text_tests;

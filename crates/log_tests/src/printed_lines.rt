@@ -1,11 +1,9 @@
 // Lines that were read, printed: the form of each kind, written by hand.
-use crate::{action_of_line, line_len, line_of_action};
-use json_tree::Text;
+use crate::texts::spelt;
+use log_actions::{action_of_line, line_len, line_of_action};
 use std::alloc::{AllocError, Global};
-use std::process::Abort;
-use std::test::Fail;
 
-const PRINTED: [(&str, &str); 11] = [
+static PRINTED: [(&str, &str); 11] = [
     (
         "{\"protocol\":{\"minWriterVersion\":7,\"minReaderVersion\":3,\
             \"readerFeatures\":[\"deletionVectors\",\"\"],\"writerFeatures\":null}}",
@@ -66,70 +64,41 @@ const PRINTED: [(&str, &str); 11] = [
     ),
 ];
 
-fn printed(alloc: Global, line: &str) -> Result<Text, Fail> {
+// Whether the line is read and printed so, and as long as it is told to be.
+fn is_printed(alloc: Global, line: &str, wanted: &str) -> Result<bool, AllocError> {
     match action_of_line(alloc, line.as_bytes()) {
-        Ok(Some(action)) => Ok(line_of_action(alloc, &action)?),
-        _ => Err(Fail::from("a line isn't read")),
+        Ok(Some(action)) => {
+            let text = line_of_action(alloc, &action)?;
+            Ok(text.as_str() == wanted && line_len(&action) == wanted.len() as u64)
+        }
+        _ => Ok(false),
     }
 }
 
-// How long the action of a line is when it is printed, 0 where there is none.
-fn length(alloc: Global, line: &str) -> u64 {
-    match action_of_line(alloc, line.as_bytes()) {
-        Ok(Some(action)) => line_len(&action),
-        _ => 0,
-    }
-}
-
-fn prints(rt: &impl Abort, alloc: Global, line: &str, wanted: &str) -> Result<(), Fail> {
-    let text = printed(alloc, line)?;
-    assert_eq!(rt; text.as_str(), wanted);
-    assert_eq!(rt; length(alloc, line), wanted.len() as u64);
-    Ok(())
-}
-
-// What is printed is printed again when it is read.
+// What is printed is printed again when it is read: an add of long statistics and a metaData of many columns too.
 #[test]
-fn prints_each_kind(rt: HostRuntime) -> Result<(), Fail> {
-    for (line, wanted) in PRINTED {
-        prints(&rt, rt.alloc(), line, wanted)?;
-        prints(&rt, rt.alloc(), wanted, wanted)?;
+fn prints_each_kind(rt: HostRuntime) -> Result<(), AllocError> {
+    let alloc = rt.alloc();
+    for (line, wanted) in &PRINTED {
+        assert!(rt; is_printed(alloc, line, wanted)? && is_printed(alloc, wanted, wanted)?);
     }
-    Ok(())
-}
-
-// The line of an add whose statistics have so many letters.
-fn long_line(alloc: Global, letters: usize) -> Result<String, AllocError> {
-    let mut line = String::from_str(
+    let long = spelt(
         alloc,
         "{\"add\":{\"dataChange\":true,\"modificationTime\":0,\"partitionValues\":{},\
             \"path\":\"a\",\"size\":0,\"stats\":\"",
+        "s",
+        1 << 20,
+        "\"}}",
     )?;
-    for _ in 0..letters {
-        line.push('s')?;
-    }
-    line.push_str("\"}}")?;
-    Ok(line)
-}
-
-// The line of a metaData with so many partition columns.
-fn wide_line(alloc: Global, columns: usize) -> Result<String, AllocError> {
-    let mut line = String::from_str(
+    assert!(rt; is_printed(alloc, &long, &long)?);
+    let wide = spelt(
         alloc,
         "{\"metaData\":{\"configuration\":{},\"format\":{\"options\":{},\"provider\":\"parquet\"},\
             \"id\":\"7\",\"partitionColumns\":[\"c\"",
+        ",\"c\"",
+        199,
+        "],\"schemaString\":\"{}\"}}",
     )?;
-    for _ in 1..columns {
-        line.push_str(",\"c\"")?;
-    }
-    line.push_str("],\"schemaString\":\"{}\"}}")?;
-    Ok(line)
-}
-
-#[test]
-fn prints_much(rt: HostRuntime) -> Result<(), Fail> {
-    let long = long_line(rt.alloc(), 1 << 20)?;
-    prints(&rt, rt.alloc(), long.as_str(), long.as_str())?;
-    let wide = wide_line(rt.alloc(), 200)?;
-    prints(&rt, rt.alloc(), wide.as_str(), wide.as_str())
+    assert!(rt; is_printed(alloc, &wide, &wide)?);
+    Ok(())
 }
