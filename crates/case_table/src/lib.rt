@@ -7,8 +7,6 @@
 mod action_fields;
 mod refuse;
 mod routing;
-#[cfg(test)]
-mod tests;
 mod values;
 
 pub use action_fields::{ActionKind, Field, fields_differ};

@@ -6,8 +6,6 @@ pub mod head;
 pub mod law;
 mod line;
 pub mod status;
-#[cfg(test)]
-mod tests;
 mod write;
 
 pub use write::head_text;

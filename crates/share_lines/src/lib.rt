@@ -9,14 +9,10 @@ mod faults;
 mod fields;
 mod kinds;
 mod law;
-#[cfg(test)]
-mod line_tests;
 mod parts;
 mod printing;
 mod reading;
 mod table_lines;
-#[cfg(test)]
-mod tests;
 
 pub use bodies::{lines_of, lines_text};
 pub use case_table::Refusal;

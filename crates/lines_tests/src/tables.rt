@@ -1,5 +1,5 @@
 // The rows of each table, typed by hand from the documents and not from the code.
-use super::*;
+use case_table::{Class, Field, Method, Refusal, Route, ValueType};
 
 #[test]
 fn has_the_refusals(rt: HostRuntime) {
@@ -49,17 +49,17 @@ fn has_the_refusals(rt: HostRuntime) {
         match refusals.next() {
             Some(refusal) => {
                 let found = (refusal.code(), refusal.status(), refusal.has_detail());
-                assert!(rt; found == (code, status, has_detail), "{code}");
-                assert!(rt; refusal.word() == word, "{code}");
-                assert!(rt; refusal.message() == message, "{code}");
-                assert!(rt; Refusal::of_word(word) == Some(refusal), "{code}");
+                assert!(rt; found == (code, status, has_detail));
+                assert!(rt; refusal.word() == word);
+                assert!(rt; refusal.message() == message);
+                assert!(rt; Refusal::of_word(word) == Some(refusal));
             }
-            None => assert!(rt; false, "{code}"),
+            None => assert!(rt; false),
         }
     }
     assert!(rt; refusals.next().is_none());
     for word in ["", "STALE", "token_stale", "TOKEN_STALE ", "LINK_REVOKE"] {
-        assert!(rt; Refusal::of_word(word).is_none(), "{word}");
+        assert!(rt; Refusal::of_word(word).is_none());
     }
 }
 
@@ -84,10 +84,10 @@ fn has_the_routes(rt: HostRuntime) {
     for (code, word, method) in rows {
         match routes.next() {
             Some(route) => {
-                assert!(rt; (route.code(), route.method()) == (code, method), "{code}");
-                assert!(rt; route.word() == word, "{code}");
+                assert!(rt; (route.code(), route.method()) == (code, method));
+                assert!(rt; route.word() == word);
             }
-            None => assert!(rt; false, "{code}"),
+            None => assert!(rt; false),
         }
     }
     assert!(rt; routes.next().is_none());
@@ -106,16 +106,16 @@ fn has_the_value_types(rt: HostRuntime) {
     for (word, class) in rows {
         match kinds.next() {
             Some(kind) => {
-                assert!(rt; kind.word() == word, "{word}");
-                assert!(rt; kind.class() == class, "{word}");
-                assert!(rt; ValueType::of_word(word) == Some(kind), "{word}");
+                assert!(rt; kind.word() == word);
+                assert!(rt; kind.class() == class);
+                assert!(rt; ValueType::of_word(word) == Some(kind));
             }
-            None => assert!(rt; false, "{word}"),
+            None => assert!(rt; false),
         }
     }
     assert!(rt; kinds.next().is_none());
     for word in ["timestamp", "Int", "", "float"] {
-        assert!(rt; ValueType::of_word(word).is_none(), "{word}");
+        assert!(rt; ValueType::of_word(word).is_none());
     }
 }
 
@@ -157,11 +157,11 @@ fn has_the_fields(rt: HostRuntime) {
     for (code, action, name) in rows {
         match fields.next() {
             Some(field) => {
-                assert!(rt; field.code() == code, "{code}");
-                assert!(rt; field.kind().word() == action, "{code}");
-                assert!(rt; field.name() == name, "{code}");
+                assert!(rt; field.code() == code);
+                assert!(rt; field.kind().word() == action);
+                assert!(rt; field.name() == name);
             }
-            None => assert!(rt; false, "{code}"),
+            None => assert!(rt; false),
         }
     }
     assert!(rt; fields.next().is_none());
