@@ -1,10 +1,10 @@
 -- How the edits of a catalogue are read (RFC 8259; the fields are this server's own).
-use Rattle.std.specs.Prelude.{ℕ, ℤ, pos, negsuc, ◌&&◌, ◌+◌, ◌==◌, List, [], ◌∷◌, Bool, Option, Some, None, Result, Ok, Err, option_map, is_some, if◌then◌else◌, cond, bytes_eq, codes, count_by}
+use Rattle.std.specs.Prelude.{ℕ, ℤ, pos, negsuc, ◌&&◌, ◌+◌, ◌==◌, List, [], ◌∷◌, Bool, Option, Some, None, Result, Ok, Err, option_map, if◌then◌else◌, bytes_eq, codes, count_by}
 use Rattle.serde_json.specs.Data.{Data}
 use Rattle.serde_json.specs.Find.{as_bool, as_str}
 use Rattle.hex.specs.Hex.{decode_sized, encode_lower}
 use Rattle.hex.specs.declared.FromHexError.{FromHexError}
-use Rattle.json_tree.specs.Fields.{present, whole}
+use Rattle.json_tree.specs.Fields.{count_of, present, whole}
 use Rattle.json_tree.specs.Options.{◌>>=◌}
 use Rattle.edge_core.specs.Names.{is_name}
 use Rattle.share_catalog.specs.Grammar.{is_catalog_name}
@@ -121,19 +121,12 @@ revoke_in d = do
 
 -- ---- an edit's object
 
--- a member that isn't null
-abbrev pub has : List ℕ → Data → Bool
-has name d = is_some (present name d)
-
-abbrev pub one_if : Bool → ℕ
-one_if b = cond b 1 0
-
 -- how many of the nine kinds have a member that isn't null
 abbrev pub kind_count : Data → ℕ
 kind_count d =
-    one_if (has (codes "newShare") d) + one_if (has (codes "dropShare") d) + one_if (has (codes "bind") d) + one_if (has (codes "unbind") d)
-    + one_if (has (codes "newRecipient") d) + one_if (has (codes "rotate") d) + one_if (has (codes "dropRecipient") d)
-    + one_if (has (codes "grant") d) + one_if (has (codes "revoke") d)
+    count_of (codes "newShare") d + count_of (codes "dropShare") d + count_of (codes "bind") d + count_of (codes "unbind") d
+    + count_of (codes "newRecipient") d + count_of (codes "rotate") d + count_of (codes "dropRecipient") d
+    + count_of (codes "grant") d + count_of (codes "revoke") d
 
 abbrev pub read_or : Option Data → (Data → Option Edit) → Option Edit → Option Edit
 read_or None reads other = other

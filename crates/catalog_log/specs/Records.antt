@@ -1,8 +1,9 @@
 -- The records of a catalogue's log: JSON objects of an edit, and version 1 (RFC 8259; the fields are
 -- this server's own).
-use Rattle.std.specs.Prelude.{◌≡◌, ℕ, ◌-◌, ◌==◌, List, Bool, false, Option, Some, None, Result, Ok, Err, ⊤, if◌then◌else◌, length, take, slice_get, pos, codes}
+use Rattle.std.specs.Prelude.{◌≡◌, ℕ, ◌-◌, ◌==◌, List, Bool, true, false, Option, Some, None, Result, Ok, Err, ⊤, if◌then◌else◌, length, take, slice_get, pos, codes}
 use Rattle.serde_json.specs.Data.{Data}
 use Rattle.json_tree.specs.Fields.{present}
+use Rattle.json_tree.specs.Gives.{Answers}
 use Rattle.json_tree.specs.Tree.{tree_in}
 use Rattle.json_tree.specs.declared.tree.TreeFault.{TreeFault}
 use Rattle.json_tree.specs.declared.tree.TreeFault.TheVariants as tree
@@ -52,7 +53,12 @@ Gives (Err fault.NotJson) read = ⊥
 Gives (Err fault.BadRecord) read = read ≡ None
 Gives (Err fault.NoMemory) read = ⊤
 
+abbrev pub lacks_memory : RecordFault → Bool
+lacks_memory fault.NotUtf8 = false
+lacks_memory fault.NotJson = false
+lacks_memory fault.BadRecord = false
+lacks_memory fault.NoMemory = true
+
 -- The answer is the edit or the fault of a record. Want of memory says nothing.
 abbrev pub GivesRecord : Result Edit RecordFault → Result Edit RecordFault → Type 0
-GivesRecord (Err fault.NoMemory) record_read = ⊤
-GivesRecord result record_read = record_read ≡ result
+GivesRecord result record_read = Answers lacks_memory result record_read

@@ -1,16 +1,16 @@
 // The edits that JSON values and records stand for.
-ghost use Rattle.std.specs.Prelude.{◌≡◌, ◌≤◌, bytes_eq, option_map, option_and_then, codes};
+ghost use Rattle.std.specs.Prelude.{◌≡◌, bytes_eq, option_map, option_and_then, codes};
 ghost use Rattle.serde_json.specs.Find.{as_bool};
 ghost use Rattle.serde_json.specs.View.{view};
 ghost use Rattle.hex.specs.Hex.{encode_lower};
 ghost use Rattle.json_tree.specs.Fields.{present};
-ghost use Rattle.catalog_log.specs.Reading.{bind_in, binding_in, credential_in, digest_in, digest_of as digest_of_text, drop_recipient_in, drop_share_in, edit_in, expiry_of, grant_in, has as has_member, kind_count, grants_in, kind_in, location_in, millis, name_in, new_recipient_in, new_share_in, one_if, recipients_in, revoke_in, rotate_in, table_in, text_in, unbind_in};
+ghost use Rattle.catalog_log.specs.Reading.{bind_in, binding_in, credential_in, digest_in, digest_of as digest_of_text, drop_recipient_in, drop_share_in, edit_in, expiry_of, grant_in, kind_count, grants_in, kind_in, location_in, millis, name_in, new_recipient_in, new_share_in, recipients_in, revoke_in, rotate_in, table_in, text_in, unbind_in};
 ghost use Rattle.catalog_log.specs.Records.{Gives, GivesRecord, edit_of_record, is_version_1 as is_1, record_in, without_line_feed as without_line_feed_in};
 
 use crate::RecordFault;
 use edge_core::{Name, is_name_text};
 use hex::FromHex;
-use json_tree::{Millis, TreeFault, member_at, tree_of};
+use json_tree::{Millis, TreeFault, count_at, member_at, tree_of};
 use serde_json::Value;
 use share_catalog::{
     Binding, CatalogName, Credential, Edit, Location, TableName, is_catalog_name_text,
@@ -221,30 +221,19 @@ fn revoke_at(alloc: Global, object: &Value) -> Result<Edit, RecordFault>
     })
 }
 
-fn has(object: &Value, name: &str) -> u8
-    ensures value { result ≡ one_if (has_member name.now (view object.now)) }
-    ensures small { result ≤ 1 }
-{
-    if member_at(object, name).is_some() {
-        1
-    } else {
-        0
-    }
-}
-
 // How many of the nine kinds have a member that isn't null.
 fn count_kinds(object: &Value) -> u8
     ensures { result ≡ kind_count (view object.now) }
 {
-    has(object, "newShare")
-        + has(object, "dropShare")
-        + has(object, "bind")
-        + has(object, "unbind")
-        + has(object, "newRecipient")
-        + has(object, "rotate")
-        + has(object, "dropRecipient")
-        + has(object, "grant")
-        + has(object, "revoke")
+    count_at(object, "newShare")
+        + count_at(object, "dropShare")
+        + count_at(object, "bind")
+        + count_at(object, "unbind")
+        + count_at(object, "newRecipient")
+        + count_at(object, "rotate")
+        + count_at(object, "dropRecipient")
+        + count_at(object, "grant")
+        + count_at(object, "revoke")
 }
 
 // The edit of a kind of the grants, by the member of the kind.

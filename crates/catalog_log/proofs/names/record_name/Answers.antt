@@ -2,7 +2,8 @@ use Rattle.std.proofs.Common.{◌≡◌, ◌++◌, ◌∙◌, sym, ap, string_by
 use Rattle.std.specs.Prelude.{codes}
 use Rattle.edge_core.specs.Names.{is_name}
 use Rattle.catalog_log.specs.RecordNames.{record_name_of}
-use Rattle.catalog_log.proofs.NameLemmas.{in_20_digits, record_is_name}
+use Rattle.edge_core.proofs.Numbered.{in_20_digits}
+use Rattle.catalog_log.proofs.NameLemmas.{record_is_name}
 use Rattle.catalog_log.proofs.names.record_name.Goals as goal
 
 pub unreachable-requires : goal.unreachable-requires
