@@ -67,26 +67,6 @@ fn number_in<'a>(name: &str, text: &'a str) -> Result<(u64, &'a str), Fault>
     Ok((number_of(value)?, rest))
 }
 
-fn edition_of(number: u64) -> Edition
-    requires { number < 2 ^ 63 }
-    ensures { result ≡ number }
-{
-    match Edition::of(number) {
-        Some(edition) => edition,
-        None => unreachable!(),
-    }
-}
-
-fn millis_of(number: u64) -> Millis
-    requires { number < 2 ^ 63 }
-    ensures { result ≡ number }
-{
-    match Millis::of(number) {
-        Some(millis) => millis,
-        None => unreachable!(),
-    }
-}
-
 fn name_of(alloc: Global, text: &str) -> Result<CatalogName, Fault>
     ensures { Gives (λ n. n) result (name_of text.now) }
 {
@@ -134,9 +114,9 @@ pub(crate) fn parts_in(alloc: Global, endpoint: &str, text: &str) -> Result<Link
             table,
         },
         path,
-        binding: edition_of(binding),
-        expires: millis_of(expires),
-        grant: edition_of(grant),
+        binding: Edition::of_small(binding),
+        expires: Millis::of_small(expires),
+        grant: Edition::of_small(grant),
         recipient,
     })
 }

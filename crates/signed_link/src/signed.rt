@@ -44,13 +44,7 @@ fn cut_tail(target: &[u8]) -> Option<(&[u8], &[u8])>
     }
     let (front, tail) = target.split_at(target.len() - TAIL);
     match tail {
-        [b'&', b't', b'=', digits @ ..] => {
-            if are_tag_digits(digits) {
-                Some((front, digits))
-            } else {
-                None
-            }
-        }
+        [b'&', b't', b'=', digits @ ..] if are_tag_digits(digits) => Some((front, digits)),
         _ => None,
     }
 }
