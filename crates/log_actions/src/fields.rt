@@ -106,10 +106,7 @@ pub fn version_at(object: &Value, name: &str) -> Result<Option<ProtocolVersion>,
     ensures { result ≡ field (count (2 ^ 31)) name.now (view object.now) }
 {
     match whole_at(object, name)? {
-        Some(number) => match version_of(number) {
-            Some(version) => Ok(Some(version)),
-            None => Err(FieldFault::WrongKind),
-        },
+        Some(number) => Ok(Some(version_of(number).ok_or(FieldFault::WrongKind)?)),
         None => Ok(None),
     }
 }
@@ -127,10 +124,7 @@ pub fn size_at(object: &Value, name: &str) -> Result<Option<FileSize>, FieldFaul
     ensures { result ≡ field (count (2 ^ 63)) name.now (view object.now) }
 {
     match whole_at(object, name)? {
-        Some(number) => match size_of(number) {
-            Some(size) => Ok(Some(size)),
-            None => Err(FieldFault::WrongKind),
-        },
+        Some(number) => Ok(Some(size_of(number).ok_or(FieldFault::WrongKind)?)),
         None => Ok(None),
     }
 }
