@@ -9,7 +9,8 @@ use Rattle.std.specs.Str.{is_utf8, chars}
 use Rattle.json.specs.Json.{value}
 use Rattle.json.specs.Lex.{punctuate, lex}
 use Rattle.json_print.specs.Lines.{lines as pieces}
-use Rattle.share_lines.specs.Bodies.{TakesPiece, is_bad, line_at, lines_in, start_of}
+use Rattle.share_lines.specs.Bodies.{is_bad, line_at, lines_in, start_of}
+use Rattle.share_lines.specs.Pieces.{TakesPiece}
 use Rattle.share_lines.specs.declared.faults.LinesFault.{LinesFault}
 use Rattle.share_lines.specs.declared.faults.LinesFault.TheVariants as fault
 use Rattle.share_lines.specs.declared.kinds.Line.{Line}

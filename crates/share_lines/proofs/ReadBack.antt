@@ -18,7 +18,8 @@ use Rattle.log_actions.specs.Reading.{count}
 use Rattle.share_lines.specs.Bodies.{of_tree, line_at}
 use Rattle.share_lines.specs.Kept.{KeptFile, Kept}
 use Rattle.share_lines.specs.Printing.{parquet_fields, meta_fields, file_fields, end_fields, kind_name, kind_fields, line_data, line_text, is_printable}
-use Rattle.share_lines.specs.Reading.{◌>>=◌, optional, default_to, meta_of, file_with, file_of, change_with, add_of, end_of, line_in}
+use Rattle.json_tree.specs.Options.{◌>>=◌}
+use Rattle.share_lines.specs.Reading.{optional, default_to, meta_of, file_with, file_of, change_with, add_of, end_of, line_in}
 use Rattle.share_lines.specs.declared.kinds.MetaLine.{MetaLine}
 use Rattle.share_lines.specs.declared.kinds.FileLine.{FileLine}
 use Rattle.share_lines.specs.declared.kinds.EndLine.{EndLine}

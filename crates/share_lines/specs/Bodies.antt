@@ -1,7 +1,8 @@
 -- The lines of a body (Delta Sharing PROTOCOL.md, "API Response Format in Parquet": newline-delimited JSON).
-use Rattle.std.specs.Prelude.{◌≡◌, ℕ, List, [], ◌∷◌, ◌++◌, Bool, true, Option, Some, None, Result, Ok, Err, ⊤, ◌&&◌, not, is_some, filter_map, flat_map, length, take, nat_lt, option_to_list, if◌then◌else◌}
+use Rattle.std.specs.Prelude.{◌≡◌, ℕ, List, [], ◌∷◌, ◌++◌, Bool, true, false, Option, Some, None, Result, Ok, Err, ⊤, ◌&&◌, not, is_some, filter_map, flat_map, length, take, nat_lt, if◌then◌else◌}
 use Rattle.std.specs.List.{list_any, position_or_len}
 use Rattle.serde_json.specs.Data.{Data}
+use Rattle.json_tree.specs.Gives.{Answers}
 use Rattle.json_tree.specs.Tree.{tree_in}
 use Rattle.json_tree.specs.declared.tree.TreeFault.{TreeFault}
 use Rattle.json_print.specs.Lines.{lines as pieces}
@@ -40,18 +41,10 @@ abbrev pub AreReadBack : List Line → Type 0
 AreReadBack [] = ⊤
 AreReadBack (l ∷ ls) = (line_at (line_text l) ≡ Some l) × AreReadBack ls
 
+abbrev pub lacks_memory : LinesFault → Bool
+lacks_memory (fault.Bad at) = false
+lacks_memory fault.NoMemory = true
+
 -- The answer is what the bytes stand for. Want of memory says nothing.
-abbrev pub Fails : LinesFault → Result (List Line) LinesFault → Type 0
-Fails fault.NoMemory what = ⊤
-Fails e what = what ≡ Err e
-
-abbrev pub Answers : Result (List Line) LinesFault → Result (List Line) LinesFault → Type 0
-Answers (Ok lines) what = what ≡ Ok lines
-Answers (Err e) what = Fails e what
-
--- ---- one piece
-
--- a piece is taken, or it is outside the grammar
-pub record TakesPiece (piece : List ℕ) (old new : List Line) (taken : Bool) : Type 0 where
-  pub good : taken ≡ not (is_bad piece)
-  pub lines : taken ≡ true → new ≡ old ++ option_to_list (line_at piece)
+abbrev pub GivesLines : Result (List Line) LinesFault → Result (List Line) LinesFault → Type 0
+GivesLines result what = Answers lacks_memory result what

@@ -9,7 +9,7 @@ use Rattle.json_tree.specs.declared.tree.TreeFault.{TreeFault}
 use Rattle.case_table.specs.Refusals.{refusal_of_word, refusal_row}
 use Rattle.case_table.specs.declared.refuse.Refusal.{Refusal}
 use Rattle.share_lines.specs.Errors.{error_body, takes_detail}
-use Rattle.share_lines.specs.Reading.{◌>>=◌}
+use Rattle.json_tree.specs.Options.{◌>>=◌}
 
 abbrev pub text_in : List ℕ → Data → Option (List ℕ)
 text_in name d = present name d >>= as_str

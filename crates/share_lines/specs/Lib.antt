@@ -7,3 +7,4 @@ pub mod Lines
 pub mod Parts
 pub mod Printing
 pub mod Reading
+pub mod Pieces

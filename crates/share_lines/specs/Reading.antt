@@ -1,8 +1,9 @@
 -- The lines that JSON objects stand for (Delta Sharing PROTOCOL.md, "API Response Format in Parquet" and "Read Change Data Feed from a Table"). A field that is null counts as absent; fields that the kind doesn't print are passed over.
-use Rattle.std.specs.Prelude.{◌≡◌, ℕ, ◌+◌, ◌^◌, ◌==◌, ℤ, List, [], Option, Some, None, Result, Ok, Err, ⊤, option_and_then, is_some, cond, if◌then◌else◌, codes}
+use Rattle.std.specs.Prelude.{◌≡◌, ℕ, ◌+◌, ◌^◌, ◌==◌, ℤ, List, [], Option, Some, None, Result, Ok, Err, ⊤, if◌then◌else◌, codes}
 use Rattle.serde_json.specs.Data.{Data}
 use Rattle.serde_json.specs.Find.{as_str, as_object}
-use Rattle.json_tree.specs.Fields.{field, present, whole, texts, pairs}
+use Rattle.json_tree.specs.Fields.{count_of, field, present, whole, texts, pairs}
+use Rattle.json_tree.specs.Options.{◌>>=◌}
 use Rattle.json_tree.specs.declared.fields.FieldFault.{FieldFault}
 use Rattle.log_actions.specs.Reading.{count}
 use Rattle.share_lines.specs.declared.faults.LineFault.{LineFault}
@@ -12,10 +13,6 @@ use Rattle.share_lines.specs.declared.kinds.FileLine.{FileLine}
 use Rattle.share_lines.specs.declared.kinds.EndLine.{EndLine}
 use Rattle.share_lines.specs.declared.kinds.Line.{Line}
 use Rattle.share_lines.specs.declared.kinds.Line.TheVariants as line
-
-infixl 10 ◌>>=◌
-abbrev pub ◌>>=◌ : {A B : Type 0} → Option A → (A → Option B) → Option B
-o >>= f = option_and_then f o
 
 -- a field that has to be there
 abbrev pub required : {X : Type 0} → Result (Option X) FieldFault → Option X
@@ -89,15 +86,11 @@ end_of d = do
 
 -- ---- a line's object
 
--- how many there are of a member that isn't null
-abbrev pub has : List ℕ → Data → ℕ
-has name d = cond (is_some (present name d)) 1 0
-
 -- how many of the seven kinds have a member that isn't null
 abbrev pub kind_count : Data → ℕ
 kind_count d =
-    has (codes "protocol") d + has (codes "metaData") d + has (codes "file") d + has (codes "add") d + has (codes "cdf") d
-    + has (codes "remove") d + has (codes "endStreamAction") d
+    count_of (codes "protocol") d + count_of (codes "metaData") d + count_of (codes "file") d + count_of (codes "add") d + count_of (codes "cdf") d
+    + count_of (codes "remove") d + count_of (codes "endStreamAction") d
 
 abbrev pub read_or : Option Data → (Data → Option Line) → Option Line → Option Line
 read_or None reads other = other

@@ -1,6 +1,7 @@
 // The lines of a body.
 ghost use Rattle.std.specs.Prelude.{◌≡◌, All, IfOk, IsTrue, Ok, is_some};
-ghost use Rattle.share_lines.specs.Bodies.{Answers, TakesPiece, line_at as line_in_text, lines_in};
+ghost use Rattle.share_lines.specs.Bodies.{GivesLines, line_at as line_in_text, lines_in};
+ghost use Rattle.share_lines.specs.Pieces.{TakesPiece};
 ghost use Rattle.share_lines.specs.Printing.{body_text, is_printable};
 ghost use Rattle.share_lines.specs.Reading.{Gives};
 
@@ -53,7 +54,7 @@ fn take_piece(alloc: Global, lines: &mut Vec<Line>, piece: &[u8]) -> Result<bool
 ///
 /// The fault is that of the first piece that is something else, or want of memory.
 pub fn lines_of(alloc: Global, bytes: &[u8]) -> Result<Lines, LinesFault>
-    ensures { Answers result (lines_in bytes.now) }
+    ensures { GivesLines result (lines_in bytes.now) }
 {
     let mut lines = Vec::new(alloc);
     let mut at = 0u64;

@@ -66,15 +66,12 @@ pub(crate) fn expiry_at(object: &Value, name: &str) -> Result<Option<Millis>, Fi
     ensures { result ≡ field (count (2 ^ 63)) name.now (view object.now) }
 {
     match whole_at(object, name)? {
-        Some(number) => match expiry_of(number) {
-            Some(expiry) => Ok(Some(expiry)),
-            None => Err(FieldFault::WrongKind),
-        },
+        Some(number) => Ok(Some(expiry_of(number).ok_or(FieldFault::WrongKind)?)),
         None => Ok(None),
     }
 }
 
-fn version_of(number: i64) -> Option<Version>
+fn table_version_of(number: i64) -> Option<Version>
     ensures { result ≡ count_below (2 ^ 63) number }
 {
     let number = u64::try_from(number).ok()?;
@@ -86,10 +83,7 @@ pub(crate) fn version_at(object: &Value, name: &str) -> Result<Option<Version>, 
     ensures { result ≡ field (count (2 ^ 63)) name.now (view object.now) }
 {
     match whole_at(object, name)? {
-        Some(number) => match version_of(number) {
-            Some(version) => Ok(Some(version)),
-            None => Err(FieldFault::WrongKind),
-        },
+        Some(number) => Ok(Some(table_version_of(number).ok_or(FieldFault::WrongKind)?)),
         None => Ok(None),
     }
 }

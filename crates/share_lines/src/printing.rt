@@ -16,18 +16,11 @@ use json_print::{
     optional_whole_field, pairs_field, printed, text_field, texts_field,
 };
 use json_tree::Text;
-use log_actions::FileSize;
+use log_actions::size_field;
 use std::alloc::{AllocError, Global};
 
 // Room for most lines.
 const ROOM: usize = 512;
-
-fn size_field<W: Tokens>(line: &mut W, size: FileSize) -> Result<(), W::Error>
-    ensures written { OnOk result (W.adds line.old line.new (field_tokens (codes "size", Some (count_value size)))) }
-    ensures bound { size < 2 ^ 63 }
-{
-    count_field(line, "size", size.get())
-}
 
 fn expiry_field<W: Tokens>(
     line: &mut W,

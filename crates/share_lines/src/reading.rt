@@ -1,14 +1,14 @@
 // The line that a JSON value stands for.
-ghost use Rattle.std.specs.Prelude.{◌≡◌, ◌≤◌, IfOk};
+ghost use Rattle.std.specs.Prelude.{◌≡◌, IfOk};
 ghost use Rattle.serde_json.specs.View.{view};
 ghost use Rattle.serde_json.specs.Find.{as_str};
 ghost use Rattle.json_tree.specs.Fields.{field};
-ghost use Rattle.share_lines.specs.Reading.{Gives, add_of, change_with, end_of, file_kind_in, file_of, file_with, has as has_member, kind_count, kind_in, line_in, meta_of, optional as optional_in, protocol_of, required as required_in};
+ghost use Rattle.share_lines.specs.Reading.{Gives, add_of, change_with, end_of, file_kind_in, file_of, file_with, kind_count, kind_in, line_in, meta_of, optional as optional_in, protocol_of, required as required_in};
 
 use crate::faults::LineFault;
 use crate::fields::{default_to, expiry_at, optional, required, version_at};
 use crate::{EndLine, FileLine, Line, MetaLine, Version};
-use json_tree::{Pairs, Text, Texts, member_at, pairs_at, text_at, texts_at, whole_at};
+use json_tree::{Pairs, Text, Texts, count_at, member_at, pairs_at, text_at, texts_at, whole_at};
 use log_actions::size_at;
 use serde_json::Value;
 use std::alloc::Global;
@@ -130,28 +130,17 @@ fn read_end(alloc: Global, value: &Value) -> Result<EndLine, LineFault>
     Ok(EndLine { min_expires, token })
 }
 
-fn has(object: &Value, name: &str) -> u8
-    ensures value { result ≡ has_member name.now (view object.now) }
-    ensures small { result ≤ 1 }
-{
-    if member_at(object, name).is_some() {
-        1
-    } else {
-        0
-    }
-}
-
 // How many of the seven kinds have a member that isn't null.
 fn count_kinds(object: &Value) -> u8
     ensures { result ≡ kind_count (view object.now) }
 {
-    has(object, "protocol")
-        + has(object, "metaData")
-        + has(object, "file")
-        + has(object, "add")
-        + has(object, "cdf")
-        + has(object, "remove")
-        + has(object, "endStreamAction")
+    count_at(object, "protocol")
+        + count_at(object, "metaData")
+        + count_at(object, "file")
+        + count_at(object, "add")
+        + count_at(object, "cdf")
+        + count_at(object, "remove")
+        + count_at(object, "endStreamAction")
 }
 
 // The line of a kind that is a file.
