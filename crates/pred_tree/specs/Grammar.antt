@@ -3,6 +3,7 @@ use Rattle.std.specs.Prelude.{ℕ, zero, suc, List, [], ◌∷◌, length, nat_l
 use Rattle.serde_json.specs.Data.{Data, Items, no_items, item}
 use Rattle.serde_json.specs.Find.{as_array, get}
 use Rattle.serde_json.specs.Read.{read}
+use Rattle.json_tree.specs.Options.{◌>>=◌}
 use Rattle.part_values.specs.Columns.{is_text, text_in}
 use Rattle.part_values.specs.declared.value.PartType.{PartType}
 use Rattle.pred_tree.specs.Kinds.{value_type}
@@ -13,10 +14,6 @@ use Rattle.pred_tree.specs.declared.tree.Leaf.{Leaf}
 use Rattle.pred_tree.specs.declared.tree.Leaf.TheVariants.{Column, Literal}
 use Rattle.pred_tree.specs.declared.reading.Operator.{Operator}
 use Rattle.pred_tree.specs.declared.reading.Operator.TheVariants as operator
-
-infixl 10 ◌>>=◌
-abbrev pub ◌>>=◌ : {A B : Type 0} → Option A → (A → Option B) → Option B
-o >>= f = option_and_then f o
 
 -- the text of that field and the type, in an object with that `op`
 abbrev pub part_in : List ℕ → List ℕ → Data → Option (List ℕ × PartType)

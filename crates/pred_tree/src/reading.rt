@@ -9,7 +9,7 @@ ghost use Rattle.pred_tree.specs.Tree.{all_of as the_all_of, any_of as the_any_o
 use crate::kinds::value_type;
 use crate::{Comparison, Leaf, Pred};
 use json_tree::Text;
-use part_values::PartType;
+use part_values::{PartType, text_in};
 use serde_json::Value;
 use std::alloc::{AllocError, Global};
 
@@ -42,16 +42,6 @@ fn operator_named(word: &str) -> Option<Operator>
         "greaterThan" => Some(Operator::Compare(Comparison::Greater)),
         "greaterThanOrEqual" => Some(Operator::Compare(Comparison::GreaterOrEqual)),
         _ => None,
-    }
-}
-
-// The text at that name in an object.
-fn text_in<'a>(object: &'a Value, name: &str) -> Option<&'a str>
-    ensures { option_map (λ t. t.now) result ≡ the_text_in name.now (view object.now) }
-{
-    match object.get(name) {
-        Some(value) => value.as_str(),
-        None => None,
     }
 }
 
