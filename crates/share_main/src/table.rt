@@ -2,7 +2,7 @@
 ghost use Rattle.std.specs.Prelude.{◌≡◌, ◌++◌, ◌∷◌, [], ◌<◌, false, ◌≤◌, IfOk, OnOk, filter, flat_map, length, map};
 ghost use Rattle.edge_core.specs.Faults.{Cause};
 ghost use Rattle.edge_core.specs.Objects.{Between};
-ghost use Rattle.log_store.specs.Reading.{Looked};
+ghost use Rattle.log_store.specs.Loads.{Looked};
 ghost use Rattle.share_lines.specs.Lines.{file_line, meta_line, protocol_line};
 ghost use Rattle.std.specs.Arc.{arc_value};
 ghost use Rattle.log_replay.specs.State.{state_of};
