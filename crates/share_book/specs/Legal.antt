@@ -2,7 +2,7 @@
 use Rattle.std.specs.Prelude.{◌≡◌, ℕ, ◌+◌, ◌^◌, ◌<◌, ◌≤◌, List, [], ◌∷◌, ◌++◌, Bool, true, false, Option, Some, None, IfSome, option_map, position, length, bytes_eq}
 use Rattle.std.specs.List.{list_any}
 use Rattle.log_actions.specs.declared.actions.Action.{Action}
-use Rattle.log_replay.specs.Support.{IsSupported}
+use Rattle.log_replay.specs.Standing.{IsSupported}
 use Rattle.log_actions.specs.CommitTexts.{printed_bytes}
 use Rattle.share_catalog.specs.Catalogue.{bound_location, refusal_of}
 use Rattle.share_catalog.specs.declared.edit.Edit.{Edit}
