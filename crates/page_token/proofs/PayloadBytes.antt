@@ -17,11 +17,12 @@ use Rattle.page_token.specs.declared.cursor.ListKind.TheVariants as kind
 use Rattle.page_token.specs.declared.cursor.Asked.{Asked}
 use Rattle.page_token.specs.declared.cursor.Asked.TheVariants as asked
 use Rattle.page_token.specs.declared.cursor.ListCursor.{ListCursor}
+use Rattle.page_token.specs.declared.cursor.TableAccess.{TableAccess}
 use Rattle.page_token.specs.declared.cursor.FilesCursor.{FilesCursor}
 use Rattle.page_token.specs.declared.cursor.FeedCursor.{FeedCursor}
 use Rattle.page_token.specs.declared.cursor.Cursor.{Cursor}
 use Rattle.page_token.specs.declared.cursor.Cursor.TheVariants as cursor
-use Rattle.page_token.specs.Payload.{field, list_fields, files_fields, feed_fields, fields, kind_field, asked_field, hint_field, payload, IsAskedInRange, IsAskedValue, IsFilesInRange, IsFeedInRange, IsInRange, IsListValue, IsFilesValue, IsFeedValue, IsValue}
+use Rattle.page_token.specs.Payload.{field, list_fields, files_fields, feed_fields, fields, kind_field, asked_field, hint_field, payload, IsAskedInRange, IsAskedValue, IsFilesInRange, IsFeedInRange, IsInRange, IsListValue, IsFilesValue, IsFeedValue, IsValue, IsAccessInRange, IsAccessValue}
 
 byte_then : (b : ℕ) (bs : List ℕ) → b < 256 → All IsByte bs → All IsByte (b ∷ bs)
 byte_then = All-cons IsByte
@@ -100,19 +101,22 @@ front_bytes first recipient share schema name rest h r s c n more =
 list_bytes : (c : ListCursor) → IsListValue c → AllBytes (list_fields c)
 list_bytes c value = front_bytes (kind_field c.kind) c.recipient c.share c.schema c.after [] (kind_bytes c.kind) value.0 value.1 value.2 value.3 tt
 
+access_bytes : (first : List ℕ) (a : TableAccess) (rest : List (List ℕ)) → All IsByte first → IsAccessValue a → IsAccessInRange a → AllBytes rest
+    → AllBytes (first ∷ a.recipient ∷ a.share ∷ a.schema ∷ a.table ∷ decimal a.grant ∷ decimal a.binding ∷ rest)
+access_bytes first a rest h value range more =
+    front_bytes first a.recipient a.share a.schema a.table (decimal a.grant ∷ decimal a.binding ∷ rest) h value.0 value.1 value.2 value.3
+    (small_bytes a.grant range.0, (small_bytes a.binding range.1, more))
+
 files_bytes : (c : FilesCursor) → IsFilesValue c → IsFilesInRange c → AllBytes (files_fields c)
 files_bytes c value range =
-    let answered : AllBytes (drop 8 (files_fields c)) = (small_bytes c.version range.3, (hint_bytes c.hint value.5, (small_bytes c.place range.4, tt))) in
-    let rest : AllBytes (drop 5 (files_fields c)) =
-    (small_bytes c.grant range.0, (small_bytes c.binding range.1, (asked_bytes c.asked range.2 value.4, answered))) in
-    front_bytes (codes "q") c.recipient c.share c.schema c.table (drop 5 (files_fields c)) (one_byte 113 (omega arith)) value.0 value.1 value.2 value.3 rest
+    let answered : AllBytes (drop 8 (files_fields c)) = (small_bytes c.version range.2, (hint_bytes c.hint value.2, (small_bytes c.place range.3, tt))) in
+    access_bytes (codes "q") c.access (drop 7 (files_fields c)) (one_byte 113 (omega arith)) value.0 range.0 (asked_bytes c.asked range.1 value.1, answered)
 
 feed_bytes : (c : FeedCursor) → IsFeedValue c → IsFeedInRange c → AllBytes (feed_fields c)
 feed_bytes c value range =
-    let answered : AllBytes (drop 9 (feed_fields c)) = (small_bytes c.from range.4, (small_bytes c.to range.5, (small_bytes c.place range.6, tt))) in
-    let asked : AllBytes (drop 7 (feed_fields c)) = (asked_bytes c.asked_from range.2 value.4, (asked_bytes c.asked_to range.3 value.5, answered)) in
-    let rest : AllBytes (drop 5 (feed_fields c)) = (small_bytes c.grant range.0, (small_bytes c.binding range.1, asked)) in
-    front_bytes (codes "f") c.recipient c.share c.schema c.table (drop 5 (feed_fields c)) (one_byte 102 (omega arith)) value.0 value.1 value.2 value.3 rest
+    let answered : AllBytes (drop 9 (feed_fields c)) = (small_bytes c.from range.3, (small_bytes c.to range.4, (small_bytes c.place range.5, tt))) in
+    access_bytes (codes "f") c.access (drop 7 (feed_fields c)) (one_byte 102 (omega arith)) value.0 range.0
+    (asked_bytes c.asked_from range.1 value.1, (asked_bytes c.asked_to range.2 value.2, answered))
 
 fields_bytes : (c : Cursor) → IsValue c → IsInRange c → AllBytes (fields c)
 fields_bytes (cursor.List c) value range = list_bytes c value

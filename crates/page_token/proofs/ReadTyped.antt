@@ -11,13 +11,14 @@ use Rattle.page_token.specs.declared.cursor.ListKind.TheVariants as kind
 use Rattle.page_token.specs.declared.cursor.Asked.{Asked}
 use Rattle.page_token.specs.declared.cursor.Asked.TheVariants as asked
 use Rattle.page_token.specs.declared.cursor.ListCursor.{ListCursor}
+use Rattle.page_token.specs.declared.cursor.TableAccess.{TableAccess}
 use Rattle.page_token.specs.declared.cursor.FilesCursor.{FilesCursor}
 use Rattle.page_token.specs.declared.cursor.FeedCursor.{FeedCursor}
 use Rattle.page_token.specs.declared.cursor.Cursor.{Cursor}
 use Rattle.page_token.specs.declared.cursor.Cursor.TheVariants as cursor
-use Rattle.page_token.specs.Payload.{IsAskedInRange, IsAskedValue, IsFilesInRange, IsFeedInRange, IsInRange, IsListValue, IsFilesValue, IsFeedValue, IsValue}
+use Rattle.page_token.specs.Payload.{IsAccessInRange, IsAccessValue, IsAskedInRange, IsAskedValue, IsFilesInRange, IsFeedInRange, IsInRange, IsListValue, IsFilesValue, IsFeedValue, IsValue}
 use Rattle.json_tree.specs.Options.{◌>>=◌}
-use Rattle.page_token.specs.Reading.{digits_after, digits_in, field_in, number_in, moment_of, asked_of, text_of, hint_of, list_in, files_in, feed_in, listing_in, by_first, cursor_in}
+use Rattle.page_token.specs.Reading.{digits_after, digits_in, field_in, number_in, moment_of, asked_of, text_of, hint_of, list_in, access_in, files_in, feed_in, listing_in, by_first, cursor_in}
 
 -- the steps of what was read
 first_step : {A B : Type 0} (o : Option A) (f : A → Option B) (y : B) → (o >>= f) ≡ Some y → (x : A) × (o ≡ Some x) × (f x ≡ Some y)
@@ -120,54 +121,56 @@ list_typed k x c e0 =
     step (text_of a.0) _ c e7 (λ at at-is e8.
     subst IsListValue (same _ c e8) (text_utf8 _ rt rt-is, text_utf8 _ st st-is, text_utf8 _ dt dt-is, text_utf8 _ at at-is)))))))))
 
+access_typed : (x : List ℕ) (a : TableAccess × List ℕ) → access_in x ≡ Some a → IsAccessValue a.0 × IsAccessInRange a.0
+unfolding access_in
+access_typed x a e0 =
+    step (field_in x) _ a e0 (λ r r-is e1.
+    step (field_in r.1) _ a e1 (λ s s-is e2.
+    step (field_in s.1) _ a e2 (λ d d-is e3.
+    step (field_in d.1) _ a e3 (λ t t-is e4.
+    step (number_in t.1) _ a e4 (λ g g-is e5.
+    step (number_in g.1) _ a e5 (λ b b-is e6.
+    step (text_of r.0) _ a e6 (λ rt rt-is e7.
+    step (text_of s.0) _ a e7 (λ st st-is e8.
+    step (text_of d.0) _ a e8 (λ dt dt-is e9.
+    step (text_of t.0) _ a e9 (λ bt bt-is e10.
+    subst (λ (y : TableAccess × List ℕ). IsAccessValue y.0 × IsAccessInRange y.0) (same _ a e10) (
+      (text_utf8 _ rt rt-is, text_utf8 _ st st-is, text_utf8 _ dt dt-is, text_utf8 _ bt bt-is),
+      (number_below _ g g-is, number_below _ b b-is),
+    )))))))))))
+
 files_typed : (x : List ℕ) (c : FilesCursor) → files_in x ≡ Some c → IsFilesValue c × IsFilesInRange c
 unfolding files_in
 files_typed x c e0 =
-    step (field_in x) _ c e0 (λ r r-is e1.
-    step (field_in r.1) _ c e1 (λ s s-is e2.
-    step (field_in s.1) _ c e2 (λ d d-is e3.
-    step (field_in d.1) _ c e3 (λ t t-is e4.
-    step (number_in t.1) _ c e4 (λ g g-is e5.
-    step (number_in g.1) _ c e5 (λ b b-is e6.
-    step (field_in b.1) _ c e6 (λ a a-is e7.
-    step (number_in a.1) _ c e7 (λ v v-is e8.
-    step (field_in v.1) _ c e8 (λ h h-is e9.
-    step (number_in h.1) _ c e9 (λ p p-is e10.
-    step (text_of r.0) _ c e10 (λ rt rt-is e11.
-    step (text_of s.0) _ c e11 (λ st st-is e12.
-    step (text_of d.0) _ c e12 (λ dt dt-is e13.
-    step (text_of t.0) _ c e13 (λ bt bt-is e14.
-    step (hint_of h.0) _ c e14 (λ ht ht-is e15.
-    step (asked_of a.0) _ c e15 (λ at at-is e16.
-    subst (λ y. IsFilesValue y × IsFilesInRange y) (same _ c e16) (
-      (text_utf8 _ rt rt-is, text_utf8 _ st st-is, text_utf8 _ dt dt-is, text_utf8 _ bt bt-is, (asked_typed _ at at-is).1, hint_utf8 _ ht ht-is),
-      (number_below _ g g-is, number_below _ b b-is, (asked_typed _ at at-is).0, number_below _ v v-is, number_below _ p p-is),
-    )))))))))))))))))
+    step (access_in x) _ c e0 (λ k k-is e1.
+    step (field_in k.1) _ c e1 (λ a a-is e2.
+    step (number_in a.1) _ c e2 (λ v v-is e3.
+    step (field_in v.1) _ c e3 (λ h h-is e4.
+    step (number_in h.1) _ c e4 (λ p p-is e5.
+    step (hint_of h.0) _ c e5 (λ ht ht-is e6.
+    step (asked_of a.0) _ c e6 (λ at at-is e7.
+    let access = access_typed _ k k-is in
+    subst (λ y. IsFilesValue y × IsFilesInRange y) (same _ c e7) (
+      (access.0, (asked_typed _ at at-is).1, hint_utf8 _ ht ht-is),
+      (access.1, (asked_typed _ at at-is).0, number_below _ v v-is, number_below _ p p-is),
+    ))))))))
 
 feed_typed : (x : List ℕ) (c : FeedCursor) → feed_in x ≡ Some c → IsFeedValue c × IsFeedInRange c
 unfolding feed_in
 feed_typed x c e0 =
-    step (field_in x) _ c e0 (λ r r-is e1.
-    step (field_in r.1) _ c e1 (λ s s-is e2.
-    step (field_in s.1) _ c e2 (λ d d-is e3.
-    step (field_in d.1) _ c e3 (λ t t-is e4.
-    step (number_in t.1) _ c e4 (λ g g-is e5.
-    step (number_in g.1) _ c e5 (λ b b-is e6.
-    step (field_in b.1) _ c e6 (λ a a-is e7.
-    step (field_in a.1) _ c e7 (λ l l-is e8.
-    step (number_in l.1) _ c e8 (λ v v-is e9.
-    step (number_in v.1) _ c e9 (λ w w-is e10.
-    step (number_in w.1) _ c e10 (λ p p-is e11.
-    step (text_of r.0) _ c e11 (λ rt rt-is e12.
-    step (text_of s.0) _ c e12 (λ st st-is e13.
-    step (text_of d.0) _ c e13 (λ dt dt-is e14.
-    step (text_of t.0) _ c e14 (λ bt bt-is e15.
-    step (asked_of a.0) _ c e15 (λ at at-is e16.
-    step (asked_of l.0) _ c e16 (λ lt lt-is e17.
-    subst (λ y. IsFeedValue y × IsFeedInRange y) (same _ c e17) (
-      (text_utf8 _ rt rt-is, text_utf8 _ st st-is, text_utf8 _ dt dt-is, text_utf8 _ bt bt-is, (asked_typed _ at at-is).1, (asked_typed _ lt lt-is).1),
-      (number_below _ g g-is, number_below _ b b-is, (asked_typed _ at at-is).0, (asked_typed _ lt lt-is).0, number_below _ v v-is, number_below _ w w-is, number_below _ p p-is),
-    ))))))))))))))))))
+    step (access_in x) _ c e0 (λ k k-is e1.
+    step (field_in k.1) _ c e1 (λ a a-is e2.
+    step (field_in a.1) _ c e2 (λ l l-is e3.
+    step (number_in l.1) _ c e3 (λ v v-is e4.
+    step (number_in v.1) _ c e4 (λ w w-is e5.
+    step (number_in w.1) _ c e5 (λ p p-is e6.
+    step (asked_of a.0) _ c e6 (λ at at-is e7.
+    step (asked_of l.0) _ c e7 (λ lt lt-is e8.
+    let access = access_typed _ k k-is in
+    subst (λ y. IsFeedValue y × IsFeedInRange y) (same _ c e8) (
+      (access.0, (asked_typed _ at at-is).1, (asked_typed _ lt lt-is).1),
+      (access.1, (asked_typed _ at at-is).0, (asked_typed _ lt lt-is).0, number_below _ v v-is, number_below _ w w-is, number_below _ p p-is),
+    )))))))))
 
 abbrev IsTyped : Cursor → Type 0
 IsTyped c = IsValue c × IsInRange c

@@ -9,6 +9,7 @@ use Rattle.page_token.specs.declared.cursor.ListKind.TheVariants as kind
 use Rattle.page_token.specs.declared.cursor.Asked.{Asked}
 use Rattle.page_token.specs.declared.cursor.Asked.TheVariants as asked
 use Rattle.page_token.specs.declared.cursor.ListCursor.{ListCursor}
+use Rattle.page_token.specs.declared.cursor.TableAccess.{TableAccess}
 use Rattle.page_token.specs.declared.cursor.FilesCursor.{FilesCursor}
 use Rattle.page_token.specs.declared.cursor.FeedCursor.{FeedCursor}
 use Rattle.page_token.specs.declared.cursor.Cursor.{Cursor}
@@ -42,12 +43,12 @@ list_fields c = kind_field c.kind ∷ c.recipient ∷ c.share ∷ c.schema ∷ c
 
 abbrev pub files_fields : FilesCursor → List (List ℕ)
 files_fields c =
-    codes "q" ∷ c.recipient ∷ c.share ∷ c.schema ∷ c.table ∷ decimal c.grant ∷ decimal c.binding
+    codes "q" ∷ c.access.recipient ∷ c.access.share ∷ c.access.schema ∷ c.access.table ∷ decimal c.access.grant ∷ decimal c.access.binding
     ∷ asked_field c.asked ∷ decimal c.version ∷ hint_field c.hint ∷ decimal c.place ∷ []
 
 abbrev pub feed_fields : FeedCursor → List (List ℕ)
 feed_fields c =
-    codes "f" ∷ c.recipient ∷ c.share ∷ c.schema ∷ c.table ∷ decimal c.grant ∷ decimal c.binding
+    codes "f" ∷ c.access.recipient ∷ c.access.share ∷ c.access.schema ∷ c.access.table ∷ decimal c.access.grant ∷ decimal c.access.binding
     ∷ asked_field c.asked_from ∷ asked_field c.asked_to ∷ decimal c.from ∷ decimal c.to ∷ decimal c.place ∷ []
 
 abbrev pub fields : Cursor → List (List ℕ)
@@ -66,12 +67,15 @@ IsAskedInRange (asked.Version version) = version < 2 ^ 63
 IsAskedInRange (asked.Moment moment) = ⊤
 
 -- editions, versions and places are below 2^63
+abbrev pub IsAccessInRange : TableAccess → Type 0
+IsAccessInRange a = (a.grant < 2 ^ 63) × (a.binding < 2 ^ 63)
+
 abbrev pub IsFilesInRange : FilesCursor → Type 0
-IsFilesInRange c = (c.grant < 2 ^ 63) × (c.binding < 2 ^ 63) × IsAskedInRange c.asked × (c.version < 2 ^ 63) × (c.place < 2 ^ 63)
+IsFilesInRange c = IsAccessInRange c.access × IsAskedInRange c.asked × (c.version < 2 ^ 63) × (c.place < 2 ^ 63)
 
 abbrev pub IsFeedInRange : FeedCursor → Type 0
 IsFeedInRange c =
-    (c.grant < 2 ^ 63) × (c.binding < 2 ^ 63) × IsAskedInRange c.asked_from × IsAskedInRange c.asked_to
+    IsAccessInRange c.access × IsAskedInRange c.asked_from × IsAskedInRange c.asked_to
     × (c.from < 2 ^ 63) × (c.to < 2 ^ 63) × (c.place < 2 ^ 63)
 
 abbrev pub IsInRange : Cursor → Type 0
@@ -88,13 +92,14 @@ IsAskedValue (asked.Moment moment) = FitsSigned w128 moment
 abbrev pub IsListValue : ListCursor → Type 0
 IsListValue c = IsUtf8 c.recipient × IsUtf8 c.share × IsUtf8 c.schema × IsUtf8 c.after
 
+abbrev pub IsAccessValue : TableAccess → Type 0
+IsAccessValue a = IsUtf8 a.recipient × IsUtf8 a.share × IsUtf8 a.schema × IsUtf8 a.table
+
 abbrev pub IsFilesValue : FilesCursor → Type 0
-IsFilesValue c =
-    IsUtf8 c.recipient × IsUtf8 c.share × IsUtf8 c.schema × IsUtf8 c.table × IsAskedValue c.asked × IfSome c.hint IsUtf8
+IsFilesValue c = IsAccessValue c.access × IsAskedValue c.asked × IfSome c.hint IsUtf8
 
 abbrev pub IsFeedValue : FeedCursor → Type 0
-IsFeedValue c =
-    IsUtf8 c.recipient × IsUtf8 c.share × IsUtf8 c.schema × IsUtf8 c.table × IsAskedValue c.asked_from × IsAskedValue c.asked_to
+IsFeedValue c = IsAccessValue c.access × IsAskedValue c.asked_from × IsAskedValue c.asked_to
 
 abbrev pub IsValue : Cursor → Type 0
 IsValue (cursor.List c) = IsListValue c

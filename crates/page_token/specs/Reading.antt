@@ -9,6 +9,7 @@ use Rattle.page_token.specs.declared.cursor.ListKind.TheVariants as kind
 use Rattle.page_token.specs.declared.cursor.Asked.{Asked}
 use Rattle.page_token.specs.declared.cursor.Asked.TheVariants as asked
 use Rattle.page_token.specs.declared.cursor.ListCursor.{ListCursor}
+use Rattle.page_token.specs.declared.cursor.TableAccess.{TableAccess}
 use Rattle.page_token.specs.declared.cursor.FilesCursor.{FilesCursor}
 use Rattle.page_token.specs.declared.cursor.FeedCursor.{FeedCursor}
 use Rattle.page_token.specs.declared.cursor.Cursor.{Cursor}
@@ -75,69 +76,43 @@ list_in kind bytes = do
   after_text ← text_of after.0
   Some (record { kind = kind; recipient = recipient_text; share = share_text; schema = schema_text; after = after_text })
 
-unfoldable pub files_in : List ℕ → Option FilesCursor
-files_in bytes = do
+-- who asked for which table, and the bytes behind
+unfoldable pub access_in : List ℕ → Option (TableAccess × List ℕ)
+access_in bytes = do
   recipient ← field_in bytes
   share ← field_in recipient.1
   schema ← field_in share.1
   table ← field_in schema.1
   grant ← number_in table.1
   binding ← number_in grant.1
-  asked ← field_in binding.1
-  version ← number_in asked.1
-  hint ← field_in version.1
-  place ← number_in hint.1
   recipient_text ← text_of recipient.0
   share_text ← text_of share.0
   schema_text ← text_of schema.0
   table_text ← text_of table.0
+  Some (record { recipient = recipient_text; share = share_text; schema = schema_text; table = table_text; grant = grant.0; binding = binding.0 }, binding.1)
+
+unfoldable pub files_in : List ℕ → Option FilesCursor
+files_in bytes = do
+  access ← access_in bytes
+  asked ← field_in access.1
+  version ← number_in asked.1
+  hint ← field_in version.1
+  place ← number_in hint.1
   hint_text ← hint_of hint.0
   asked_state ← asked_of asked.0
-  Some (record {
-    recipient = recipient_text;
-    share = share_text;
-    schema = schema_text;
-    table = table_text;
-    grant = grant.0;
-    binding = binding.0;
-    asked = asked_state;
-    version = version.0;
-    hint = hint_text;
-    place = place.0;
-  })
+  Some (record { access = access.0; asked = asked_state; version = version.0; hint = hint_text; place = place.0 })
 
 unfoldable pub feed_in : List ℕ → Option FeedCursor
 feed_in bytes = do
-  recipient ← field_in bytes
-  share ← field_in recipient.1
-  schema ← field_in share.1
-  table ← field_in schema.1
-  grant ← number_in table.1
-  binding ← number_in grant.1
-  asked_from ← field_in binding.1
+  access ← access_in bytes
+  asked_from ← field_in access.1
   asked_to ← field_in asked_from.1
   from ← number_in asked_to.1
   to ← number_in from.1
   place ← number_in to.1
-  recipient_text ← text_of recipient.0
-  share_text ← text_of share.0
-  schema_text ← text_of schema.0
-  table_text ← text_of table.0
   first_state ← asked_of asked_from.0
   last_state ← asked_of asked_to.0
-  Some (record {
-    recipient = recipient_text;
-    share = share_text;
-    schema = schema_text;
-    table = table_text;
-    grant = grant.0;
-    binding = binding.0;
-    asked_from = first_state;
-    asked_to = last_state;
-    from = from.0;
-    to = to.0;
-    place = place.0;
-  })
+  Some (record { access = access.0; asked_from = first_state; asked_to = last_state; from = from.0; to = to.0; place = place.0 })
 
 abbrev pub listing_in : ListKind → List ℕ → Option Cursor
 listing_in k bytes = list_in k bytes >>= λ c. Some (cursor.List c)

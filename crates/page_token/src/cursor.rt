@@ -51,9 +51,9 @@ pub struct ListCursor {
     pub after: Text,
 }
 
-/// Where the files of a table go on.
+/// Who asked for which table, and under which editions.
 #[derive(Drop)]
-pub struct FilesCursor {
+pub struct TableAccess {
     /// The name of the recipient that asked.
     pub recipient: Text,
     /// The share that the table is in.
@@ -66,6 +66,13 @@ pub struct FilesCursor {
     pub grant: Edition,
     /// The edition of the table's binding.
     pub binding: Edition,
+}
+
+/// Where the files of a table go on.
+#[derive(Drop)]
+pub struct FilesCursor {
+    /// Who asked for which table.
+    pub access: TableAccess,
     /// The state that was asked for.
     pub asked: Asked,
     /// The version that is answered.
@@ -79,18 +86,8 @@ pub struct FilesCursor {
 /// Where the changes of a table go on.
 #[derive(Drop)]
 pub struct FeedCursor {
-    /// The name of the recipient that asked.
-    pub recipient: Text,
-    /// The share that the table is in.
-    pub share: Text,
-    /// The schema that the table is in.
-    pub schema: Text,
-    /// The table's name.
-    pub table: Text,
-    /// The edition of the recipient's grant.
-    pub grant: Edition,
-    /// The edition of the table's binding.
-    pub binding: Edition,
+    /// Who asked for which table.
+    pub access: TableAccess,
     /// The first state that was asked for.
     pub asked_from: Asked,
     /// The last state that was asked for.

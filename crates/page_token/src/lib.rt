@@ -6,7 +6,7 @@ mod payload;
 mod reading;
 mod token;
 
-pub use cursor::{Asked, Cursor, FeedCursor, FilesCursor, ListCursor, ListKind};
+pub use cursor::{Asked, Cursor, FeedCursor, FilesCursor, ListCursor, ListKind, TableAccess};
 pub use token::{cursor_of, cursors_are_spelt, one_cursor, spell};
 
 #[cfg(test)]

@@ -152,13 +152,13 @@ fn files_payload(alloc: Global, files: &FilesCursor) -> Result<String, AllocErro
     let mut payload = front_of(
         alloc,
         "q",
-        &files.recipient,
-        &files.share,
-        &files.schema,
-        &files.table,
+        &files.access.recipient,
+        &files.access.share,
+        &files.access.schema,
+        &files.access.table,
     )?;
-    push_edition(alloc, &mut payload, files.grant)?;
-    push_edition(alloc, &mut payload, files.binding)?;
+    push_edition(alloc, &mut payload, files.access.grant)?;
+    push_edition(alloc, &mut payload, files.access.binding)?;
     push_asked(alloc, &mut payload, &files.asked)?;
     push_version(alloc, &mut payload, files.version)?;
     push_hint(alloc, &mut payload, &files.hint)?;
@@ -174,13 +174,13 @@ fn feed_payload(alloc: Global, feed: &FeedCursor) -> Result<String, AllocError>
     let mut payload = front_of(
         alloc,
         "f",
-        &feed.recipient,
-        &feed.share,
-        &feed.schema,
-        &feed.table,
+        &feed.access.recipient,
+        &feed.access.share,
+        &feed.access.schema,
+        &feed.access.table,
     )?;
-    push_edition(alloc, &mut payload, feed.grant)?;
-    push_edition(alloc, &mut payload, feed.binding)?;
+    push_edition(alloc, &mut payload, feed.access.grant)?;
+    push_edition(alloc, &mut payload, feed.access.binding)?;
     push_asked(alloc, &mut payload, &feed.asked_from)?;
     push_asked(alloc, &mut payload, &feed.asked_to)?;
     push_version(alloc, &mut payload, feed.from)?;

@@ -3,9 +3,9 @@ ghost use Rattle.std.specs.Prelude.{◌≡◌, ◌^◌, ◌<◌, ◌==◌, Some,
 ghost use Rattle.hmac_core.specs.Faults.{Gives};
 ghost use Rattle.page_token.specs.Payload.{IsPayload};
 ghost use Rattle.page_token.specs.declared.cursor.Cursor.{Cursor};
-ghost use Rattle.page_token.specs.Reading.{digits_in, field_in, number_in, moment_of, asked_of, text_of, hint_of, list_in, files_in, feed_in, listing_in, by_first, cursor_in};
+ghost use Rattle.page_token.specs.Reading.{digits_in, field_in, number_in, moment_of, asked_of, text_of, hint_of, list_in, access_in, files_in, feed_in, listing_in, by_first, cursor_in};
 
-use crate::cursor::{Asked, Cursor, FeedCursor, FilesCursor, ListCursor, ListKind};
+use crate::cursor::{Asked, Cursor, FeedCursor, FilesCursor, ListCursor, ListKind, TableAccess};
 use crate::payload::payload_of;
 use hmac_core::Fault;
 use json_tree::{Edition, Place, Text, Version};
@@ -72,36 +72,6 @@ fn number_in(bytes: &[u8]) -> Result<(u64, &[u8]), Fault>
     Ok((number as u64, rest))
 }
 
-fn edition_of(number: u64) -> Edition
-    requires { number < 2 ^ 63 }
-    ensures { result ≡ number }
-{
-    match Edition::of(number) {
-        Some(edition) => edition,
-        None => unreachable!(),
-    }
-}
-
-fn version_of(number: u64) -> Version
-    requires { number < 2 ^ 63 }
-    ensures { result ≡ number }
-{
-    match Version::of(number) {
-        Some(version) => version,
-        None => unreachable!(),
-    }
-}
-
-fn place_of(number: u64) -> Place
-    requires { number < 2 ^ 63 }
-    ensures { result ≡ number }
-{
-    match Place::of(number) {
-        Some(place) => place,
-        None => unreachable!(),
-    }
-}
-
 #[tactic(auto, unfolding(crate::specs::Reading::moment_of))]
 fn moment_of(field: &[u8]) -> Result<i128, Fault>
     ensures { Gives (λ z. z) result (moment_of field.now) }
@@ -125,7 +95,9 @@ fn asked_of(field: &[u8]) -> Result<Asked, Fault>
 {
     match field {
         [b'l', ..] => Ok(Asked::Latest),
-        [b'v', digits @ ..] => Ok(Asked::Version(version_of(digits_in(digits, 1 << 63)? as u64))),
+        [b'v', digits @ ..] => Ok(Asked::Version(Version::of_small(
+            digits_in(digits, 1 << 63)? as u64,
+        ))),
         [b'm', moment @ ..] => Ok(Asked::Moment(moment_of(moment)?)),
         _ => Err(Fault::NotSpelt),
     }
@@ -172,9 +144,10 @@ fn list_in(alloc: Global, kind: ListKind, bytes: &[u8]) -> Result<ListCursor, Fa
     })
 }
 
-#[tactic(auto, unfolding(crate::specs::Reading::files_in))]
-fn files_in(alloc: Global, bytes: &[u8]) -> Result<FilesCursor, Fault>
-    ensures { Gives (λ c. c) result (files_in bytes.now) }
+// Who asked for which table, and what stands after it.
+#[tactic(auto, unfolding(crate::specs::Reading::access_in))]
+fn access_in(alloc: Global, bytes: &[u8]) -> Result<(TableAccess, &[u8]), Fault>
+    ensures { Gives (λ x. (x.0, x.1.now)) result (access_in bytes.now) }
 {
     let (recipient, rest) = field_in(bytes)?;
     let (share, rest) = field_in(rest)?;
@@ -182,27 +155,34 @@ fn files_in(alloc: Global, bytes: &[u8]) -> Result<FilesCursor, Fault>
     let (table, rest) = field_in(rest)?;
     let (grant, rest) = number_in(rest)?;
     let (binding, rest) = number_in(rest)?;
+    let access = TableAccess {
+        recipient: text_of(alloc, recipient)?,
+        share: text_of(alloc, share)?,
+        schema: text_of(alloc, schema)?,
+        table: text_of(alloc, table)?,
+        grant: Edition::of_small(grant),
+        binding: Edition::of_small(binding),
+    };
+    Ok((access, rest))
+}
+
+#[tactic(auto, unfolding(crate::specs::Reading::files_in))]
+fn files_in(alloc: Global, bytes: &[u8]) -> Result<FilesCursor, Fault>
+    ensures { Gives (λ c. c) result (files_in bytes.now) }
+{
+    let (access, rest) = access_in(alloc, bytes)?;
     let (asked, rest) = field_in(rest)?;
     let (version, rest) = number_in(rest)?;
     let (hint, rest) = field_in(rest)?;
     let (place, _) = number_in(rest)?;
-    let recipient = text_of(alloc, recipient)?;
-    let share = text_of(alloc, share)?;
-    let schema = text_of(alloc, schema)?;
-    let table = text_of(alloc, table)?;
     let hint = hint_of(alloc, hint)?;
     let asked = asked_of(asked)?;
     Ok(FilesCursor {
-        recipient,
-        share,
-        schema,
-        table,
-        grant: edition_of(grant),
-        binding: edition_of(binding),
+        access,
         asked,
-        version: version_of(version),
+        version: Version::of_small(version),
         hint,
-        place: place_of(place),
+        place: Place::of_small(place),
     })
 }
 
@@ -210,35 +190,21 @@ fn files_in(alloc: Global, bytes: &[u8]) -> Result<FilesCursor, Fault>
 fn feed_in(alloc: Global, bytes: &[u8]) -> Result<FeedCursor, Fault>
     ensures { Gives (λ c. c) result (feed_in bytes.now) }
 {
-    let (recipient, rest) = field_in(bytes)?;
-    let (share, rest) = field_in(rest)?;
-    let (schema, rest) = field_in(rest)?;
-    let (table, rest) = field_in(rest)?;
-    let (grant, rest) = number_in(rest)?;
-    let (binding, rest) = number_in(rest)?;
+    let (access, rest) = access_in(alloc, bytes)?;
     let (asked_from, rest) = field_in(rest)?;
     let (asked_to, rest) = field_in(rest)?;
     let (from, rest) = number_in(rest)?;
     let (to, rest) = number_in(rest)?;
     let (place, _) = number_in(rest)?;
-    let recipient = text_of(alloc, recipient)?;
-    let share = text_of(alloc, share)?;
-    let schema = text_of(alloc, schema)?;
-    let table = text_of(alloc, table)?;
     let asked_from = asked_of(asked_from)?;
     let asked_to = asked_of(asked_to)?;
     Ok(FeedCursor {
-        recipient,
-        share,
-        schema,
-        table,
-        grant: edition_of(grant),
-        binding: edition_of(binding),
+        access,
         asked_from,
         asked_to,
-        from: version_of(from),
-        to: version_of(to),
-        place: place_of(place),
+        from: Version::of_small(from),
+        to: Version::of_small(to),
+        place: Place::of_small(place),
     })
 }
 

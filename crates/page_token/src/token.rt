@@ -36,13 +36,7 @@ fn parts_of(text: &[u8]) -> Option<(&[u8], &[u8])>
     }
     let (spelling, tail) = text.split_at(text.len() - TAIL);
     match tail {
-        [b'.', digits @ ..] => {
-            if are_tag_digits(digits) {
-                Some((spelling, digits))
-            } else {
-                None
-            }
-        }
+        [b'.', digits @ ..] if are_tag_digits(digits) => Some((spelling, digits)),
         _ => None,
     }
 }
