@@ -15,6 +15,13 @@ use std::thread::Threads;
 use std::{env, io, thread};
 use turn_cell::{Pass, TurnCell};
 
+// How many threads there are, and how many turns each takes.
+#[derive(Clone, Copy)]
+struct Load {
+    threads: u32,
+    turns: u32,
+}
+
 // Adds one entry in a turn of its own.
 fn add_entry<R: Wait>(rt: &R, cell: &TurnCell<Page>, pass: &mut Pass<Page>)
     requires { (pass.old.cell ≡ cell.now) × (pass.old.holds ≡ false) }
@@ -56,19 +63,14 @@ fn add_all<R: Threads + Wait + Sync>(
     );
 }
 
-fn run_cell<R: Threads + Wait + Sync>(
-    rt: &R,
-    alloc: Global,
-    threads: u32,
-    turns: u32,
-) -> Result<(), AllocError>
-    requires { (1 ≤ threads) × (threads ≤ 65) }
+fn run_cell<R: Threads + Wait + Sync>(rt: &R, alloc: Global, load: Load) -> Result<(), AllocError>
+    requires { (1 ≤ load.threads) × (load.threads ≤ 65) }
 {
     let page = Page {
         entries: Vec::new(alloc),
     };
-    let (cell, mut passes) = TurnCell::new(alloc, page, threads)?;
-    add_all(rt, &cell, passes.as_mut_slice(), turns);
+    let (cell, mut passes) = TurnCell::new(alloc, page, load.threads)?;
+    add_all(rt, &cell, passes.as_mut_slice(), load.turns);
     Ok(())
 }
 
@@ -78,25 +80,20 @@ fn push_entries<R: Wait>(rt: &R, lock: &Mutex<Vec<u32>>, caller: u32, turns: u32
     }
 }
 
-fn run_lock<R: Threads + Wait + Sync>(
-    rt: &R,
-    alloc: Global,
-    threads: u32,
-    turns: u32,
-) -> Result<(), AllocError>
-    requires { (1 ≤ threads) × (threads ≤ 65) }
+fn run_lock<R: Threads + Wait + Sync>(rt: &R, alloc: Global, load: Load) -> Result<(), AllocError>
+    requires { (1 ≤ load.threads) × (load.threads ≤ 65) }
 {
     let lock = Mutex::new(Vec::new(alloc));
     let mut callers = Vec::new(alloc);
-    for caller in 0..threads {
+    for caller in 0..load.threads {
         callers.push(caller)?;
     }
     let lock = &lock;
     thread::for_each_mut(
         rt,
         callers.as_mut_slice(),
-        threads as usize,
-        &|_, caller| push_entries(rt, lock, *caller, turns),
+        load.threads as usize,
+        &|_, caller| push_entries(rt, lock, *caller, load.turns),
     );
     Ok(())
 }
@@ -112,9 +109,10 @@ fn main(rt: HostRuntime) -> io::Result<()> {
     if threads < 1 || threads > 65 {
         return Ok(());
     }
+    let load = Load { threads, turns };
     match kind.as_str() {
-        "cell" => run_cell(&rt, rt.alloc(), threads, turns)?,
-        "lock" => run_lock(&rt, rt.alloc(), threads, turns)?,
+        "cell" => run_cell(&rt, rt.alloc(), load)?,
+        "lock" => run_lock(&rt, rt.alloc(), load)?,
         _ => {}
     }
     Ok(())
