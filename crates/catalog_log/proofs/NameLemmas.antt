@@ -1,5 +1,5 @@
 -- The names of records are names.
-use Rattle.std.proofs.Common.{◌≡◌, ℕ, ◌+◌, ◌<◌, ◌≤◌, length, refl, Bool, true, arith, codes}
+use Rattle.std.proofs.Common.{◌≡◌, ℕ, ◌<◌, refl, true, arith, codes}
 use Rattle.std.specs.Prelude.{◌^◌}
 use Rattle.edge_core.specs.Names.{is_name}
 use Rattle.edge_core.proofs.NameLaws.{is_name-in_folder}
