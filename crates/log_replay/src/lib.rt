@@ -7,10 +7,6 @@ mod held;
 mod refusal;
 mod snapshot;
 mod standing;
-#[cfg(test)]
-mod tests;
-#[cfg(test)]
-mod time_tests;
 mod times;
 
 pub use commits::{advance, replay, replay_ref};

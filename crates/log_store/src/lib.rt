@@ -14,6 +14,3 @@ pub use log::load;
 pub use probing::{Probed, probe};
 pub use reading::{Fetched, fetch};
 pub use refusal::LoadRefusal;
-
-#[cfg(test)]
-mod tests;

@@ -9,6 +9,3 @@ mod whole;
 
 pub use columns::{Column, Columns, columns_of, text_in};
 pub use value::{PartType, PartValue, value_of};
-
-#[cfg(test)]
-mod tests;

@@ -16,6 +16,3 @@ pub use filter::Filter;
 pub use reading::pred_of;
 pub use tree::{Comparison, Leaf, Pred};
 pub use truth::Truth;
-
-#[cfg(test)]
-mod tests;

@@ -1,0 +1,260 @@
+// Logs whose states and refusals follow from the Delta protocol by hand.
+use crate::logs::commits;
+use log_actions::Commit;
+use log_replay::{
+    Cause, NoState, ReplayRefusal, Snapshot, SnapshotRef, Support, advance, replay, replay_ref,
+};
+use std::alloc::{AllocError, Global};
+use std::process::Abort;
+use std::sync::Arc;
+use step_count::Steps;
+
+const PROTOCOL: &str = "{\"protocol\":{\"minReaderVersion\":1,\"minWriterVersion\":2}}";
+
+const READER_4: &str = "{\"protocol\":{\"minReaderVersion\":4,\"minWriterVersion\":2}}";
+
+const META: &str = "{\"metaData\":{\"id\":\"m1\",\"schemaString\":\"{}\"}}";
+
+const OTHER_META: &str = "{\"metaData\":{\"id\":\"m2\",\"schemaString\":\"{}\"}}";
+
+const ORC: &str =
+    "{\"metaData\":{\"id\":\"m1\",\"schemaString\":\"{}\",\"format\":{\"provider\":\"orc\"}}}";
+
+const MAPPED: &str =
+    "{\"metaData\":{\"id\":\"m1\",\"schemaString\":\"{}\",\"format\":{\"provider\":\"orc\"},\"configuration\":{\"delta.columnMapping.mode\":\"name\"}}}";
+
+const NOT_MAPPED: &str =
+    "{\"metaData\":{\"id\":\"m1\",\"schemaString\":\"{}\",\"configuration\":{\"delta.columnMapping.mode\":\"none\"}}}";
+
+const ADD_A: &str = "{\"add\":{\"path\":\"a\",\"size\":1}}";
+
+const ADD_A_AGAIN: &str = "{\"add\":{\"path\":\"a\",\"size\":2}}";
+
+const ADD_B: &str = "{\"add\":{\"path\":\"b\",\"size\":3}}";
+
+const REMOVE_A: &str = "{\"remove\":{\"path\":\"a\"}}";
+
+const VECTOR: &str = "{\"remove\":{\"path\":\"a\",\"deletionVector\":{}}}";
+
+const READER_2: &str =
+    "{\"protocol\":{\"minReaderVersion\":2,\"minWriterVersion\":7,\"readerFeatures\":[\"other\"]}}";
+
+const READER_3: &str =
+    "{\"protocol\":{\"minReaderVersion\":3,\"minWriterVersion\":7,\"readerFeatures\":[\"timestampNtz\",\"vacuumProtocolCheck\",\"columnMapping\",\"deletionVectors\"]}}";
+
+const READER_3_BARE: &str = "{\"protocol\":{\"minReaderVersion\":3,\"minWriterVersion\":7}}";
+
+const READER_3_OTHER: &str =
+    "{\"protocol\":{\"minReaderVersion\":3,\"minWriterVersion\":7,\"readerFeatures\":[\"timestampNtz\",\"other\"]}}";
+
+const TXN_2: &str = "{\"txn\":{\"appId\":\"two\",\"version\":7}}";
+
+const TXN_1: &str = "{\"txn\":{\"appId\":\"one\",\"version\":1}}";
+
+const TXN_1_AGAIN: &str = "{\"txn\":{\"appId\":\"one\",\"version\":-4}}";
+
+const CDC: &str = "{\"cdc\":{\"path\":\"b\",\"partitionValues\":{},\"size\":1}}";
+
+const INFO: &str = "{\"commitInfo\":{\"timestamp\":3}}";
+
+struct Work;
+
+// The logs that aren't read, and why.
+static REFUSED: [(&[&[&str]], ReplayRefusal); 10] = [
+    (&[&[ADD_A], &[PROTOCOL, META]], ReplayRefusal::NoProtocol),
+    (&[&[PROTOCOL], &[META]], ReplayRefusal::NoMetaData),
+    (
+        &[&[PROTOCOL, META], &[READER_4, MAPPED]],
+        ReplayRefusal::Unsupported {
+            version: 1,
+            cause: Cause::Reader,
+        },
+    ),
+    (
+        &[&[PROTOCOL, MAPPED]],
+        ReplayRefusal::Unsupported {
+            version: 0,
+            cause: Cause::Mapping,
+        },
+    ),
+    (
+        &[&[PROTOCOL, NOT_MAPPED], &[], &[VECTOR, ORC]],
+        ReplayRefusal::Unsupported {
+            version: 2,
+            cause: Cause::Vector,
+        },
+    ),
+    (
+        &[&[PROTOCOL, META], &[ORC], &[META]],
+        ReplayRefusal::Unsupported {
+            version: 1,
+            cause: Cause::Format,
+        },
+    ),
+    (
+        &[&[READER_3_OTHER, MAPPED]],
+        ReplayRefusal::Unsupported {
+            version: 0,
+            cause: Cause::Feature,
+        },
+    ),
+    (
+        &[
+            &[READER_3, META],
+            &[READER_3_BARE],
+            &[READER_2],
+            &[READER_3_OTHER],
+        ],
+        ReplayRefusal::Unsupported {
+            version: 3,
+            cause: Cause::Feature,
+        },
+    ),
+    (&[&[]], ReplayRefusal::NoProtocol),
+    (
+        &[&[PROTOCOL, META, VECTOR], &[READER_4]],
+        ReplayRefusal::Unsupported {
+            version: 0,
+            cause: Cause::Vector,
+        },
+    ),
+];
+
+fn told_by_replay(alloc: Global, commits: &[Arc<Commit>]) -> Option<NoState> {
+    if commits.is_empty() {
+        return None;
+    }
+    let mut steps: Steps<Work> = Steps::new();
+    match &replay(alloc, commits, &mut steps) {
+        Ok(_) => None,
+        Err(told) => Some(*told),
+    }
+}
+
+// What is told of the first commit that isn't admitted.
+fn told_by_support(alloc: Global, commits: &[Arc<Commit>]) -> Option<NoState> {
+    let mut support = Support::new();
+    for commit in commits {
+        if support.versions() >= 8 {
+            return None;
+        }
+        if let Err(told) = support.admit(alloc, commit) {
+            return Some(told);
+        }
+    }
+    None
+}
+
+#[test]
+fn the_first_cause_is_told(rt: HostRuntime) -> Result<(), AllocError> {
+    let alloc = rt.alloc();
+    for (log, refusal) in &REFUSED {
+        let wanted = Some(NoState::Refusal(*refusal));
+        let commits = commits(alloc, log)?;
+        assert!(rt; commits.len() == log.len());
+        assert!(rt; told_by_replay(alloc, &commits) == wanted);
+        assert!(rt; told_by_support(alloc, &commits) == wanted);
+    }
+    Ok(())
+}
+
+static LOG: [&[&str]; 3] = [
+    &[INFO, PROTOCOL, META, ADD_B, ADD_A, TXN_2],
+    &[TXN_1, REMOVE_A, OTHER_META, CDC],
+    &[ADD_A_AGAIN, TXN_1_AGAIN],
+];
+
+// Looks at the table of that log.
+fn expect_table(rt: &impl Abort, snapshot: &Snapshot) {
+    assert!(rt; snapshot.version() == 2);
+    assert!(rt; !snapshot.is_empty());
+    assert!(rt; snapshot.protocol().min_writer.get() == 2);
+    assert!(rt; snapshot.meta().id.as_str() == "m2");
+    assert!(rt; snapshot.has("a") && snapshot.has("b") && !snapshot.has("c"));
+    assert!(rt; snapshot.len() == 2);
+    assert!(rt; snapshot.file(0).path.as_str() == "a");
+    assert!(rt; snapshot.file(0).size.get() == 2);
+    assert!(rt; snapshot.files()[1].path.as_str() == "b");
+    assert!(rt; snapshot.txns().len() == 2);
+    assert!(rt; snapshot.txns()[0].app.as_str() == "one");
+    assert!(rt; matches!(snapshot.txn("one"), Some(txn) if txn.version == -4));
+    assert!(rt; snapshot.txn("three").is_none());
+}
+
+// Looks at the table one version later.
+fn expect_next(rt: &impl Abort, snapshot: &Snapshot) {
+    assert!(rt; snapshot.version() == 3);
+    assert!(rt; snapshot.len() == 1);
+    assert!(rt; snapshot.has("b"));
+    assert!(rt; snapshot.meta().id.as_str() == "m1");
+    assert!(rt; matches!(snapshot.txn("one"), Some(txn) if txn.version == 1));
+    assert!(rt; matches!(snapshot.txn("two"), Some(txn) if txn.version == 7));
+}
+
+// Two commits, each of which may come next.
+static NEXT: [&[&str]; 2] = [&[TXN_1, META, REMOVE_A, INFO], &[VECTOR]];
+
+fn expect_advances(rt: &impl Abort, alloc: Global, base: &Snapshot) -> Result<(), AllocError> {
+    let next = commits(alloc, &NEXT)?;
+    assert!(rt; next.len() == 2);
+    assert!(rt; base.version() == 2);
+    let mut steps: Steps<Work> = Steps::new();
+    match &advance(alloc, base, &next[0], &mut steps) {
+        Ok(snapshot) => expect_next(rt, snapshot),
+        Err(_) => assert!(rt; false),
+    }
+    let refusal = ReplayRefusal::Unsupported {
+        version: 3,
+        cause: Cause::Vector,
+    };
+    match &advance(alloc, base, &next[1], &mut steps) {
+        Ok(_) => assert!(rt; false),
+        Err(told) => assert!(rt; *told == NoState::Refusal(refusal)),
+    }
+    Ok(())
+}
+
+#[test]
+fn the_last_add_is_live(rt: HostRuntime) -> Result<(), AllocError> {
+    let commits = commits(rt.alloc(), &LOG)?;
+    assert!(rt; commits.len() == 3);
+    let mut steps: Steps<Work> = Steps::new();
+    match &replay(rt.alloc(), &commits, &mut steps) {
+        Ok(base) => {
+            expect_table(&rt, base);
+            expect_advances(&rt, rt.alloc(), base)?;
+        }
+        Err(_) => assert!(rt; false),
+    }
+    Ok(())
+}
+
+// Looks at the table of the first commit, borrowed, and at a copy of it.
+fn expect_borrowed(
+    rt: &impl Abort,
+    alloc: Global,
+    snapshot: &SnapshotRef,
+) -> Result<(), AllocError> {
+    assert!(rt; snapshot.version() == 0);
+    assert!(rt; !snapshot.is_empty());
+    assert!(rt; snapshot.protocol().min_reader.get() == 1);
+    assert!(rt; snapshot.meta().id.as_str() == "m1");
+    assert!(rt; snapshot.len() == 2);
+    assert!(rt; snapshot.file(0).path.as_str() == "a");
+    assert!(rt; snapshot.file(1).path.as_str() == "b");
+    let copied = snapshot.copy(alloc)?;
+    assert!(rt; copied.has("a") && copied.has("b") && copied.version() == 0);
+    Ok(())
+}
+
+#[test]
+fn a_borrowed_state_is_copied(rt: HostRuntime) -> Result<(), AllocError> {
+    let only = commits(rt.alloc(), &LOG[..1])?;
+    assert!(rt; only.len() == 1);
+    let mut steps: Steps<Work> = Steps::new();
+    match &replay_ref(rt.alloc(), &only, &mut steps) {
+        Ok(snapshot) => expect_borrowed(&rt, rt.alloc(), snapshot)?,
+        Err(_) => assert!(rt; false),
+    }
+    Ok(())
+}
