@@ -12,9 +12,6 @@ mod key;
 pub use fault::Fault;
 pub use key::{HmacKey, are_tag_digits};
 
-#[cfg(test)]
-mod tests;
-
 /// The tag of a text under a key of any length (RFC 2104, section 2, with SHA-256). Who tags several texts
 /// under one key prepares it once, as an `HmacKey`.
 pub fn hmac(key: &[u8], text: &[u8]) -> [u8; 32]

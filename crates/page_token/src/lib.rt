@@ -8,6 +8,3 @@ mod token;
 
 pub use cursor::{Asked, Cursor, FeedCursor, FilesCursor, ListCursor, ListKind, TableAccess};
 pub use token::{cursor_of, cursors_are_spelt, one_cursor, spell};
-
-#[cfg(test)]
-mod tests;

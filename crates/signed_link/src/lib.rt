@@ -9,6 +9,3 @@ mod spelling;
 
 pub use parts::LinkParts;
 pub use signed::{link, links_are_spelt, one_link, parts_of};
-
-#[cfg(test)]
-mod tests;

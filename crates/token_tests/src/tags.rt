@@ -1,6 +1,5 @@
 // RFC 4231's test cases but the fifth, whose tag is cut short, and some of Python's `hmac`.
-use crate::{HmacKey, agrees, hmac};
-use std::test::Fail;
+use hmac_core::{HmacKey, agrees, hmac};
 
 // A text under a key, and the digits of its tag.
 #[derive(Drop)]
@@ -98,13 +97,18 @@ fn other_tags_are_told_apart(rt: HostRuntime) {
     );
 }
 
-// The value is from Python's `hmac`.
+// The values are from Python's `hmac`.
 #[test]
-fn a_mebibyte_has_a_tag(rt: HostRuntime) -> Result<(), Fail> {
-    let text = vec![in rt.alloc(); 0u8; 1 << 20]?;
+fn a_mebibyte_has_a_tag(rt: HostRuntime) {
+    let text = vec![in rt.alloc(); 0u8; 1 << 20].ok().expect(&rt, "memory");
+    let tag = [
+        0x6d, 0x09, 0x89, 0x17, 0xd7, 0xec, 0x4a, 0x6a, 0x5a, 0x0d, 0x53, 0x1a, 0x59, 0x66, 0x9e,
+        0x1b, 0x3a, 0x3b, 0x47, 0xeb, 0xa4, 0xba, 0xea, 0x2b, 0xbf, 0x41, 0x3e, 0x05, 0x79, 0x5b,
+        0x11, 0x43,
+    ];
+    assert!(rt; hmac(&[1; 32], &text) == tag);
     assert!(rt;
         HmacKey::of(&[1; 32]).tag_digits(&text)
             == *b"6d098917d7ec4a6a5a0d531a59669e1b3a3b47eba4baea2bbf413e05795b1143"
     );
-    Ok(())
 }

@@ -1,10 +1,10 @@
 // Links under a key of 32 bytes 0x02. The tags are from Python's `hmac`.
-use super::*;
+use crate::texts::long;
 use hmac_core::HmacKey;
 use json_tree::{Edition, Millis, Text};
 use share_catalog::{CatalogName, TableName};
-use std::alloc::{AllocError, Global};
-use std::test::Fail;
+use signed_link::{LinkParts, link, parts_of};
+use std::alloc::Global;
 
 const KEY: [u8; 32] = [2; 32];
 
@@ -14,53 +14,45 @@ const LINK: &str =
 const TARGET: &str =
     "/delta-sharing/files/s1/sc/t1/day%3D1%2Fa.parquet?b=1&e=3600000&g=1&r=r1&t=cde8925f25c9f209b7167a21cac87b606b31f783cee12ffeecc77883b42e2c78";
 
-fn string(alloc: Global, text: &str) -> Result<String, AllocError> {
-    String::from_str(alloc, text)
+fn name(alloc: Global, of: &str) -> Option<CatalogName> {
+    CatalogName::of(String::from_str(alloc, of).ok()?)
 }
 
-fn table(alloc: Global) -> Result<TableName, Fail> {
-    let share = string(alloc, "s1")?;
-    let schema = string(alloc, "sc")?;
-    let table = TableName::of(share, schema, string(alloc, "t1")?);
-    Ok(table.ok_or("no table's name")?)
-}
-
-fn recipient(alloc: Global) -> Result<CatalogName, Fail> {
-    Ok(CatalogName::of(string(alloc, "r1")?).ok_or("no name")?)
-}
-
-// The parts of the link, but for its path.
-fn leading_to(alloc: Global, path: String) -> Result<LinkParts, Fail> {
-    let path = Text::of(path);
-    let once = Edition::of(1).ok_or("an edition")?;
-    let expires = Millis::of(3_600_000).ok_or("a moment")?;
-    Ok(LinkParts {
-        table: table(alloc)?,
-        path,
+// The parts of the first recipient's link to that path.
+fn leading_to(alloc: Global, path: String) -> Option<LinkParts> {
+    let share = name(alloc, "s1")?;
+    let schema = name(alloc, "sc")?;
+    let table = name(alloc, "t1")?;
+    let recipient = name(alloc, "r1")?;
+    let once = Edition::of(1)?;
+    let expires = Millis::of(3_600_000)?;
+    Some(LinkParts {
+        table: TableName {
+            share,
+            schema,
+            table,
+        },
+        path: Text::of(path),
         binding: once,
         expires,
         grant: once,
-        recipient: recipient(alloc)?,
+        recipient,
     })
 }
 
-// The helpers have no clauses, so that a test carries few facts.
-fn linked(alloc: Global, endpoint: &str, path: String) -> Result<Text, Fail> {
+fn linked(alloc: Global, endpoint: &str, path: String) -> Option<Text> {
     let parts = leading_to(alloc, path)?;
-    Ok(link(alloc, &HmacKey::of(&KEY), endpoint, &parts)?)
-}
-
-fn read(alloc: Global, byte: u8, target: &str) -> Result<Option<LinkParts>, AllocError> {
-    parts_of(alloc, &HmacKey::of(&[byte; 32]), target)
+    link(alloc, &HmacKey::of(&KEY), endpoint, &parts).ok()
 }
 
 #[test]
-fn spells_a_link(rt: HostRuntime) -> Result<(), Fail> {
+fn spells_a_link(rt: HostRuntime) {
     let alloc = rt.alloc();
-    let path = string(alloc, "day=1/a.parquet")?;
-    let text = linked(alloc, "http://127.0.0.1:8080/delta-sharing", path)?;
+    let path = String::from_str(alloc, "day=1/a.parquet")
+        .ok()
+        .expect(&rt, "memory");
+    let text = linked(alloc, "http://127.0.0.1:8080/delta-sharing", path).expect(&rt, "a link");
     assert!(rt; text.as_str() == LINK);
-    Ok(())
 }
 
 // Whether the target is a link to that path, under an edition and a recipient of these.
@@ -70,15 +62,11 @@ fn leads_to(
     path: &str,
     binding: u64,
     recipient: &str,
-) -> Result<bool, AllocError> {
-    match read(alloc, 2, target)? {
-        Some(parts) => Ok(
-            parts.path.as_str() == path
-                && parts.binding.get() == binding
-                && parts.recipient.as_str() == recipient,
-        ),
-        None => Ok(false),
-    }
+) -> Option<bool> {
+    let parts = parts_of(alloc, &HmacKey::of(&KEY), target).ok()??;
+    let is_path = parts.path.as_str() == path;
+    let is_recipient = parts.recipient.as_str() == recipient;
+    Some(is_path && is_recipient && parts.binding.get() == binding)
 }
 
 // Targets, with their paths, the editions of their bindings and their recipients.
@@ -99,33 +87,21 @@ const LINKS: [(&str, &str, u64, &str); 3] = [
 ];
 
 #[test]
-fn reads_links(rt: HostRuntime) -> Result<(), Fail> {
-    let alloc = rt.alloc();
+fn reads_links(rt: HostRuntime) {
     for (target, path, binding, recipient) in LINKS {
-        assert!(rt;
-            leads_to(alloc, target, path, binding, recipient)?,
-            "{target}"
-        );
+        assert!(rt; leads_to(rt.alloc(), target, path, binding, recipient) == Some(true));
     }
-    Ok(())
 }
 
-// A mebibyte, of which no byte is escaped.
-fn long_path(alloc: Global) -> Result<String, AllocError> {
-    let mut path = String::new(alloc);
-    for _ in 0..1 << 16 {
-        path.push_str("0123456789abcdef")?;
-    }
-    Ok(path)
-}
-
+// No byte of it is escaped.
 #[test]
-fn a_long_path_comes_back(rt: HostRuntime) -> Result<(), Fail> {
+fn a_long_path_comes_back(rt: HostRuntime) {
     let alloc = rt.alloc();
-    let text = linked(alloc, "/delta-sharing", long_path(alloc)?)?;
+    let path = long(alloc).expect(&rt, "memory");
+    let again = long(alloc).expect(&rt, "memory");
+    let text = linked(alloc, "/delta-sharing", again).expect(&rt, "a link");
     assert!(rt; text.as_str().len() == (1 << 20) + TARGET.len() - 19);
-    assert!(rt; read(alloc, 2, text.as_str())?.is_some());
-    Ok(())
+    assert!(rt; leads_to(alloc, text.as_str(), &path, 1, "r1") == Some(true));
 }
 
 // Under the key these are no links.
@@ -152,12 +128,16 @@ const OTHERS: [&str; 14] = [
     "/delta-sharing/files/S1/sc/t1/day%3D1%2Fa.parquet?b=1&e=3600000&g=1&r=r1&t=49e7f4e9e85b4cc3b9689a7a6f222cd387b674fd5f47afa874723138dc23640b",
 ];
 
+// Whether the target is no link under the key of 32 such bytes.
+fn is_refused(alloc: Global, byte: u8, target: &str) -> bool {
+    matches!(parts_of(alloc, &HmacKey::of(&[byte; 32]), target), Ok(None))
+}
+
 #[test]
-fn refuses_other_texts(rt: HostRuntime) -> Result<(), Fail> {
+fn refuses_other_texts(rt: HostRuntime) {
     let alloc = rt.alloc();
-    assert!(rt; read(alloc, 3, TARGET)?.is_none());
+    assert!(rt; is_refused(alloc, 3, TARGET));
     for other in OTHERS {
-        assert!(rt; read(alloc, 2, other)?.is_none(), "{other}");
+        assert!(rt; is_refused(alloc, 2, other));
     }
-    Ok(())
 }
