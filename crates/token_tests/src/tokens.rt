@@ -2,7 +2,9 @@
 use crate::texts::{long, text};
 use hmac_core::HmacKey;
 use json_tree::{Edition, Place, Text, Version};
-use page_token::{Asked, Cursor, FeedCursor, FilesCursor, ListCursor, ListKind, cursor_of, spell};
+use page_token::{
+    Asked, Cursor, FeedCursor, FilesCursor, ListCursor, ListKind, TableAccess, cursor_of, spell,
+};
 use std::alloc::Global;
 
 const KEY: [u8; 32] = [1; 32];
@@ -33,12 +35,14 @@ fn files(alloc: Global, asked: Asked, hint: Option<Text>, before: u64) -> Option
     let version = Version::of(4)?;
     let place = Place::of(before)?;
     Some(Cursor::Files(FilesCursor {
-        recipient,
-        share,
-        schema,
-        table,
-        grant: once,
-        binding: once,
+        access: TableAccess {
+            recipient,
+            share,
+            schema,
+            table,
+            grant: once,
+            binding: once,
+        },
         asked,
         version,
         hint,
@@ -71,12 +75,14 @@ fn feed(alloc: Global) -> Option<Cursor> {
     let to = Version::of((1 << 63) - 1)?;
     let place = Place::of(12)?;
     Some(Cursor::Feed(FeedCursor {
-        recipient,
-        share,
-        schema,
-        table,
-        grant,
-        binding,
+        access: TableAccess {
+            recipient,
+            share,
+            schema,
+            table,
+            grant,
+            binding,
+        },
         asked_from: Asked::Version(from),
         asked_to: Asked::Moment(-5),
         from,
