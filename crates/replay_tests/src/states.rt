@@ -120,15 +120,13 @@ static REFUSED: [(&[&[&str]], ReplayRefusal); 10] = [
     ),
 ];
 
-fn told_by_replay(alloc: Global, commits: &[Arc<Commit>]) -> Option<NoState> {
+// The state of a log, none of an empty one.
+fn state(alloc: Global, commits: &[Arc<Commit>]) -> Result<Option<Snapshot>, NoState> {
     if commits.is_empty() {
-        return None;
+        return Ok(None);
     }
     let mut steps: Steps<Work> = Steps::new();
-    match &replay(alloc, commits, &mut steps) {
-        Ok(_) => None,
-        Err(told) => Some(*told),
-    }
+    Ok(Some(replay(alloc, commits, &mut steps)?))
 }
 
 // What is told of the first commit that isn't admitted.
@@ -152,7 +150,10 @@ fn the_first_cause_is_told(rt: HostRuntime) -> Result<(), AllocError> {
         let wanted = Some(NoState::Refusal(*refusal));
         let commits = commits(alloc, log)?;
         assert!(rt; commits.len() == log.len());
-        assert!(rt; told_by_replay(alloc, &commits) == wanted);
+        match &state(alloc, &commits) {
+            Ok(_) => assert!(rt; false),
+            Err(told) => assert!(rt; Some(*told) == wanted),
+        }
         assert!(rt; told_by_support(alloc, &commits) == wanted);
     }
     Ok(())
@@ -164,31 +165,58 @@ static LOG: [&[&str]; 3] = [
     &[ADD_A_AGAIN, TXN_1_AGAIN],
 ];
 
+// What is known of a call's answer stays in these, so that it doesn't pile up in the tests' proofs.
+fn is_state(snapshot: &Snapshot, version: u64, files: u64, meta: &str) -> bool {
+    snapshot.version() == version
+        && snapshot.len() == files
+        && !snapshot.is_empty()
+        && snapshot.meta().id.as_str() == meta
+}
+
+fn is_at(snapshot: &Snapshot, place: u64, path: &str, size: u64) -> bool {
+    if place >= snapshot.len() {
+        return false;
+    }
+    let file = snapshot.file(place);
+    file.path.as_str() == path && file.size.get() == size
+}
+
+fn has_path(snapshot: &Snapshot, path: &str) -> bool {
+    snapshot.has(path)
+}
+
+fn txn_version(snapshot: &Snapshot, app: &str) -> Option<i64> {
+    match snapshot.txn(app) {
+        Some(txn) => Some(txn.version),
+        None => None,
+    }
+}
+
+fn is_listed(snapshot: &Snapshot, last_path: &str, first_app: &str) -> bool {
+    match (snapshot.files(), snapshot.txns()) {
+        ([_, file], [txn, _]) => {
+            file.path.as_str() == last_path && txn.app.as_str() == first_app
+        }
+        _ => false,
+    }
+}
+
 // Looks at the table of that log.
 fn expect_table(rt: &impl Abort, snapshot: &Snapshot) {
-    assert!(rt; snapshot.version() == 2);
-    assert!(rt; !snapshot.is_empty());
+    assert!(rt; is_state(snapshot, 2, 2, "m2"));
     assert!(rt; snapshot.protocol().min_writer.get() == 2);
-    assert!(rt; snapshot.meta().id.as_str() == "m2");
-    assert!(rt; snapshot.has("a") && snapshot.has("b") && !snapshot.has("c"));
-    assert!(rt; snapshot.len() == 2);
-    assert!(rt; snapshot.file(0).path.as_str() == "a");
-    assert!(rt; snapshot.file(0).size.get() == 2);
-    assert!(rt; snapshot.files()[1].path.as_str() == "b");
-    assert!(rt; snapshot.txns().len() == 2);
-    assert!(rt; snapshot.txns()[0].app.as_str() == "one");
-    assert!(rt; matches!(snapshot.txn("one"), Some(txn) if txn.version == -4));
-    assert!(rt; snapshot.txn("three").is_none());
+    assert!(rt; has_path(snapshot, "a") && has_path(snapshot, "b") && !has_path(snapshot, "c"));
+    assert!(rt; is_at(snapshot, 0, "a", 2));
+    assert!(rt; is_listed(snapshot, "b", "one"));
+    assert!(rt; txn_version(snapshot, "one") == Some(-4));
+    assert!(rt; txn_version(snapshot, "three").is_none());
 }
 
 // Looks at the table one version later.
 fn expect_next(rt: &impl Abort, snapshot: &Snapshot) {
-    assert!(rt; snapshot.version() == 3);
-    assert!(rt; snapshot.len() == 1);
-    assert!(rt; snapshot.has("b"));
-    assert!(rt; snapshot.meta().id.as_str() == "m1");
-    assert!(rt; matches!(snapshot.txn("one"), Some(txn) if txn.version == 1));
-    assert!(rt; matches!(snapshot.txn("two"), Some(txn) if txn.version == 7));
+    assert!(rt; is_state(snapshot, 3, 1, "m1") && has_path(snapshot, "b"));
+    assert!(rt; txn_version(snapshot, "one") == Some(1));
+    assert!(rt; txn_version(snapshot, "two") == Some(7));
 }
 
 // Two commits, each of which may come next.
@@ -218,33 +246,32 @@ fn expect_advances(rt: &impl Abort, alloc: Global, base: &Snapshot) -> Result<()
 fn the_last_add_is_live(rt: HostRuntime) -> Result<(), AllocError> {
     let commits = commits(rt.alloc(), &LOG)?;
     assert!(rt; commits.len() == 3);
-    let mut steps: Steps<Work> = Steps::new();
-    match &replay(rt.alloc(), &commits, &mut steps) {
-        Ok(base) => {
+    match &state(rt.alloc(), &commits) {
+        Ok(Some(base)) => {
             expect_table(&rt, base);
             expect_advances(&rt, rt.alloc(), base)?;
         }
-        Err(_) => assert!(rt; false),
+        _ => assert!(rt; false),
     }
     Ok(())
 }
 
-// Looks at the table of the first commit, borrowed, and at a copy of it.
-fn expect_borrowed(
-    rt: &impl Abort,
-    alloc: Global,
-    snapshot: &SnapshotRef,
-) -> Result<(), AllocError> {
-    assert!(rt; snapshot.version() == 0);
-    assert!(rt; !snapshot.is_empty());
-    assert!(rt; snapshot.protocol().min_reader.get() == 1);
-    assert!(rt; snapshot.meta().id.as_str() == "m1");
-    assert!(rt; snapshot.len() == 2);
-    assert!(rt; snapshot.file(0).path.as_str() == "a");
-    assert!(rt; snapshot.file(1).path.as_str() == "b");
+fn is_borrowed_at(snapshot: &SnapshotRef, place: u64, path: &str) -> bool {
+    place < snapshot.len() && snapshot.file(place).path.as_str() == path
+}
+
+// Whether it is the table of the first commit, borrowed.
+fn is_borrowed(snapshot: &SnapshotRef) -> bool {
+    snapshot.version() == 0
+        && snapshot.len() == 2
+        && !snapshot.is_empty()
+        && snapshot.protocol().min_reader.get() == 1
+        && snapshot.meta().id.as_str() == "m1"
+}
+
+fn is_copied(alloc: Global, snapshot: &SnapshotRef) -> Result<bool, AllocError> {
     let copied = snapshot.copy(alloc)?;
-    assert!(rt; copied.has("a") && copied.has("b") && copied.version() == 0);
-    Ok(())
+    Ok(has_path(&copied, "a") && has_path(&copied, "b") && copied.version() == 0)
 }
 
 #[test]
@@ -253,7 +280,11 @@ fn a_borrowed_state_is_copied(rt: HostRuntime) -> Result<(), AllocError> {
     assert!(rt; only.len() == 1);
     let mut steps: Steps<Work> = Steps::new();
     match &replay_ref(rt.alloc(), &only, &mut steps) {
-        Ok(snapshot) => expect_borrowed(&rt, rt.alloc(), snapshot)?,
+        Ok(snapshot) => {
+            assert!(rt; is_borrowed(snapshot));
+            assert!(rt; is_borrowed_at(snapshot, 0, "a") && is_borrowed_at(snapshot, 1, "b"));
+            assert!(rt; is_copied(rt.alloc(), snapshot)?);
+        }
         Err(_) => assert!(rt; false),
     }
     Ok(())
