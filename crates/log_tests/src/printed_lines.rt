@@ -1,6 +1,6 @@
 // Lines that were read, printed: the form of each kind, written by hand.
-use crate::texts::spelt;
-use log_actions::{action_of_line, line_len, line_of_action};
+use crate::texts::{action, spelt};
+use log_actions::{Action, line_len, line_of_action};
 use std::alloc::{AllocError, Global};
 
 static PRINTED: [(&str, &str); 11] = [
@@ -64,13 +64,15 @@ static PRINTED: [(&str, &str); 11] = [
     ),
 ];
 
+fn is_text_of(alloc: Global, action: &Action, wanted: &str) -> Result<bool, AllocError> {
+    let text = line_of_action(alloc, action)?;
+    Ok(text.as_str() == wanted && line_len(action) == wanted.len() as u64)
+}
+
 // Whether the line is read and printed so, and as long as it is told to be.
 fn is_printed(alloc: Global, line: &str, wanted: &str) -> Result<bool, AllocError> {
-    match action_of_line(alloc, line.as_bytes()) {
-        Ok(Some(action)) => {
-            let text = line_of_action(alloc, &action)?;
-            Ok(text.as_str() == wanted && line_len(&action) == wanted.len() as u64)
-        }
+    match &action(alloc, line.as_bytes()) {
+        Ok(Some(action)) => is_text_of(alloc, action, wanted),
         _ => Ok(false),
     }
 }

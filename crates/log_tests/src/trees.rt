@@ -4,6 +4,7 @@ use json_tree::{
     Edition, FieldFault, Millis, Pair, Pairs, Place, TreeFault, Version, flag_at, member_at,
     pairs_at, text_at, texts_at, tree_of, whole_at,
 };
+use serde_json::Value;
 use std::alloc::{AllocError, Global};
 
 static NOT_JSON: [&[u8]; 9] = [
@@ -53,17 +54,15 @@ static WHOLES: [(&str, Result<Option<i64>, FieldFault>); 11] = [
 
 #[test]
 fn reads_whole_numbers_and_flags(rt: HostRuntime) {
-    match tree_of(rt.alloc(), NUMBERS) {
+    match &tree_of(rt.alloc(), NUMBERS) {
         Ok(object) => {
             for (name, wanted) in &WHOLES {
-                assert!(rt; whole_at(&object, name) == *wanted);
+                assert!(rt; whole_at(object, name) == *wanted);
             }
-            assert!(rt; matches!(flag_at(&object, "flag"), Ok(Some(true))));
-            assert!(rt; matches!(flag_at(&object, "null"), Ok(None)));
-            assert!(rt; matches!(flag_at(&object, "twice"), Err(FieldFault::WrongKind)));
-            assert!(rt;
-                member_at(&object, "text").is_some() && member_at(&object, "null").is_none()
-            );
+            assert!(rt; matches!(flag_at(object, "flag"), Ok(Some(true))));
+            assert!(rt; matches!(flag_at(object, "null"), Ok(None)));
+            assert!(rt; matches!(flag_at(object, "twice"), Err(FieldFault::WrongKind)));
+            assert!(rt; member_at(object, "text").is_some() && member_at(object, "null").is_none());
         }
         Err(_) => assert!(rt; false),
     }
@@ -72,50 +71,52 @@ fn reads_whole_numbers_and_flags(rt: HostRuntime) {
 const LISTS: &[u8] = b"{\"text\":\"x\\u0041\",\"texts\":[\"p\",\"q\"],\"mixed\":[\"p\",1],\
         \"pairs\":{\"z\":null,\"y\":\"1\"},\"numbers\":{\"z\":2},\"null\":null}";
 
-#[test]
-fn reads_texts_and_pairs(rt: HostRuntime) -> Result<(), AllocError> {
-    let alloc = rt.alloc();
-    let Ok(object) = tree_of(alloc, LISTS) else {
-        assert!(rt; false);
-        return Ok(());
-    };
-    match text_at(alloc, &object, "text") {
-        Ok(Some(found)) => assert!(rt; found.copy(alloc)?.as_str() == "xA"),
-        _ => assert!(rt; false),
+// Whether the object has these, and copies of them tell the same.
+fn has_texts(alloc: Global, object: &Value) -> Result<bool, AllocError> {
+    match &text_at(alloc, object, "text") {
+        Ok(Some(found)) if found.copy(alloc)?.as_str() == "xA" => {}
+        _ => return Ok(false),
     }
-    assert!(rt; matches!(text_at(alloc, &object, "null"), Ok(None)));
-    assert!(rt; matches!(text_at(alloc, &object, "texts"), Err(FieldFault::WrongKind)));
-    match texts_at(alloc, &object, "texts") {
+    match &texts_at(alloc, object, "texts") {
         Ok(Some(found)) => {
             let copy = found.copy(alloc)?;
-            assert!(rt; copy.items().len() == 2 && copy.items()[1].as_str() == "q");
+            Ok(copy.items().len() == 2 && copy.items()[1].as_str() == "q")
         }
-        _ => assert!(rt; false),
+        _ => Ok(false),
     }
-    assert!(rt; matches!(texts_at(alloc, &object, "null"), Ok(None)));
-    assert!(rt;
-        matches!(
-            texts_at(alloc, &object, "mixed"),
-            Err(FieldFault::WrongKind)
-        )
-    );
-    match pairs_at(alloc, &object, "pairs") {
+}
+
+fn has_pairs(alloc: Global, object: &Value) -> Result<bool, AllocError> {
+    match &pairs_at(alloc, object, "pairs") {
         Ok(Some(found)) => {
             let copy = found.copy(alloc)?;
             let items = copy.items();
+            Ok(items.len() == 2 && items[0].name.as_str() == "y" && items[1].value.is_none())
+        }
+        _ => Ok(false),
+    }
+}
+
+#[test]
+fn reads_texts_and_pairs(rt: HostRuntime) -> Result<(), AllocError> {
+    let alloc = rt.alloc();
+    match &tree_of(alloc, LISTS) {
+        Ok(object) => {
+            assert!(rt; has_texts(alloc, object)? && has_pairs(alloc, object)?);
+            assert!(rt; matches!(text_at(alloc, object, "null"), Ok(None)));
+            assert!(rt; matches!(text_at(alloc, object, "texts"), Err(FieldFault::WrongKind)));
+            assert!(rt; matches!(texts_at(alloc, object, "null"), Ok(None)));
+            assert!(rt; matches!(texts_at(alloc, object, "mixed"), Err(FieldFault::WrongKind)));
+            assert!(rt; matches!(pairs_at(alloc, object, "absent"), Ok(None)));
             assert!(rt;
-                items.len() == 2 && items[0].name.as_str() == "y" && items[1].value.is_none()
+                matches!(
+                    pairs_at(alloc, object, "numbers"),
+                    Err(FieldFault::WrongKind)
+                )
             );
         }
-        _ => assert!(rt; false),
+        Err(_) => assert!(rt; false),
     }
-    assert!(rt; matches!(pairs_at(alloc, &object, "absent"), Ok(None)));
-    assert!(rt;
-        matches!(
-            pairs_at(alloc, &object, "numbers"),
-            Err(FieldFault::WrongKind)
-        )
-    );
     Ok(())
 }
 
