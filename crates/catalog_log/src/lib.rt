@@ -10,6 +10,3 @@ pub use fault::RecordFault;
 pub use names::record_name;
 pub use printing::bytes_of_edit;
 pub use reading::{edit_at, edit_of};
-
-#[cfg(test)]
-mod tests;

@@ -9,6 +9,3 @@ mod table;
 pub use book::Book;
 pub use entry::{Act, Entry, LogStart, SharedCommit, SharedEdit};
 pub use table::{LogState, ReadyLog, ready};
-
-#[cfg(test)]
-mod tests;

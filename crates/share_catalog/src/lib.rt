@@ -27,6 +27,3 @@ pub use listing::{Bound, Granted};
 pub use location::Location;
 pub use name::{CatalogName, is_catalog_name_text};
 pub use table_name::TableName;
-
-#[cfg(test)]
-mod tests;

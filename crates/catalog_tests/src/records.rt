@@ -1,9 +1,9 @@
-// A record of each kind, read and written, and what is no record.
-use crate::{RecordFault, bytes_of_edit, edit_at, edit_of, record_name};
+// A record of each kind, read and written, long ones, and what is no record.
+use crate::texts::{joined, letters};
+use catalog_log::{RecordFault, bytes_of_edit, edit_at, edit_of, record_name};
 use json_tree::tree_of;
 use share_catalog::Edit;
-use std::alloc::{AllocError, Global};
-use std::test::Fail;
+use std::alloc::Global;
 
 const RECORDS: [&str; 10] = [
     "{\"edit\":{\"newShare\":{\"name\":\"s1\"}},\"version\":1}\n",
@@ -34,22 +34,83 @@ const BAD_RECORDS: [&str; 13] = [
     "{\"edit\":{\"grant\":{\"recipient\":\"r1\"}},\"version\":1}",
 ];
 
-// The record of the edit that a record stands for.
-fn again(alloc: Global, text: &str) -> Result<Option<Vec<u8>>, AllocError> {
-    match edit_of(alloc, text.as_bytes()) {
-        Ok(edit) => Ok(Some(bytes_of_edit(alloc, &edit)?)),
-        Err(_) => Ok(None),
+fn is_written(alloc: Global, edit: &Edit, record: &str) -> bool {
+    match bytes_of_edit(alloc, edit) {
+        Ok(bytes) => bytes.as_slice() == record.as_bytes(),
+        Err(_) => false,
     }
 }
 
+// Whether the record is written so again.
+fn is_record(alloc: Global, text: &str, again: &str) -> bool {
+    match edit_of(alloc, text.as_bytes()) {
+        Ok(edit) => is_written(alloc, &edit, again),
+        Err(_) => false,
+    }
+}
+
+// Whether the edit of the object has that record.
+fn is_edit(alloc: Global, object: &str, record: &str) -> Option<bool> {
+    let object = tree_of(alloc, object.as_bytes()).ok()?;
+    let edit = edit_at(alloc, &object).ok()?;
+    Some(is_written(alloc, &edit, record))
+}
+
+const LOOSE: &str =
+    " { \"version\": 1, \"more\": 2, \"edit\": {\"grant\": null, \"newShare\": {\"name\": \"s1\", \"x\": 1}, \"y\": 3} } ";
+
 #[test]
-fn each_kind_is_read_and_written(rt: HostRuntime) -> Result<(), Fail> {
+fn each_kind_is_read_and_written(rt: HostRuntime) {
     let alloc = rt.alloc();
     for text in RECORDS {
-        let bytes = again(alloc, text)?.expect(&rt, "a record");
-        assert!(rt; bytes.as_slice() == text.as_bytes());
+        assert!(rt; is_record(alloc, text, text));
     }
-    Ok(())
+    // Other members are passed over, and an object alone is an edit.
+    assert!(rt; is_record(alloc, LOOSE, RECORDS[0]));
+    let object = "{\"newShare\":{\"name\":\"s1\"}}";
+    assert!(rt; is_edit(alloc, object, RECORDS[0]) == Some(true));
+}
+
+// The record of a table whose names and location are as long as may be.
+fn longest(alloc: Global) -> Option<String> {
+    let name = letters(alloc, 128)?;
+    let location = letters(alloc, 256)?;
+    joined(
+        alloc,
+        &[
+            "{\"edit\":{\"bind\":{\"history\":true,\"location\":\"",
+            &location,
+            "\",\"schema\":\"",
+            &name,
+            "\",\"share\":\"",
+            &name,
+            "\",\"table\":\"",
+            &name,
+            "\"}},\"version\":1}\n",
+        ],
+        "",
+    )
+}
+
+#[test]
+fn long_records_are_read_and_written(rt: HostRuntime) {
+    let alloc = rt.alloc();
+    let text = longest(alloc).expect(&rt, "memory");
+    assert!(rt; text.len() == 735);
+    assert!(rt; is_record(alloc, &text, &text));
+    // A mebibyte is passed over.
+    let more = letters(alloc, 1 << 20).expect(&rt, "memory");
+    let pieces = [
+        "{\"x\":\"",
+        more.as_str(),
+        "\",\"newShare\":{\"name\":\"s1\"}}",
+    ];
+    let object = joined(alloc, &pieces, "").expect(&rt, "memory");
+    assert!(rt; is_edit(alloc, &object, RECORDS[0]) == Some(true));
+    let record = joined(alloc, &["{\"version\":1,\"edit\":", &object, "}"], "").expect(
+        &rt, "memory",
+    );
+    assert!(rt; is_record(alloc, &record, RECORDS[0]));
 }
 
 fn fault_of(alloc: Global, bytes: &[u8]) -> Option<RecordFault> {
@@ -60,50 +121,20 @@ fn fault_of(alloc: Global, bytes: &[u8]) -> Option<RecordFault> {
 }
 
 #[test]
-fn what_is_no_record_is_refused(rt: HostRuntime) -> Result<(), Fail> {
+fn what_is_no_record_is_refused(rt: HostRuntime) {
     let alloc = rt.alloc();
     for text in BAD_RECORDS {
         assert!(rt; fault_of(alloc, text.as_bytes()) == Some(RecordFault::BadRecord));
     }
     assert!(rt; fault_of(alloc, b"\"\xff\"") == Some(RecordFault::NotUtf8));
     assert!(rt; fault_of(alloc, b"{") == Some(RecordFault::NotJson));
-    Ok(())
 }
 
 #[test]
-fn other_members_are_passed_over(rt: HostRuntime) -> Result<(), Fail> {
+fn records_are_named_in_20_digits(rt: HostRuntime) {
     let alloc = rt.alloc();
-    let text =
-        " { \"version\": 1, \"more\": 2, \"edit\": {\"grant\": null, \"newShare\": {\"name\": \"s1\", \"x\": 1}, \"y\": 3} } ";
-    let bytes = again(alloc, text)?.expect(&rt, "a record");
-    assert!(rt; bytes.as_slice() == RECORDS[0].as_bytes());
-    Ok(())
-}
-
-fn is_new_share(edit: &Edit, name: &str) -> bool {
-    match edit {
-        Edit::NewShare { name: share } => share.as_str() == name,
-        _ => false,
-    }
-}
-
-#[test]
-fn an_object_alone_is_an_edit(rt: HostRuntime) -> Result<(), Fail> {
-    let alloc = rt.alloc();
-    let object = tree_of(alloc, b"{\"newShare\":{\"name\":\"s1\"}}")
-        .ok()
-        .expect(&rt, "an object");
-    let edit = edit_at(alloc, &object).ok().expect(&rt, "an edit");
-    assert!(rt; is_new_share(&edit, "s1"));
-    Ok(())
-}
-
-#[test]
-fn records_are_named_in_20_digits(rt: HostRuntime) -> Result<(), Fail> {
-    let alloc = rt.alloc();
-    let first = record_name(alloc, 0)?;
+    let first = record_name(alloc, 0).ok().expect(&rt, "memory");
     assert!(rt; first.as_str() == "_share_log/00000000000000000000.json");
-    let last = record_name(alloc, u64::MAX)?;
+    let last = record_name(alloc, u64::MAX).ok().expect(&rt, "memory");
     assert!(rt; last.as_str() == "_share_log/18446744073709551615.json");
-    Ok(())
 }

@@ -1,0 +1,32 @@
+// A book after one Begin on the catalogue, and a log that it may load.
+use edge_core::Name;
+use log_store::Commits;
+use share_book::{Book, ready};
+use std::alloc::Global;
+
+// Whether it is begun, how many entries and edits it has, and whether it has a log.
+fn begun(alloc: Global) -> Option<(bool, u64, u64, bool)> {
+    let mut book = Book::new(alloc).ok()?;
+    if book.reserve_catalog(alloc).is_err() {
+        return None;
+    }
+    let begun = book.begin(3, 0);
+    Some((begun, book.len(), book.edit_count(), book.has_log("t")))
+}
+
+#[test]
+fn begins_on_the_catalogue(rt: HostRuntime) {
+    let alloc = rt.alloc();
+    assert!(rt; matches!(begun(alloc), Some((true, 1, 0, false))));
+}
+
+fn is_ready(alloc: Global, location: &str) -> Option<bool> {
+    let location = Name::of(String::from_str(alloc, location).ok()?)?;
+    let log = ready(alloc, location, Commits::of(Vec::new(alloc)), 0, None);
+    Some(log.is_ok())
+}
+
+#[test]
+fn a_log_without_commits_is_ready(rt: HostRuntime) {
+    assert!(rt; is_ready(rt.alloc(), "t") == Some(true));
+}
