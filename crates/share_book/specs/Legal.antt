@@ -1,5 +1,5 @@
 -- Which histories are legal.
-use Rattle.std.specs.Prelude.{◌≡◌, ℕ, ◌+◌, ◌^◌, ◌<◌, ◌≤◌, List, [], ◌∷◌, ◌++◌, Bool, true, false, Option, Some, None, IfSome, option_map, position, length, bytes_eq}
+use Rattle.std.specs.Prelude.{◌≡◌, ℕ, ◌+◌, ◌^◌, ◌<◌, ◌≤◌, List, [], ◌∷◌, ◌++◌, Bool, true, false, Option, Some, None, IfSome, option_map, position, length, map, bytes_eq}
 use Rattle.std.specs.List.{list_any}
 use Rattle.log_actions.specs.declared.actions.Action.{Action}
 use Rattle.log_replay.specs.Standing.{IsSupported}
@@ -23,6 +23,10 @@ has_log h location = list_any (is_at location) (starts h)
 -- the number of the log at a location
 abbrev pub log_at : List Entry → List ℕ → Option ℕ
 log_at h location = option_map (λ i. i + 1) (position (is_at location) (starts h))
+
+-- where the logs are stored, log 1 first
+abbrev pub locations_of : List Entry → List (List ℕ)
+locations_of h = map (λ s. s.location) (starts h)
 
 -- it is there, and this holds of it
 abbrev pub There : {X : Type 0} → Option X → (X → Type 0) → Type 0

@@ -2,15 +2,19 @@
 use Rattle.std.specs.Prelude.{◌≡◌, ℕ, ◌+◌, ◌-◌, ◌≤◌, [], ◌∷◌, ◌++◌, List, length, Some}
 use Rattle.log_actions.specs.declared.actions.Action.{Action}
 use Rattle.log_actions.specs.CommitTexts.{printed_bytes}
+use Rattle.log_replay.specs.Times.{marks_in}
+use Rattle.log_replay.specs.declared.times.Mark.{Mark}
 use Rattle.share_book.specs.declared.table.LogState.{LogState}
 use Rattle.share_book.specs.declared.entry.LogStart.{LogStart}
 use Rattle.share_book.specs.Legal.{IsKeptLog}
 use Rattle.share_book.specs.TableView.{TableLog, TableView}
 
-pub record IsTable (commits : List (List Action)) (bytes len capacity room : ℕ) : Type 0 where
+pub record IsTable (commits : List (List Action)) (marks : List Mark) (bytes len capacity marks_len marks_capacity room : ℕ) : Type 0 where
   pub kept : IsKeptLog commits
   pub counted : bytes ≡ printed_bytes commits
+  pub marked : marks ≡ marks_in commits
   pub fits : len + room ≤ capacity
+  pub marks_fit : marks_len + room ≤ marks_capacity
 
 -- the log as it begins
 abbrev pub log_from : LogStart → TableLog

@@ -1,22 +1,25 @@
 // What the turn is taken for.
-ghost use Rattle.std.specs.Prelude.{◌≡◌, ◌<◌, ◌≤◌, ◌+◌, ◌-◌, ◌++◌, ◌∷◌, [], length, slice_index, None, Some, IfOk, IfSome, OnOk, OnErr, IsSome, MatchBool, true, map};
+ghost use Rattle.std.specs.Prelude.{◌≡◌, ℕ, ◌<◌, ◌≤◌, ◌+◌, ◌-◌, ◌++◌, ◌∷◌, [], length, slice_index, None, Some, IfOk, IfSome, OnOk, OnErr, IsSome, MatchBool, true, map, position};
 ghost use Rattle.std.specs.List.{list_any};
 ghost use Rattle.share_catalog.specs.Catalogue.{bound_location, refusal_of};
 ghost use Rattle.share_catalog.specs.CatalogState.{unless};
 ghost use Rattle.log_actions.specs.CommitTexts.{commit_text};
 ghost use Rattle.share_book.specs.History as history;
 ghost use Rattle.share_book.specs.History.{caller_of, entry, open_on, pending, starts, table_on};
-ghost use Rattle.share_book.specs.Legal.{Follows, IsKeptLog, IsLegal, TakesCommit, There, TakesLog, has_log};
+ghost use Rattle.share_book.specs.Legal.{Follows, IsKeptLog, IsLegal, TakesCommit, There, TakesLog, has_log, locations_of, log_at};
+ghost use Rattle.log_replay.specs.Times.{marks_in};
 ghost use Rattle.share_book.specs.Tables.{IsState};
 ghost use Rattle.std.specs.Arc.{arc_value};
 ghost use Rattle.share_book.specs.Pasts.{Raised};
-ghost use Rattle.share_book.specs.Books.{HasRooms, OthersRest, OwnIsLawful, commit_act, committed, is_table_at, added, edit_act, edited, loaded, rests};
+ghost use Rattle.share_book.specs.Books.{HasRooms, OthersRest, location, OwnIsLawful, commit_act, committed, is_table_at, added, edit_act, edited, loaded, rests};
 ghost use Rattle.share_book.specs.declared.entry.Act.TheVariants as act;
 
 use crate::entry::{Act, Entry, SharedCommit, SharedEdit};
 use crate::past::Past;
 use crate::table::{LogState, ReadyLog, Table};
+use edge_core::Name;
 use log_actions::Commit;
+use log_replay::Mark;
 use share_catalog::{Catalog, Edit, EditRefusal};
 use std::alloc::{AllocError, Global};
 use std::marker::Model;
@@ -63,6 +66,24 @@ fn has_table(tables: &[Table], location: &str) -> bool
     tables.iter().any(|table| is_table_at(table, location))
 }
 
+// Where the tables are stored, in their order.
+fn locations_of(alloc: Global, tables: &[Table]) -> Result<Vec<Name>, AllocError>
+    ensures { IfOk result (λ v. v.items ≡ map location tables.now) }
+{
+    let mut names = Vec::new(alloc);
+    for table in tables {
+        names.push(table.location().copy(alloc)?)?;
+    }
+    Ok(names)
+}
+
+// Which of the tables is stored at the location.
+fn place_of(tables: &[Table], location: &str) -> Option<usize>
+    ensures { result ≡ position (is_table_at location.now) tables.now }
+{
+    tables.iter().position(|table| is_table_at(table, location))
+}
+
 fn is_table_at(table: &Table, location: &str) -> bool
     ensures { result ≡ is_table_at location.now table.now }
 {
@@ -103,18 +124,64 @@ impl Book {
 
     /// Takes memory for four entries on log 0, an edit and a log. The error is want of memory; some of it may be taken then.
     pub fn reserve_catalog(&mut self, alloc: Global) -> Result<(), AllocError>
-        ensures raised { Raised self.old.past self.new.past }
+        ensures raised { Raised 0 self.old.past self.new.past }
         ensures tables { self.new.commit_rooms ≡ self.old.commit_rooms }
         ensures logs { self.old.past.log_room ≤ self.new.past.log_room }
         ensures edits { 1 ≤ self.old.edit_room → 1 ≤ self.new.edit_room }
         ensures ready { OnOk result (HasRooms self.new) }
         ensures others { OthersRest 0 self.old → OthersRest 0 self.new }
     {
+        self.past.len();
         self.tables.reserve(1)?;
         self.catalog.reserve(alloc)?;
         self.past.reserve_log()?;
-        self.past.reserve()?;
+        self.past.reserve(0)?;
         Ok(())
+    }
+
+    /// Takes memory for four entries on a table's log, and a commit. The error is want of memory; some of it may be taken then.
+    pub fn reserve(&mut self, log: u32) -> Result<(), AllocError>
+        requires there { log < length self.old.past.rooms }
+        requires table { 0 < log }
+        ensures raised { Raised log self.old.past self.new.past }
+        ensures logs { self.new.past.log_room ≡ self.old.past.log_room }
+        ensures edits { self.new.edit_room ≡ self.old.edit_room }
+        ensures commits { (i : ℕ) → slice_index self.old.commit_rooms i ≤ slice_index self.new.commit_rooms i }
+        ensures ready { OnOk result ((4 ≤ slice_index self.new.past.rooms log) × (1 ≤ slice_index self.new.commit_rooms (log - 1))) }
+        ensures others { OthersRest log self.old → OthersRest log self.new }
+    {
+        self.past.len();
+        let table = &mut self.tables[log as usize - 1];
+        table.reserve()?;
+        self.past.reserve(log)?;
+        Ok(())
+    }
+
+    /// The marks of a table's versions, version 0 first.
+    pub fn marks(&self, log: u32) -> &[Mark]
+        requires there { log < length self.now.past.rooms }
+        requires table { 0 < log }
+        ensures { There (table_on log self.now.past.history) (λ t. result.now ≡ marks_in t.commits) }
+    {
+        self.past.len();
+        let table = &self.tables[log as usize - 1];
+        table.marks()
+    }
+
+    /// The number of the log that was loaded from the location, from 1 on, none where none was.
+    pub fn log_of(&self, location: &str) -> Option<u32>
+        ensures { result ≡ log_at self.now.past.history location.now }
+    {
+        self.past.len();
+        let place = place_of(&self.tables, location)?;
+        Some(place as u32 + 1)
+    }
+
+    /// The locations of the logs, in the order in which they were loaded. The error is want of memory.
+    pub fn locations(&self, alloc: Global) -> Result<Vec<Name>, AllocError>
+        ensures { IfOk result (λ v. v.items ≡ locations_of self.now.past.history) }
+    {
+        locations_of(alloc, &self.tables)
     }
 
     /// Adds a Begin, unless one is open on the log. Then nothing changes.

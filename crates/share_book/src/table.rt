@@ -1,14 +1,16 @@
 // A table's log as the book keeps it.
-ghost use Rattle.std.specs.Prelude.{◌≡◌, ◌<◌, ◌≤◌, [], ◌∷◌, ◌++◌, IfOk, IfSome, length, map};
+ghost use Rattle.std.specs.Prelude.{◌≡◌, ◌<◌, ◌≤◌, [], ◌∷◌, ◌++◌, IfOk, IfSome, OnOk, length, map};
 ghost use Rattle.std.specs.Arc.{arc_value};
 ghost use Rattle.log_actions.specs.CommitTexts.{printed_bytes};
 ghost use Rattle.log_actions.specs.CommitTexts.{commit_text};
+ghost use Rattle.log_replay.specs.Times.{marks_in};
 ghost use Rattle.share_book.specs.Legal.{IsKeptLog};
 ghost use Rattle.share_book.specs.Tables.{IsState, with_block, with_commit};
 
 use crate::entry::LogStart;
 use edge_core::Name;
 use log_actions::Commit;
+use log_replay::{Mark, mark_of, marks_of};
 use log_store::Commits;
 use std::alloc::{AllocError, Global};
 use std::marker::Model;
@@ -30,6 +32,7 @@ pub struct LogState {
 pub(crate) struct Table {
     location: Name,
     commits: Vec<Arc<Commit>>,
+    marks: Vec<Mark>,
     bytes: u64,
     block: Option<u64>,
     // For how many more commits there is room.
@@ -48,7 +51,7 @@ impl Model for Table {
 
     ghost view = { λ t. record { log = record { location = t.location; commits = map arc_value t.commits.items; block = t.block }; room = t.room } };
 
-    ghost invariant = { λ t. IsTable (map arc_value t.commits.items) t.bytes (vec_len t.commits) (vec_capacity t.commits) t.room };
+    ghost invariant = { λ t. IsTable (map arc_value t.commits.items) t.marks.items t.bytes (vec_len t.commits) (vec_capacity t.commits) (vec_len t.marks) (vec_capacity t.marks) t.room };
 }
 
 impl Table {
@@ -64,6 +67,28 @@ impl Table {
         ensures { IfOk result (λ v. map arc_value v.items ≡ self.now.log.commits) }
     {
         shared(alloc, &self.commits)
+    }
+
+    /// The marks of its versions, in order.
+    pub(crate) fn marks(&self) -> &[Mark]
+        ensures { result.now ≡ marks_in self.now.log.commits }
+    {
+        &self.marks
+    }
+
+    /// Takes memory for one commit. The error is want of memory; some of it may be taken then.
+    pub(crate) fn reserve(&mut self) -> Result<(), AllocError>
+        ensures same { self.new.log ≡ self.old.log }
+        ensures no_fewer { self.old.room ≤ self.new.room }
+        ensures ready { OnOk result (1 ≤ self.new.room) }
+    {
+        if self.room > 0 {
+            return Ok(());
+        }
+        self.commits.reserve(1)?;
+        self.marks.reserve(1)?;
+        self.room = 1;
+        Ok(())
     }
 
     /// How many commits there are, and the bytes of their texts.
@@ -95,6 +120,9 @@ impl Table {
         requires bytes { bytes ≡ length (commit_text commit.value) }
         ensures { self.new ≡ with_commit self.old commit.value }
     {
+        let version = self.commits.len() as u64;
+        let mark = mark_of(self.marks.last(), version, &commit);
+        self.marks.push_reserved(mark);
         self.commits.push_reserved(commit);
         self.bytes += bytes;
         self.room -= 1;
@@ -147,6 +175,7 @@ pub fn ready(
     let table = Table {
         location: location.copy(alloc)?,
         commits: shared(alloc, commits.items())?,
+        marks: marks_of(alloc, commits.items())?,
         bytes,
         block,
         room: 0,
