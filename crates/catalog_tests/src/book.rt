@@ -4,20 +4,24 @@ use log_store::Commits;
 use share_book::{Book, ready};
 use std::alloc::Global;
 
-// Whether it is begun, how many entries and edits it has, and whether it has a log.
-fn begun(alloc: Global) -> Option<(bool, u64, u64, bool)> {
+// Whether it is begun, how many entries and edits it has, and how many logs.
+fn begun(alloc: Global) -> Option<(bool, u64, u64, usize)> {
     let mut book = Book::new(alloc).ok()?;
     if book.reserve_catalog(alloc).is_err() {
         return None;
     }
     let begun = book.begin(3, 0);
-    Some((begun, book.len(), book.edit_count(), book.has_log("t")))
+    if book.has_log("t") || book.log_of("t").is_some() {
+        return None;
+    }
+    let locations = book.locations(alloc).ok()?;
+    Some((begun, book.len(), book.edit_count(), locations.len()))
 }
 
 #[test]
 fn begins_on_the_catalogue(rt: HostRuntime) {
     let alloc = rt.alloc();
-    assert!(rt; matches!(begun(alloc), Some((true, 1, 0, false))));
+    assert!(rt; matches!(begun(alloc), Some((true, 1, 0, 0))));
 }
 
 fn is_ready(alloc: Global, location: &str) -> Option<bool> {

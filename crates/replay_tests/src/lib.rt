@@ -11,6 +11,8 @@ mod moments;
 #[cfg(test)]
 mod predicates;
 #[cfg(test)]
+mod probes;
+#[cfg(test)]
 mod states;
 #[cfg(test)]
 mod values;

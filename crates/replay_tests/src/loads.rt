@@ -6,22 +6,22 @@ use log_replay::{Cause, ReplayRefusal};
 use log_store::{Block, BlockCause, LoadRefusal, Loaded, load};
 use std::alloc::{AllocError, Global};
 
-const START: &[u8] =
+pub(crate) const START: &[u8] =
     b"{\"protocol\":{\"minReaderVersion\":1,\"minWriterVersion\":2}}\n{\"metaData\":{\"id\":\"1\",\"schemaString\":\"{}\",\"format\":{\"provider\":\"parquet\"}}}\n";
 
 const META: &[u8] = b"{\"metaData\":{\"id\":\"1\",\"schemaString\":\"{}\"}}\n";
 
-const ADD: &[u8] = b"{\"add\":{\"path\":\"a\",\"size\":1}}\n";
+pub(crate) const ADD: &[u8] = b"{\"add\":{\"path\":\"a\",\"size\":1}}\n";
 
 const VECTOR: &[u8] = b"{\"remove\":{\"path\":\"a\",\"deletionVector\":{}}}\n";
 
-const NOT_UTF8: &[u8] = b"\xff\n";
+pub(crate) const NOT_UTF8: &[u8] = b"\xff\n";
 
-type Objects = &'static [(&'static str, &'static [u8])];
+pub(crate) type Objects = &'static [(&'static str, &'static [u8])];
 
-const V0: &str = "t/_delta_log/00000000000000000000.json";
+pub(crate) const V0: &str = "t/_delta_log/00000000000000000000.json";
 
-const V1: &str = "t/_delta_log/00000000000000000001.json";
+pub(crate) const V1: &str = "t/_delta_log/00000000000000000001.json";
 
 const V2: &str = "t/_delta_log/00000000000000000002.json";
 
@@ -108,7 +108,7 @@ fn stored(alloc: Global, (text, content): (&str, &[u8])) -> Result<Option<Stored
 }
 
 // A store of these objects whose call of that number fails, and to which others add the last objects before call 3.
-fn store_of(
+pub(crate) fn store_of(
     alloc: Global,
     objects: Objects,
     fail: u64,
