@@ -40,7 +40,7 @@ const GRANT_S1: &str = "{\"grant\":{\"recipient\":\"r1\",\"share\":\"s1\"}}";
 const REVOKE_R2: &str = "{\"revoke\":{\"recipient\":\"r2\",\"share\":\"s1\"}}";
 
 // A share.
-const SHARES: [&str; 2] = ["{\"newShare\":{\"name\":\"s", "\"}}"];
+const SHARES: [&str; 3] = ["{\"newShare\":{\"name\":\"s", "\"}}", ""];
 
 // A table at a location of its own.
 const TABLES_APART: [&str; 3] = [
@@ -50,13 +50,14 @@ const TABLES_APART: [&str; 3] = [
 ];
 
 // A table at one location with the others.
-const TABLES: [&str; 2] = [
+const TABLES: [&str; 3] = [
     "{\"bind\":{\"history\":true,\"location\":\"at\",\"schema\":\"d\",\"share\":\"s1\",\"table\":\"t",
     "\"}}",
+    "",
 ];
 
 // A grant.
-const GRANTS: [&str; 2] = ["{\"grant\":{\"recipient\":\"r1\",\"share\":\"s", "\"}}"];
+const GRANTS: [&str; 3] = ["{\"grant\":{\"recipient\":\"r1\",\"share\":\"s", "\"}}", ""];
 
 fn edit(alloc: Global, text: &str) -> Option<Edit> {
     let object = tree_of(alloc, text.as_bytes()).ok()?;
@@ -209,12 +210,12 @@ fn what_is_rotated_or_dropped_is_gone(rt: HostRuntime) {
     assert!(rt; granted_at(&catalog, "r1", "s1") == Some(2));
 }
 
-// Makes the edits of these pieces with each of the numbers in them: the last number that is one too many,
-// or 0.
+// Makes the edits of these pieces, with each of the numbers behind the first and, where there is a third, behind the
+// second: the last number that is one too many, or 0.
 fn make_numbered(
     catalog: &mut Catalog,
     alloc: Global,
-    pieces: &[&str],
+    pieces: [&str; 3],
     from: u32,
     to: u32,
     limit: u32,
@@ -222,7 +223,12 @@ fn make_numbered(
     let mut refused = 0;
     for number in from..to {
         let digits = format!(in alloc; "{number}").ok()?;
-        let text = joined(alloc, pieces, &digits)?;
+        let again = if pieces[2].is_empty() {
+            ""
+        } else {
+            digits.as_str()
+        };
+        let text = joined(alloc, &[pieces[0], &digits, pieces[1], again, pieces[2]])?;
         match make(catalog, alloc, &text)? {
             Ok(()) => {}
             Err(EditRefusal::Full { limit: most }) if most == limit => refused = number,
@@ -236,18 +242,18 @@ fn make_numbered(
 fn shares_end_at_1024_and_locations_at_32(rt: HostRuntime) {
     let alloc = rt.alloc();
     let mut catalog = Catalog::new(alloc);
-    assert!(rt; make_numbered(&mut catalog, alloc, &SHARES, 0, 1025, 1024) == Some(1024));
+    assert!(rt; make_numbered(&mut catalog, alloc, SHARES, 0, 1025, 1024) == Some(1024));
     assert!(rt; make_all(&mut catalog, alloc, &[DROP_S1, NEW_S1]));
-    assert!(rt; make_numbered(&mut catalog, alloc, &TABLES_APART, 0, 33, 32) == Some(32));
+    assert!(rt; make_numbered(&mut catalog, alloc, TABLES_APART, 0, 33, 32) == Some(32));
 }
 
 // 900 shares, and 550 tables and grants.
 fn large(alloc: Global) -> Option<Catalog> {
     let mut catalog = Catalog::new(alloc);
-    make_numbered(&mut catalog, alloc, &SHARES, 0, 900, 0)?;
+    make_numbered(&mut catalog, alloc, SHARES, 0, 900, 0)?;
     make(&mut catalog, alloc, NEW_R1)?.ok()?;
-    make_numbered(&mut catalog, alloc, &TABLES, 100, 650, 0)?;
-    make_numbered(&mut catalog, alloc, &GRANTS, 100, 650, 0)?;
+    make_numbered(&mut catalog, alloc, TABLES, 100, 650, 0)?;
+    make_numbered(&mut catalog, alloc, GRANTS, 100, 650, 0)?;
     Some(catalog)
 }
 

@@ -88,7 +88,6 @@ fn longest(alloc: Global) -> Option<String> {
             &name,
             "\"}},\"version\":1}\n",
         ],
-        "",
     )
 }
 
@@ -105,11 +104,9 @@ fn long_records_are_read_and_written(rt: HostRuntime) {
         more.as_str(),
         "\",\"newShare\":{\"name\":\"s1\"}}",
     ];
-    let object = joined(alloc, &pieces, "").expect(&rt, "memory");
+    let object = joined(alloc, &pieces).expect(&rt, "memory");
     assert!(rt; is_edit(alloc, &object, RECORDS[0]) == Some(true));
-    let record = joined(alloc, &["{\"version\":1,\"edit\":", &object, "}"], "").expect(
-        &rt, "memory",
-    );
+    let record = joined(alloc, &["{\"version\":1,\"edit\":", &object, "}"]).expect(&rt, "memory");
     assert!(rt; is_record(alloc, &record, RECORDS[0]));
 }
 

@@ -10,13 +10,10 @@ pub(crate) fn letters(alloc: Global, count: usize) -> Option<String> {
     Some(text)
 }
 
-// The pieces, with this text behind each but the last.
-pub(crate) fn joined(alloc: Global, pieces: &[&str], between: &str) -> Option<String> {
+// The pieces, one after another.
+pub(crate) fn joined(alloc: Global, pieces: &[&str]) -> Option<String> {
     let mut text = String::new(alloc);
     for piece in pieces {
-        if !text.is_empty() {
-            text.push_str(between).ok()?;
-        }
         text.push_str(piece).ok()?;
     }
     Some(text)

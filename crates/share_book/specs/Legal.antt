@@ -11,7 +11,7 @@ use Rattle.share_book.specs.declared.entry.Entry.{Entry}
 use Rattle.share_book.specs.declared.entry.Act.{Act}
 use Rattle.share_book.specs.declared.entry.Act.TheVariants.{Begin, Own, Found, OwnEdit, FoundEdit, Load, Blocked, Abort}
 use Rattle.share_book.specs.History.{edit_of, edits, open_on, pending, starts, table_on}
-use Rattle.share_book.specs.Lawful.{is_lawful}
+use Rattle.commit_check.specs.Lawful.{is_lawful}
 
 abbrev pub is_at : List ℕ → LogStart → Bool
 is_at location s = bytes_eq s.location location

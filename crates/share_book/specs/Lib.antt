@@ -1,5 +1,4 @@
 pub mod History
-pub mod Lawful
 pub mod Legal
 pub mod PastView
 pub mod Pasts

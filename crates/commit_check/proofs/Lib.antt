@@ -1,0 +1,11 @@
+pub mod Places
+pub mod Badness
+pub mod Sets
+pub mod Paths
+pub mod Chosen
+pub mod Entries
+pub mod Still
+pub mod Lawfulness
+pub mod Presence
+pub mod Trial
+pub mod Order

@@ -1,0 +1,10 @@
+pub mod Lawful
+pub mod Offers
+pub mod Winners
+pub mod Admission
+pub mod Laws
+pub mod Lookups
+pub mod Known
+pub mod ReadFiles
+pub mod Shown
+pub mod Places
