@@ -1,13 +1,18 @@
 // Offers to a table that has no version yet, each with the answer that follows by hand.
-use commit_check::{Conflict, NotAdmitted, Offer, Reads, admit};
-use edge_core::Name;
-use json_tree::Version;
-use log_actions::{Action, Actions, CommitTime, action_of_line};
+use crate::offers::{NOW, Rests, Told, actions, offer};
+use commit_check::{Conflict, NotAdmitted, Offer, admit};
+use log_actions::CommitTime;
 use std::alloc::Global;
 
 const PROTOCOL: &str = "{\"protocol\":{\"minReaderVersion\":1,\"minWriterVersion\":2}}";
 
 const WRITER_5: &str = "{\"protocol\":{\"minReaderVersion\":1,\"minWriterVersion\":5}}";
+
+const WRITER_7: &str =
+    "{\"protocol\":{\"minReaderVersion\":1,\"minWriterVersion\":7,\"writerFeatures\":[\"appendOnly\",\"invariants\",\"checkConstraints\",\"changeDataFeed\",\"generatedColumns\",\"timestampNtz\",\"vacuumProtocolCheck\"]}}";
+
+const WRITER_OTHER: &str =
+    "{\"protocol\":{\"minReaderVersion\":1,\"minWriterVersion\":7,\"writerFeatures\":[\"appendOnly\",\"rowTracking\"]}}";
 
 const META: &str = "{\"metaData\":{\"id\":\"m\",\"schemaString\":\"{}\"}}";
 
@@ -21,16 +26,15 @@ const REMOVE: &str = "{\"remove\":{\"path\":\"old\"}}";
 
 const INFO: &str = "{\"commitInfo\":{\"timestamp\":3}}";
 
-// What an offer is answered: how many actions its commit has, or the conflict.
-#[derive(Clone, Copy, PartialEq, Eq)]
-enum Told {
-    Commit(usize),
-    Conflict(Conflict),
-    NoMemory,
-}
-
-static ROWS: [(Option<u64>, &[&str], Told); 8] = [
+static ROWS: [(Option<u64>, &[&str], Told); 11] = [
     (None, &[PROTOCOL, META, TXN], Told::Commit(4)),
+    (None, &[WRITER_7, META], Told::Commit(3)),
+    (
+        None,
+        &[WRITER_OTHER, META],
+        Told::Conflict(Conflict::WriterUnsupported),
+    ),
+    (None, &[], Told::Conflict(Conflict::BadOffer { n: 0 })),
     (
         Some(0),
         &[ADD],
@@ -68,36 +72,8 @@ static ROWS: [(Option<u64>, &[&str], Told); 8] = [
     ),
 ];
 
-fn action(alloc: Global, line: &str) -> Option<Action> {
-    match action_of_line(alloc, line.as_bytes()) {
-        Ok(action) => action,
-        Err(_) => None,
-    }
-}
-
-fn actions(alloc: Global, lines: &[&str]) -> Option<Vec<Action>> {
-    let mut actions = Vec::new(alloc);
-    for line in lines {
-        actions.push(action(alloc, line)?).ok()?;
-    }
-    Some(actions)
-}
-
-fn version(read: Option<u64>) -> Option<Version> {
-    Version::of(read?)
-}
-
-fn offer(alloc: Global, read: Option<u64>, actions: Vec<Action>) -> Option<Offer> {
-    Some(Offer {
-        location: Name::of(String::from_str(alloc, "t").ok()?)?,
-        read: version(read),
-        reads: Reads::All,
-        actions: Actions::of(actions),
-    })
-}
-
 fn admitted(alloc: Global, offer: &Offer) -> Option<Told> {
-    let now = CommitTime::of(1_700_000_000_000)?;
+    let now = CommitTime::of(NOW)?;
     match &admit(alloc, &[], None, None, now, offer) {
         Ok(commit) => Some(Told::Commit(commit.actions().len())),
         Err(NotAdmitted::Conflict(conflict)) => Some(Told::Conflict(*conflict)),
@@ -106,7 +82,7 @@ fn admitted(alloc: Global, offer: &Offer) -> Option<Told> {
 }
 
 fn answer(alloc: Global, read: Option<u64>, lines: &[&str]) -> Option<Told> {
-    let offer = offer(alloc, read, actions(alloc, lines)?)?;
+    let offer = offer(alloc, "t", read, Rests::All, actions(alloc, lines)?)?;
     admitted(alloc, &offer)
 }
 

@@ -4,3 +4,11 @@
 
 #[cfg(test)]
 mod begun;
+#[cfg(test)]
+mod large;
+#[cfg(test)]
+mod offers;
+#[cfg(test)]
+mod replayed;
+#[cfg(test)]
+mod rows;
