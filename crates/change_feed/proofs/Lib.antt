@@ -1,0 +1,4 @@
+pub mod MarkLemmas
+pub mod RangeLemmas
+pub mod LawLemmas
+pub mod StepLemmas

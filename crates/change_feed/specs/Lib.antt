@@ -1,0 +1,5 @@
+pub mod Changes
+pub mod Feed
+pub mod Known
+pub mod Laws
+pub mod Shown

@@ -1,0 +1,153 @@
+// A change of the feed.
+ghost use Rattle.std.specs.Prelude.{◌≡◌, [], None, unwrap_or};
+
+use json_tree::{Pairs, Text, Version};
+use log_actions::{AddFile, CdcFile, FileSize, RemoveFile};
+use std::marker::Model;
+
+/// What a version did with the data of a file (Delta Sharing PROTOCOL.md, "Read Change Data Feed from
+/// a Table").
+#[derive(Clone, Copy, Debug, PartialEq, Eq)]
+pub enum ChangeKind {
+    /// The file came in with its rows ("Add File").
+    Add,
+    /// The file has the changed rows themselves, each with how it changed ("CDF File").
+    Cdf,
+    /// The file went with its rows ("Remove File").
+    Remove,
+}
+
+/// A change of the feed, borrowed of the commit that it came with.
+#[derive(Drop)]
+pub struct Change<'a> {
+    kind: ChangeKind,
+    path: &'a Text,
+    values: Option<&'a Pairs>,
+    size: FileSize,
+    stats: Option<&'a Option<Text>>,
+    version: Version,
+    time: i64,
+}
+
+impl<'a> Model for Change<'a> {
+    ghost use Rattle.std.specs.Prelude.{[], None, option_map, unwrap_or};
+    ghost use Rattle.change_feed.specs.Changes.{ChangedFile};
+
+    ghost Value = { ChangedFile };
+
+    ghost view = { λ c. record { kind = c.kind; path = c.path.now; values = unwrap_or (option_map (λ v. v.now) c.values) []; size = c.size; stats = unwrap_or (option_map (λ s. s.now) c.stats) None; version = c.version; time = c.time } };
+}
+
+// The size that is said, or 0.
+fn size_or_zero(size: Option<FileSize>) -> FileSize
+    ensures { result ≡ unwrap_or size 0 }
+{
+    match (size, FileSize::of(0)) {
+        (Some(size), _) => size,
+        (None, Some(zero)) => zero,
+        (None, None) => unreachable!(),
+    }
+}
+
+impl<'a> Change<'a> {
+    ghost use Rattle.change_feed.specs.Changes.{added_file, removed_file, row_file};
+
+    // A file of changed rows.
+    pub(crate) fn of_rows(version: Version, time: i64, file: &'a CdcFile) -> Change<'a>
+        ensures { result ≡ row_file version time file.now }
+    {
+        Change {
+            kind: ChangeKind::Cdf,
+            path: &file.path,
+            values: Some(&file.values),
+            size: file.size,
+            stats: None,
+            version,
+            time,
+        }
+    }
+
+    // A file that came in.
+    pub(crate) fn of_add(version: Version, time: i64, file: &'a AddFile) -> Change<'a>
+        ensures { result ≡ added_file version time file.now }
+    {
+        Change {
+            kind: ChangeKind::Add,
+            path: &file.path,
+            values: Some(&file.values),
+            size: file.size,
+            stats: Some(&file.stats),
+            version,
+            time,
+        }
+    }
+
+    // A file that went.
+    pub(crate) fn of_remove(version: Version, time: i64, file: &'a RemoveFile) -> Change<'a>
+        ensures { result ≡ removed_file version time file.now }
+    {
+        Change {
+            kind: ChangeKind::Remove,
+            path: &file.path,
+            values: file.values.as_ref(),
+            size: size_or_zero(file.size),
+            stats: None,
+            version,
+            time,
+        }
+    }
+
+    /// What was done with the file.
+    pub fn kind(&self) -> ChangeKind
+        ensures { result ≡ self.now.kind }
+    {
+        self.kind
+    }
+
+    /// `path`, as it is spelt in the log.
+    pub fn path(&self) -> &Text
+        ensures { result.now ≡ self.now.path }
+    {
+        self.path
+    }
+
+    /// `partitionValues`, texts or nulls by name of column; none where a remove doesn't say them, for
+    /// which `none`, the empty list, is lent.
+    pub fn values<'b>(&'b self, none: &'b Pairs) -> &'b Pairs
+        requires { none.now ≡ [] }
+        ensures { result.now ≡ self.now.values }
+    {
+        self.values.unwrap_or(none)
+    }
+
+    /// `size` in bytes, 0 where a remove doesn't say it.
+    pub fn size(&self) -> FileSize
+        ensures { result ≡ self.now.size }
+    {
+        self.size
+    }
+
+    /// `stats`, the file's statistics as a text of JSON. Only an add has them; for the others `none` is
+    /// lent.
+    pub fn stats<'b>(&'b self, none: &'b Option<Text>) -> &'b Option<Text>
+        requires { none.now ≡ None }
+        ensures { result.now ≡ self.now.stats }
+    {
+        self.stats.unwrap_or(none)
+    }
+
+    /// The version that it came with.
+    pub fn version(&self) -> Version
+        ensures { result ≡ self.now.version }
+    {
+        self.version
+    }
+
+    /// The version's time, in milliseconds since the start of 1970 in UTC, any number of 64 bits with
+    /// sign.
+    pub fn time(&self) -> i64
+        ensures { result ≡ self.now.time }
+    {
+        self.time
+    }
+}
