@@ -1,5 +1,5 @@
 -- The body of a query (Delta Sharing PROTOCOL.md, "Read Data from a Table").
-use Rattle.std.specs.Prelude.{ℕ, ◌+◌, ◌-◌, ◌^◌, ℤ, pos, negsuc, List, [], ◌∷◌, Bool, true, false, Option, Some, None, Result, Ok, Err, is_some, is_none, nat_le, ◌&&◌, if◌then◌else◌, codes}
+use Rattle.std.specs.Prelude.{ℕ, ◌-◌, ◌^◌, ℤ, pos, negsuc, List, [], ◌∷◌, Bool, true, false, Option, Some, None, Result, Ok, Err, is_some, is_none, nat_le, ◌&&◌, if◌then◌else◌, codes}
 use Rattle.std.specs.Result.{result_ok}
 use Rattle.serde_json.specs.Data.{Data}
 use Rattle.serde_json.specs.Find.{as_str, as_object}

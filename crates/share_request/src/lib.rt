@@ -1,9 +1,21 @@
-//! The requests of a Delta Sharing server, read from their bytes (Delta Sharing PROTOCOL.md, "REST
-//! APIs"). So far this is the body of a query.
+//! The requests of a Delta Sharing server, read from their heads and bodies (Delta Sharing PROTOCOL.md, "REST APIs"): what is
+//! asked, or the first reason why not.
 #![tactic(auto)]
 
+mod asked;
+mod bearer;
+mod body;
+mod fault;
+mod law;
+mod parameter;
+mod path;
 mod query;
-#[cfg(test)]
-mod tests;
+mod request;
+mod target;
 
+pub use asked::{Bound, ByToken, ListPage, Request, What};
+pub use bearer::bearer_of;
+pub use fault::{Parameter, RequestFault, TurnedAway};
+pub use law::{links_have_one_spelling, requests_are_in_form, unknown_is_passed_over};
 pub use query::{QueryBody, QueryFault, QueryField, query_of};
+pub use request::request_of;

@@ -137,7 +137,7 @@ fn between(
 }
 
 // The instant that a text writes, in nanoseconds.
-fn moment_of(text: &str) -> Option<i128>
+pub(crate) fn moment_of(text: &str) -> Option<i128>
     ensures { result ≡ spec.moment_of text.now }
 {
     let instant: Timestamp = text.parse().ok()?;
@@ -168,7 +168,7 @@ fn absent(field: QueryField, object: &Value, name: &str) -> Result<(), QueryFaul
     }
 }
 
-fn unless_empty(token: Option<Text>) -> Option<Text>
+pub(crate) fn unless_empty(token: Option<Text>) -> Option<Text>
     ensures { result ≡ spec.unless_empty token }
 {
     match token {

@@ -1,6 +1,6 @@
 // What bodies of queries ask, and what isn't one.
-use crate::{QueryBody, QueryFault, QueryField, query_of};
 use json_tree::Text;
+use share_request::{QueryBody, QueryFault, QueryField, query_of};
 use std::alloc::Global;
 use std::test::Fail;
 

@@ -1,0 +1,10 @@
+//! Tests of the library that reads requests. They stand in a crate of their own since a crate with tests is proved twice, with
+//! them and without.
+#![tactic(auto)]
+
+#[cfg(test)]
+mod linked;
+#[cfg(test)]
+mod made;
+#[cfg(test)]
+mod queries;

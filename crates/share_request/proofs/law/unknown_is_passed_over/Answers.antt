@@ -1,0 +1,8 @@
+use Rattle.share_request.proofs.Unknown.{unknown_fields_pass, unknown_parameters_pass}
+use Rattle.share_request.proofs.law.unknown_is_passed_over.Goals as goal
+
+pub returns-clause-parameters : goal.returns-clause-parameters
+returns-clause-parameters c = unknown_parameters_pass
+
+pub returns-clause-fields : goal.returns-clause-fields
+returns-clause-fields c = unknown_fields_pass

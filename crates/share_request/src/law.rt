@@ -1,0 +1,24 @@
+// Laws of requests. The functions do nothing when they are called.
+ghost use Rattle.share_request.specs.Laws.{LinksAreRead, OneSpelling, RequestsAreInForm, SpellingKeepsNames, UnknownFieldsPass, UnknownParametersPass};
+
+/// A law: what is answered is in form. What is asked by token is asked by the route that is told, which is no link's; a page of a
+/// list has at most 500 names, `maxFiles` is 1 to 2^31 - 1, a version is below 2^63; no page token is empty; a query hasn't both a
+/// version and a moment; and changes have a start or a page token.
+pub fn requests_are_in_form()
+    ensures { RequestsAreInForm }
+{}
+
+/// A law: a request with a parameter that isn't known is the request without it, and a body is read by the fields that are known
+/// alone.
+pub fn unknown_is_passed_over()
+    ensures parameters { UnknownParametersPass }
+    ensures fields { UnknownFieldsPass }
+{}
+
+/// A law: a link's target is read as the request by link with that target. Of other spellings, targets with the same names, path
+/// and query are read as one, which has the names and the path that they have.
+pub fn links_have_one_spelling()
+    ensures links { LinksAreRead }
+    ensures one { OneSpelling }
+    ensures same { SpellingKeepsNames }
+{}
