@@ -1,8 +1,12 @@
 // A book after one Begin on the catalogue, and a log that it may load.
 use edge_core::Name;
 use log_store::Commits;
-use share_book::{Book, ready};
+use share_book::{Ask, Book, Want, Who, ready};
 use std::alloc::Global;
+use step_count::Steps;
+
+// The work of a replay.
+struct Work;
 
 // Whether it is begun, how many entries and edits it has, and how many logs.
 fn begun(alloc: Global) -> Option<(bool, u64, u64, usize)> {
@@ -33,4 +37,22 @@ fn is_ready(alloc: Global, location: &str) -> Option<bool> {
 #[test]
 fn a_log_without_commits_is_ready(rt: HostRuntime) {
     assert!(rt; is_ready(rt.alloc(), "t") == Some(true));
+}
+
+// What is found of an empty book: how many entries it has, and whether nobody is seen.
+fn look(alloc: Global, want: Want) -> Option<(u64, bool)> {
+    let book = Book::new(alloc).ok()?;
+    let ask = Ask {
+        who: Who::Token([7; 32]),
+        want,
+    };
+    let pinned = book.pin(alloc, &ask).ok()?;
+    let mut steps: Steps<Work> = Steps::new();
+    let look = pinned.complete(alloc, &mut steps).ok()?;
+    Some((look.at, look.seen.is_none()))
+}
+
+#[test]
+fn nobody_is_seen_by_an_unknown_token(rt: HostRuntime) {
+    assert!(rt; matches!(look(rt.alloc(), Want::Names), Some((0, true))));
 }

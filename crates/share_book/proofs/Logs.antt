@@ -1,19 +1,20 @@
 -- The logs of a history, by their locations.
-use Rattle.std.proofs.Common.{◌≡◌, ℕ, ◌+◌, ◌-◌, ◌<◌, ◌≤◌, Bool, true, false, List, [], ◌∷◌, ◌++◌, length, map, not, nat_lt, cond, Option, Some, None, suc, sym, refl, ap, ◌∙◌, subst, arith, append_assoc, length-append, bytes_eq}
+use Rattle.std.proofs.Common.{◌≡◌, ℕ, ◌+◌, ◌-◌, ◌<◌, ◌≤◌, Bool, true, false, List, [], ◌∷◌, ◌++◌, length, map, not, nat_lt, cond, Option, Some, None, suc, sym, refl, ap, ◌∙◌, subst, arith, append_assoc, length-append, bytes_eq, get_or}
 use Rattle.std.specs.List.{filter_map, slice_get, position, position_or_len, prefix_len}
-use Rattle.std.specs.Option.{option_map}
+use Rattle.std.specs.Option.{option_and_then, option_map}
 use Rattle.std.proofs.lemmas.List.{append-nil, length-map}
 use Rattle.share_catalog.specs.declared.edit.Edit.{Edit}
 use Rattle.share_book.specs.declared.entry.Entry.{Entry}
 use Rattle.share_book.specs.declared.entry.LogStart.{LogStart}
 use Rattle.share_book.specs.declared.entry.Act.{Act}
 use Rattle.share_book.specs.declared.entry.Act.TheVariants.{Begin, Own, Found, OwnEdit, FoundEdit, Load, Blocked, Abort}
-use Rattle.share_book.specs.History.{block_on, commit_on, grown, start_in, start_of, starts}
+use Rattle.share_book.specs.History.{block_on, commit_on, grown, start_in, start_of, starts, table_on}
 use Rattle.share_book.specs.Legal.{Fits, IsLegal, May, is_at, locations_of}
 use Rattle.share_book.specs.TableView.{TableLog, TableView}
 use Rattle.share_book.specs.PastView.{PastView}
 use Rattle.share_book.specs.Books.{IsBook, is_table_at}
-use Rattle.share_book.proofs.Bookkeeping.{mapped}
+use Rattle.share_book.specs.Views.{log_at, seen_log}
+use Rattle.share_book.proofs.Bookkeeping.{mapped, table_there}
 use Rattle.share_book.proofs.Words.{loud, quiet}
 
 -- a log is loaded after fewer than 32
@@ -81,3 +82,15 @@ less_by false n m i e is = absurd cc
 -- what is found stands in the list
 pub position_less : {X : Type 0} (p : X → Bool) (xs : List X) (i : ℕ) → position p xs ≡ Some i → i < length xs
 position_less p xs i is = less_by _ (position_or_len p xs) (length xs) i refl is
+
+-- the log of a place among the tables is that of the location
+pub seen_at : (p : PastView) (es : List Edit) (tables : List TableView) (tl tc : ℕ) → IsBook p es tables tl tc → (location : List ℕ) (i : ℕ) (t : TableView) → position (is_at location) (starts p.history) ≡ Some i → i < length tables → t ≡ get_or tables i t
+    → seen_log (Some t.log) ≡ log_at p.history location
+seen_at p es tables tl tc b location i t place less is =
+    let q : i + 1 - 1 ≡ i = omega arith in
+    let count = b.count in
+    let there : table_on (i + 1) p.history ≡ Some t.log = table_there p es tables tl tc b (i + 1) (omega arith) (omega (arith, less, count)) t (is ∙ ap (λ (n : ℕ). get_or tables n t) (sym q)) in
+    sym (ap seen_log there) ∙ sym (ap (λ (o : Option ℕ). seen_log (option_and_then (λ number. table_on number p.history) (option_map (λ n. n + 1) o))) place)
+
+pub none_seen : (h : List Entry) (location : List ℕ) → position (is_at location) (starts h) ≡ None → seen_log None ≡ log_at h location
+none_seen h location none = sym (ap (λ (o : Option ℕ). seen_log (option_and_then (λ number. table_on number h) (option_map (λ n. n + 1) o))) none)

@@ -1,5 +1,10 @@
 pub mod History
+pub mod Laws
 pub mod Legal
+pub mod NamesView
+pub mod Parts
+pub mod Looks
+pub mod Looked
 pub mod PastView
 pub mod Pasts
 pub mod TableView

@@ -8,19 +8,30 @@ ghost use Rattle.share_book.specs.History as history;
 ghost use Rattle.share_book.specs.History.{caller_of, entry, open_on, pending, starts, table_on};
 ghost use Rattle.share_book.specs.Legal.{Follows, IsKeptLog, IsLegal, TakesCommit, There, TakesLog, has_log, locations_of, log_at};
 ghost use Rattle.log_replay.specs.Times.{marks_in};
+ghost use Rattle.share_book.specs.Looked.{commits_by, found_by, log_by, table_by};
+ghost use Rattle.share_book.specs.Looks.{commits_of, glance_of, table_commits, who_of};
+ghost use Rattle.share_book.specs.Parts.{version_of};
 ghost use Rattle.share_book.specs.Tables.{IsState};
+ghost use Rattle.share_book.specs.Views as views;
+ghost use Rattle.share_book.specs.Views.{view_by};
+ghost use Rattle.share_catalog.specs.Views.{shared};
 ghost use Rattle.std.specs.Arc.{arc_value};
 ghost use Rattle.share_book.specs.Pasts.{Raised};
 ghost use Rattle.share_book.specs.Books.{HasRooms, OthersRest, location, OwnIsLawful, commit_act, committed, is_table_at, added, edit_act, edited, loaded, rests};
 ghost use Rattle.share_book.specs.declared.entry.Act.TheVariants as act;
 
 use crate::entry::{Act, Entry, SharedCommit, SharedEdit};
+use crate::log_part::{SeenLog, part_found};
+use crate::look::{Ask, Found, Look, Part, Pinned, Seen, Want};
 use crate::past::Past;
+use crate::spots::{names_of, recipient_of, spot_of};
 use crate::table::{LogState, ReadyLog, Table};
 use edge_core::Name;
+use json_tree::Text;
 use log_actions::Commit;
 use log_replay::Mark;
-use share_catalog::{Catalog, Edit, EditRefusal};
+use log_store::Commits;
+use share_catalog::{Catalog, Edit, EditRefusal, TableName};
 use std::alloc::{AllocError, Global};
 use std::marker::Model;
 use std::sync::Arc;
@@ -88,6 +99,16 @@ fn is_table_at(table: &Table, location: &str) -> bool
     ensures { result ≡ is_table_at location.now table.now }
 {
     table.location().as_str() == location
+}
+
+// What is found where no recipient is.
+fn nobody(at: u64) -> Pinned
+    ensures { result ≡ record { look = record { at = at; seen = None }; commits = None } }
+{
+    Pinned {
+        look: Look { at, seen: None },
+        commits: None,
+    }
 }
 
 // The act of a commit.
@@ -359,6 +380,86 @@ impl Book {
         let ReadyLog { table, start } = log;
         self.tables.push_reserved(table);
         self.past.push_load(caller, start);
+    }
+
+    /// What is found for one request at this point of the history: a plain function of the recipient's view and of what is asked. The
+    /// error is want of memory.
+    pub fn pin(&self, alloc: Global, ask: &Ask) -> Result<Pinned, AllocError>
+        ensures at { IfOk result (λ p. p.look.at ≡ length self.now.past.history) }
+        ensures seen { IfOk result (λ p. p.look.seen ≡ glance_of (view_by self.now.past.history (who_of ask.now.who)) ask.now.want) }
+        ensures commits { IfOk result (λ p. p.commits ≡ commits_of (view_by self.now.past.history (who_of ask.now.who)) ask.now.want) }
+        ensures some { IfOk result (λ p. IfSome p.commits (λ cs. 0 < length cs)) }
+    {
+        let at = self.past.len();
+        let Some(recipient) = recipient_of(&self.catalog, &ask.who) else {
+            return Ok(nobody(at));
+        };
+        let Some(credential) = self.catalog.credential(recipient) else {
+            return Ok(nobody(at));
+        };
+        let (found, commits) = self.found(alloc, recipient, &ask.want)?;
+        let seen = Seen {
+            recipient: Text::of(String::from_str(alloc, recipient)?),
+            expires: credential.expires,
+            found,
+        };
+        Ok(Pinned {
+            look: Look {
+                at,
+                seen: Some(seen),
+            },
+            commits,
+        })
+    }
+
+    // What a recipient that is there finds, and the commits of its files.
+    fn found(
+        &self,
+        alloc: Global,
+        recipient: &str,
+        want: &Want,
+    ) -> Result<(Found, Option<Commits>), AllocError>
+        ensures found { IfOk result (λ f. f.0 ≡ found_by version_of self.now.past.history recipient.now want.now) }
+        ensures commits { IfOk result (λ f. f.1 ≡ commits_by self.now.past.history recipient.now want.now) }
+        ensures some { IfOk result (λ f. IfSome f.1 (λ cs. 0 < length cs)) }
+    {
+        match want {
+            Want::Names => {
+                let names = names_of(alloc, &self.catalog, recipient)?;
+                Ok((Found::Names(names), None))
+            }
+            Want::Table(table, part) => self.table_found(alloc, recipient, table, part),
+        }
+    }
+
+    // What it finds of a table.
+    fn table_found(
+        &self,
+        alloc: Global,
+        recipient: &str,
+        table: &TableName,
+        part: &Part,
+    ) -> Result<(Found, Option<Commits>), AllocError>
+        ensures found { IfOk result (λ f. f.0 ≡ table_by version_of self.now.past.history part.now (shared (history.edits self.now.past.history) recipient.now table.now)) }
+        ensures commits { IfOk result (λ f. f.1 ≡ table_commits (log_by self.now.past.history (shared (history.edits self.now.past.history) recipient.now table.now)) part.now (shared (history.edits self.now.past.history) recipient.now table.now)) }
+        ensures some { IfOk result (λ f. IfSome f.1 (λ cs. 0 < length cs)) }
+    {
+        let Some(spot) = spot_of(alloc, &self.catalog, recipient, table)? else {
+            return Ok((Found::NoTable, None));
+        };
+        let log = self.seen_log(spot.location().as_str());
+        let (found, commits) = part_found(alloc, spot.has_history(), &log, part)?;
+        Ok((Found::Table(spot, found), commits))
+    }
+
+    // The log of a location.
+    fn seen_log(&self, location: &str) -> SeenLog<'_>
+        ensures { result ≡ views.log_at self.now.past.history location.now }
+    {
+        match place_of(&self.tables, location) {
+            Some(place) => SeenLog::of(&self.tables[place]),
+            None => SeenLog::empty(),
+        }
     }
 }
 

@@ -2,10 +2,22 @@
 #![tactic(auto)]
 
 mod book;
+mod complete;
 mod entry;
+mod laws;
+mod log_part;
+mod look;
 mod past;
+mod spots;
 mod table;
 
 pub use book::Book;
 pub use entry::{Act, Entry, LogStart, SharedCommit, SharedEdit};
+pub use laws::{
+    foreign_entries_leave_views, glances_become_looks, histories_go_on, others_leave_what_is_begun,
+};
+pub use look::{
+    Ask, FeedPart, Found, Look, Marks, Names, Part, PartFound, Pinned, Seen, SharedSnapshot, Spot,
+    TableRefusal, Want, Who,
+};
 pub use table::{LogState, ReadyLog, ready};

@@ -1,5 +1,5 @@
 // A table's log as the book keeps it.
-ghost use Rattle.std.specs.Prelude.{◌≡◌, ◌<◌, ◌≤◌, [], ◌∷◌, ◌++◌, IfOk, IfSome, OnOk, length, map};
+ghost use Rattle.std.specs.Prelude.{◌≡◌, ◌<◌, ◌≤◌, [], ◌∷◌, ◌++◌, IfOk, IfSome, OnOk, is_some, length, map};
 ghost use Rattle.std.specs.Arc.{arc_value};
 ghost use Rattle.log_actions.specs.CommitTexts.{printed_bytes};
 ghost use Rattle.log_actions.specs.CommitTexts.{commit_text};
@@ -69,6 +69,20 @@ impl Table {
         shared(alloc, &self.commits)
     }
 
+    /// The commits as they are held, in order.
+    pub(crate) fn held(&self) -> &[Arc<Commit>]
+        ensures { map arc_value result.now ≡ self.now.log.commits }
+    {
+        &self.commits
+    }
+
+    /// Whether a further version isn't kept.
+    pub(crate) fn is_blocked(&self) -> bool
+        ensures { result ≡ is_some self.now.log.block }
+    {
+        self.block.is_some()
+    }
+
     /// The marks of its versions, in order.
     pub(crate) fn marks(&self) -> &[Mark]
         ensures { result.now ≡ marks_in self.now.log.commits }
@@ -129,8 +143,8 @@ impl Table {
     }
 }
 
-// The same commits again.
-fn shared(alloc: Global, commits: &[Arc<Commit>]) -> Result<Vec<Arc<Commit>>, AllocError>
+/// The same commits again.
+pub(crate) fn shared(alloc: Global, commits: &[Arc<Commit>]) -> Result<Vec<Arc<Commit>>, AllocError>
     ensures { IfOk result (λ v. map arc_value v.items ≡ map arc_value commits.now) }
 {
     let mut copies = Vec::new(alloc);

@@ -1,0 +1,134 @@
+-- What is found of a view is what is found of the edits and the logs that it is made of.
+use Rattle.std.proofs.Common.{◌≡◌, ℕ, List, Bool, Option, Some, None, option_map, option_and_then, unwrap_or, refl, sym, ap, ◌∙◌}
+use Rattle.std.specs.FinMap as maps
+use Rattle.std.specs.Ordering.{eq_by_cmp}
+use Rattle.log_actions.specs.declared.actions.Action.{Action}
+use Rattle.share_catalog.specs.Catalogue.{binding_edition, bound, credential, is_table, tables_bound}
+use Rattle.share_catalog.specs.TableNames.{parts_of, texts_cmp}
+use Rattle.share_catalog.specs.Views.{Spot, Who, binding, grant, name_of, shared, spot_with, view_among}
+use Rattle.share_catalog.specs.Views as catalog
+use Rattle.share_catalog.specs.declared.credential.Credential.{Credential}
+use Rattle.share_catalog.specs.declared.edit.Binding.{Binding}
+use Rattle.share_catalog.specs.declared.edit.Edit.{Edit}
+use Rattle.share_catalog.specs.declared.table_name.TableName.{TableName}
+use Rattle.share_catalog.proofs.KeyTests.{table_is, table_tie}
+use Rattle.share_catalog.proofs.Silent.{unbound}
+use Rattle.share_catalog.proofs.ViewLemmas.{get-keyed, tables_are_shown}
+use Rattle.share_catalog.proofs.Words.{any_same}
+use Rattle.share_book.specs.History.{edits}
+use Rattle.share_book.specs.Looked.{commits_by, found_by, log_by, table_by}
+use Rattle.share_book.specs.Looks.{GlancesBecomeLooks, commits_in, commits_of, found_in, found_with, glance_of, table_commits, table_found, part_with}
+use Rattle.share_book.specs.Parts as parts
+use Rattle.share_book.specs.Parts.{commits_for, found_of, version_of, with_files}
+use Rattle.share_book.specs.Views.{Log, View, log_at, log_of, log_of_spot, logs_of, seen_log, view_by, view_with}
+use Rattle.share_book.specs.declared.entry.Entry.{Entry}
+use Rattle.share_book.specs.declared.look.Found.{Found}
+use Rattle.share_book.specs.declared.look.Found.TheVariants as found
+use Rattle.share_book.specs.declared.look.Part.{Part}
+use Rattle.share_book.specs.declared.look.Part.TheVariants as part
+use Rattle.share_book.specs.declared.look.PartFound.{PartFound}
+use Rattle.share_book.specs.declared.look.PartFound.TheVariants as part_found
+use Rattle.share_book.specs.declared.look.Seen.{Seen}
+use Rattle.share_book.specs.declared.look.Want.{Want}
+use Rattle.share_book.specs.declared.look.Want.TheVariants as want
+
+-- ---- a view's logs
+
+none_bound : (es : List Edit) (t : TableName) → bound es t ≡ None → binding es t ≡ None
+none_bound es t none = ap (option_map (λ (b : Binding). (b, binding_edition es t))) none
+
+none_shared : (es : List Edit) (r : List ℕ) (t : TableName) (o : Option ℕ) → binding es t ≡ None → option_and_then (λ edition. option_map (spot_with edition) (binding es t)) o ≡ None
+none_shared es r t None none = refl
+none_shared es r t (Some n) none = ap (option_map (spot_with n)) none
+
+-- the logs of a view are those of the tables that are shared
+pub logs_are_shown : (es : List Edit) (logs : List ℕ → Log) (r : List ℕ) (t : TableName) → maps.get (logs_of es logs r) (parts_of t) ≡ log_of es logs r t
+logs_are_shown es logs r t =
+    get-keyed parts_of (log_of es logs r) (λ x y e. ap (log_of es logs r) (table_is x y (sym (table_tie x y) ∙ e))) t (tables_bound es)
+    (λ none. ap (option_map (log_of_spot logs)) (none_shared es r t (grant es r t.share) (none_bound es t (unbound t es (any_same (is_table t) (λ u. eq_by_cmp texts_cmp (parts_of t) (parts_of u)) (λ u. sym (table_tie t u)) (tables_bound es) ∙ none)))))
+
+log_case : (h : List Entry) (o : Option Spot) → unwrap_or (option_map (log_of_spot (log_at h)) o) (seen_log None) ≡ log_by h o
+log_case h None = refl
+log_case h (Some s) = refl
+
+abbrev view_at : List Entry → List ℕ → Credential → View
+view_at h r c = view_with (edits h) (log_at h) (catalog.view_with (edits h) r c)
+
+log_is : (h : List Entry) (r : List ℕ) (t : TableName) → unwrap_or (maps.get (logs_of (edits h) (log_at h) r) (parts_of t)) (seen_log None) ≡ log_by h (shared (edits h) r t)
+log_is h r t = ap (λ (o : Option Log). unwrap_or o (seen_log None)) (logs_are_shown (edits h) (log_at h) r t) ∙ log_case h (shared (edits h) r t)
+
+-- ---- what is found of a view
+
+found_is : (find : Bool → Log → Part → PartFound) (h : List Entry) (r : List ℕ) (c : Credential) (w : Want) → found_in find (view_at h r c) w ≡ found_by find h r w
+found_is find h r c want.Names = refl
+found_is find h r c (want.Table t p) =
+    let tables = tables_are_shown (edits h) r t in
+    let log = log_is h r t in
+    λ i. table_found find (log i) p (tables i)
+
+commits_are : (h : List Entry) (r : List ℕ) (c : Credential) (w : Want) → commits_in w (view_at h r c) ≡ commits_by h r w
+commits_are h r c want.Names = refl
+commits_are h r c (want.Table t p) =
+    let tables = tables_are_shown (edits h) r t in
+    let log = log_is h r t in
+    λ i. table_commits (log i) p (tables i)
+
+view_none : (h : List Entry) (r : List ℕ) (o : Option Credential) → o ≡ None → option_map (view_with (edits h) (log_at h)) (option_map (catalog.view_with (edits h) r) o) ≡ None
+view_none h r o none = ap (λ (x : Option Credential). option_map (view_with (edits h) (log_at h)) (option_map (catalog.view_with (edits h) r) x)) none
+
+-- nobody is found where there is no name, or no recipient of that name
+pub nobody_named : (h : List Entry) (who : Who) → name_of (edits h) who ≡ None → view_by h who ≡ None
+nobody_named h who none = ap (λ (o : Option (List ℕ)). option_map (view_with (edits h) (log_at h)) (option_and_then (catalog.view_of (edits h)) o)) none
+
+pub nobody_there : (h : List Entry) (who : Who) (r : List ℕ) → name_of (edits h) who ≡ Some r → credential (edits h) r ≡ None → view_by h who ≡ None
+nobody_there h who r named none =
+    ap (λ (o : Option (List ℕ)). option_map (view_with (edits h) (log_at h)) (option_and_then (catalog.view_of (edits h)) o)) named
+    ∙ view_none h r (credential (edits h) r) none
+
+-- somebody is found
+pub view_found : (h : List Entry) (who : Who) (r : List ℕ) (c : Credential) → name_of (edits h) who ≡ Some r → credential (edits h) r ≡ Some c → view_by h who ≡ Some (view_at h r c)
+view_found h who r c named there =
+    ap (λ (o : Option (List ℕ)). option_map (view_with (edits h) (log_at h)) (option_and_then (catalog.view_of (edits h)) o)) named
+    ∙ ap (λ (x : Option Credential). option_map (view_with (edits h) (log_at h)) (option_map (catalog.view_with (edits h) r) x)) there
+
+pub glance_is : (h : List Entry) (who : Who) (r : List ℕ) (c : Credential) (w : Want) (f : Found) → name_of (edits h) who ≡ Some r → credential (edits h) r ≡ Some c
+    → f ≡ found_by version_of h r w → Some (record { recipient = r; expires = c.expires; found = f }) ≡ glance_of (view_by h who) w
+glance_is h who r c w f named there is =
+    let e : f ≡ found_in version_of (view_at h r c) w = is ∙ sym (found_is version_of h r c w) in
+    (λ i. Some (record { recipient = r; expires = c.expires; found = e i })) ∙ sym (ap (λ (v : Option View). glance_of v w) (view_found h who r c named there))
+
+pub commits_is : (h : List Entry) (who : Who) (r : List ℕ) (c : Credential) (w : Want) (cs : Option (List (List Action))) → name_of (edits h) who ≡ Some r → credential (edits h) r ≡ Some c
+    → cs ≡ commits_by h r w → cs ≡ commits_of (view_by h who) w
+commits_is h who r c w cs named there is =
+    is ∙ sym (commits_are h r c w) ∙ sym (ap (λ (v : Option View). commits_of v w) (view_found h who r c named there))
+
+-- ---- files
+
+part_is : (log : Log) (p : PartFound) → part_with (parts.commits_by log p) p ≡ with_files log p
+part_is log part_found.Nothing = refl
+part_is log (part_found.Version version) = refl
+part_is log (part_found.Files version state) = refl
+part_is log (part_found.Feed feed) = refl
+part_is log (part_found.Refused why) = refl
+
+found_part : (history : Bool) (log : Log) (p : Part) → part_with (commits_for log p (version_of history log p)) (version_of history log p) ≡ found_of history log p
+found_part history log part.Place = refl
+found_part history log (part.Head b) = refl
+found_part history log (part.Files b) = part_is log (parts.head_found history log b)
+found_part history log (part.Feed from to) = refl
+found_part history log (part.PinnedFiles version) = part_is log (parts.pinned_found log version)
+found_part history log (part.PinnedFeed from to) = refl
+
+found_table : (log : Log) (p : Part) (o : Option Spot) → found_with (table_commits log p o) (table_found version_of log p o) ≡ table_found found_of log p o
+found_table log p None = refl
+found_table log p (Some s) = ap (found.Table s) (found_part s.history log p)
+
+found_whole : (w : Want) (view : View) → found_with (commits_in w view) (found_in version_of view w) ≡ found_in found_of view w
+found_whole want.Names view = refl
+found_whole (want.Table t p) view = found_table _ p (maps.get view.catalog.tables (parts_of t))
+
+pub glances_become_looks : GlancesBecomeLooks
+glances_become_looks None w = refl
+glances_become_looks (Some view) w =
+    let e = found_whole w view in
+    λ i. Some (record { recipient = view.catalog.recipient; expires = view.catalog.credential.expires; found = e i })

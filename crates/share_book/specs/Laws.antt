@@ -1,0 +1,65 @@
+-- Laws of histories: what stays as one goes on, and what a recipient doesn't see.
+use Rattle.std.specs.Prelude.{◌≡◌, ◌≢◌, ℕ, ◌<◌, ◌≤◌, List, [], ◌∷◌, ◌++◌, Bool, true, false, Option, Some, IfSome, length}
+use Rattle.log_actions.specs.declared.actions.Action.{Action}
+use Rattle.share_catalog.specs.Catalogue.{binding_edition, credential, grant_edition, granted}
+use Rattle.share_catalog.specs.Laws.{names_recipient, names_share}
+use Rattle.share_catalog.specs.Views.{Spot, grant, named, shared}
+use Rattle.share_catalog.specs.declared.edit.Edit.{Edit}
+use Rattle.share_catalog.specs.declared.table_name.TableName.{TableName}
+use Rattle.turn_cell.specs.Entries.{made_by}
+use Rattle.share_book.specs.History.{caller_of, edit_in, edits, open_on, start_in, starts, table_on}
+use Rattle.share_book.specs.Legal.{IsLegal}
+use Rattle.share_book.specs.Legal.{log_at as number_at}
+use Rattle.share_book.specs.Parts.{up_to}
+use Rattle.share_book.specs.Views.{log_at, view_by}
+use Rattle.share_book.specs.declared.entry.Entry.{Entry}
+
+-- As a history goes on, its logs only grow: the versions that one has stay as they are, and so do their states.
+pub record LogsGrow : Type 0 where
+  pub grows : (history later : List Entry) (location : List ℕ) → (more : List (List Action)) × ((log_at (history ++ later) location).commits ≡ (log_at history location).commits ++ more)
+  pub stays : (history later : List Entry) (location : List ℕ) (version : ℕ) → version < length (log_at history location).commits
+      → up_to (log_at (history ++ later) location) version ≡ up_to (log_at history location) version
+
+-- Each beginning of a legal history is legal.
+abbrev pub FrontsAreLegal : Type 0
+FrontsAreLegal = (history later : List Entry) → IsLegal (history ++ later) → IsLegal history
+
+-- While a caller's Begin is open on a table's log, what others add leaves that log as it was, and its Begin open.
+abbrev pub OthersLeaveLogs : Type 0
+OthersLeaveLogs = (history later : List Entry) (caller number : ℕ) → IsLegal (history ++ later) → 0 < number → number ≤ length (starts history) → open_on number history ≡ Some caller → made_by caller_of caller later ≡ []
+    → (open_on number (history ++ later) ≡ Some caller) × (table_on number (history ++ later) ≡ table_on number history)
+
+-- While it is open on the catalogue, what others add leaves the edits and the loads.
+abbrev pub OthersLeaveCatalogue : Type 0
+OthersLeaveCatalogue = (history later : List Entry) (caller : ℕ) → IsLegal (history ++ later) → open_on 0 history ≡ Some caller → made_by caller_of caller later ≡ []
+    → (open_on 0 (history ++ later) ≡ Some caller) × (edits (history ++ later) ≡ edits history) × (starts (history ++ later) ≡ starts history)
+
+-- No edition falls.
+abbrev pub EditionsRise : Type 0
+EditionsRise = (history later : List Entry) (r s : List ℕ) (t : TableName)
+    → (grant_edition (edits history) r s ≤ grant_edition (edits (history ++ later)) r s) × (binding_edition (edits history) t ≤ binding_edition (edits (history ++ later)) t)
+
+-- two histories show a recipient the same: itself, its grants, its tables, and the logs of these
+pub record ShowsTheSame (history other : List Entry) (r : List ℕ) : Type 0 where
+  pub recipient : credential (edits history) r ≡ credential (edits other) r
+  pub grants : (s : List ℕ) → grant (edits history) r s ≡ grant (edits other) r s
+  pub tables : (t : TableName) → shared (edits history) r t ≡ shared (edits other) r t
+  pub logs : (t : TableName) (s : Spot) → shared (edits history) r t ≡ Some s → log_at history s.location ≡ log_at other s.location
+
+-- Nothing else is in a view: other recipients, ungranted shares, numbers of logs, who did what, and when, may all differ.
+abbrev pub ViewsAreShown : Type 0
+ViewsAreShown = (history other : List Entry) (r : List ℕ) → ShowsTheSame history other r → view_by history (named r) ≡ view_by other (named r)
+
+-- an edit that names neither a recipient nor a share that it is granted
+abbrev pub IsForeignEdit : List Entry → List ℕ → Edit → Type 0
+IsForeignEdit history r x = (names_recipient r x ≡ false) × ((s : List ℕ) → names_share s x ≡ true → granted (edits history) r s ≡ false)
+
+-- an entry that says nothing of a recipient, of a share that it is granted, or of the log of a table that it sees
+pub record IsForeign (history : List Entry) (r : List ℕ) (e : Entry) : Type 0 where
+  pub edit : IfSome (edit_in e) (IsForeignEdit history r)
+  pub log : (t : TableName) (s : Spot) → shared (edits history) r t ≡ Some s → number_at history s.location ≢ Some e.log
+  pub load : (t : TableName) (s : Spot) → shared (edits history) r t ≡ Some s → IfSome (start_in e) (λ l. l.location ≢ s.location)
+
+-- Such an entry leaves the recipient's view.
+abbrev pub ForeignEntriesLeaveViews : Type 0
+ForeignEntriesLeaveViews = (history : List Entry) (e : Entry) (r : List ℕ) → IsForeign history r e → view_by (history ++ e ∷ []) (named r) ≡ view_by history (named r)

@@ -1,0 +1,30 @@
+// Laws of histories. Each function does nothing when it is called.
+ghost use Rattle.share_book.specs.Laws.{EditionsRise, ForeignEntriesLeaveViews, FrontsAreLegal, LogsGrow, OthersLeaveCatalogue, OthersLeaveLogs, ViewsAreShown};
+ghost use Rattle.share_book.specs.Looks.{GlancesBecomeLooks};
+
+/// A law: as a history goes on, its logs only grow, no edition falls, and each beginning of a legal one is legal. It does nothing
+/// when it is called.
+pub fn histories_go_on()
+    ensures logs { LogsGrow }
+    ensures editions { EditionsRise }
+    ensures fronts { FrontsAreLegal }
+{}
+
+/// A law: who has a Begin open finds the log, or the catalogue, as it left it, whatever others add. It does nothing when it is
+/// called.
+pub fn others_leave_what_is_begun()
+    ensures logs { OthersLeaveLogs }
+    ensures catalogue { OthersLeaveCatalogue }
+{}
+
+/// A law: a view holds no more than what it shows, and an entry that says nothing of it leaves it. It does nothing when it is
+/// called.
+pub fn foreign_entries_leave_views()
+    ensures shown { ViewsAreShown }
+    ensures entries { ForeignEntriesLeaveViews }
+{}
+
+/// A law: what a turn gives, with the files that its commits make, is the look. It does nothing when it is called.
+pub fn glances_become_looks()
+    ensures { GlancesBecomeLooks }
+{}

@@ -1,0 +1,269 @@
+// What is found of a table's log.
+ghost use Rattle.std.specs.Prelude.{◌≡◌, ◌+◌, ◌<◌, ◌≤◌, Bool, IfOk, IfSome, None, Some, length, map, slice_get, take};
+ghost use Rattle.std.specs.Arc.{arc_value};
+ghost use Rattle.log_replay.specs.Times.{marks_in};
+ghost use Rattle.share_book.specs.Looked.{IsKept};
+ghost use Rattle.share_book.specs.Parts as parts;
+ghost use Rattle.share_book.specs.Views.{seen_log};
+
+use crate::entry::SharedCommit;
+use crate::look::{FeedPart, Marks, Part, PartFound, TableRefusal};
+use crate::table::{Table, shared};
+use log_actions::Commit;
+use log_replay::{Bound, Mark, Unresolved, resolve};
+use log_store::Commits;
+use std::alloc::{AllocError, Global};
+use std::marker::Model;
+use std::sync::Arc;
+
+/// A table's log as a look reads it, empty where none is loaded.
+#[derive(Drop)]
+pub(crate) struct SeenLog<'a> {
+    commits: &'a [Arc<Commit>],
+    marks: &'a [Mark],
+    blocked: bool,
+}
+
+impl<'a> Model for SeenLog<'a> {
+    ghost use Rattle.std.specs.Prelude.{◌≡◌, map};
+    ghost use Rattle.std.specs.Arc.{arc_value};
+    ghost use Rattle.log_replay.specs.Times.{marks_in};
+    ghost use Rattle.share_book.specs.Views.{Log};
+
+    ghost Value = { Log };
+
+    ghost view = { λ l. record { commits = map arc_value l.commits.now; blocked = l.blocked } };
+
+    ghost invariant = { λ l. l.marks.now ≡ marks_in (map arc_value l.commits.now) };
+}
+
+impl<'a> SeenLog<'a> {
+    /// The log of the table.
+    pub(crate) fn of(table: &'a Table) -> SeenLog<'a>
+        ensures { result ≡ seen_log (Some table.now.log) }
+    {
+        SeenLog {
+            commits: table.held(),
+            marks: table.marks(),
+            blocked: table.is_blocked(),
+        }
+    }
+
+    /// The log where none was loaded.
+    pub(crate) fn empty() -> SeenLog<'a>
+        ensures { result ≡ seen_log None }
+    {
+        SeenLog {
+            commits: &[],
+            marks: &[],
+            blocked: false,
+        }
+    }
+
+    // How many versions are kept.
+    fn len(&self) -> u64
+        ensures { result ≡ length self.now.commits }
+    {
+        self.commits.len() as u64
+    }
+
+    // The version that a bound means.
+    fn resolve(&self, bound: Bound) -> Result<u64, Unresolved>
+        ensures version { result ≡ parts.resolved_at self.now bound }
+        ensures kept { IfOk result (λ version. version < length self.now.commits) }
+    {
+        resolve(self.marks, self.blocked, bound)
+    }
+}
+
+// The commits up to a version.
+fn up_to(alloc: Global, commits: &[Arc<Commit>], version: u64) -> Result<Commits, AllocError>
+    requires { version < length commits.now }
+    ensures commits { IfOk result (λ c. c ≡ take (version + 1) (map arc_value commits.now)) }
+    ensures some { IfOk result (λ c. 0 < length c) }
+{
+    Ok(Commits::of(shared(alloc, &commits[..version as usize + 1])?))
+}
+
+// The commit of a version.
+fn commit_at(commits: &[Arc<Commit>], version: u64) -> Result<SharedCommit, AllocError>
+    requires { version < length commits.now }
+    ensures { IfOk result (λ c. Some c ≡ slice_get (map arc_value commits.now) version) }
+{
+    let commit = Arc::try_clone(&commits[version as usize])?;
+    Ok(SharedCommit::of(commit))
+}
+
+// The versions of a feed.
+fn feed_of(
+    alloc: Global,
+    commits: &[Arc<Commit>],
+    marks: &[Mark],
+    from: u64,
+    to: u64,
+) -> Result<FeedPart, AllocError>
+    requires marked { marks.now ≡ marks_in (map arc_value commits.now) }
+    requires order { from ≤ to }
+    requires kept { to < length commits.now }
+    requires counted { length marks.now ≡ length commits.now }
+    ensures { IfOk result (λ feed. (blocked : Bool) → feed ≡ parts.feed_of (record { commits = map arc_value commits.now; blocked = blocked }) from to) }
+{
+    let mark = marks[to as usize];
+    let (first, behind) = (from as usize, to as usize + 1);
+    let between: &[Mark] = &marks[first..behind];
+    Ok(FeedPart {
+        from,
+        to,
+        commits: Commits::of(shared(alloc, &commits[first..behind])?),
+        marks: Marks::of(Vec::from_slice(alloc, between)?),
+        meta: commit_at(commits, mark.meta_at)?,
+        protocol: commit_at(commits, mark.protocol_at)?,
+    })
+}
+
+fn refused_by(why: Unresolved) -> TableRefusal
+    ensures { result ≡ parts.refused_by why }
+{
+    match why {
+        Unresolved::Unsupported => TableRefusal::Unsupported,
+        Unresolved::VersionRange => TableRefusal::VersionRange,
+        Unresolved::TimestampRange => TableRefusal::TimestampRange,
+    }
+}
+
+fn is_latest(bound: Bound) -> bool
+    ensures { result ≡ parts.is_latest bound }
+{
+    matches!(bound, Bound::Latest)
+}
+
+fn head_found(history: bool, log: &SeenLog<'_>, bound: Bound) -> PartFound
+    ensures found { result ≡ parts.head_found history log.now bound }
+    ensures kept { IsKept log.now result }
+{
+    if !history && !is_latest(bound) {
+        return PartFound::Refused(TableRefusal::NoHistory);
+    }
+    match log.resolve(bound) {
+        Ok(version) => PartFound::Version(version),
+        Err(why) => PartFound::Refused(refused_by(why)),
+    }
+}
+
+fn pinned_found(log: &SeenLog<'_>, version: u64) -> PartFound
+    ensures found { result ≡ parts.pinned_found log.now version }
+    ensures kept { IsKept log.now result }
+{
+    if version < log.len() {
+        PartFound::Version(version)
+    } else {
+        PartFound::Refused(TableRefusal::Ahead)
+    }
+}
+
+fn feed_between(
+    alloc: Global,
+    log: &SeenLog<'_>,
+    from: u64,
+    to: u64,
+) -> Result<PartFound, AllocError>
+    requires { to < length log.now.commits }
+    ensures found { IfOk result (λ p. p ≡ parts.feed_between log.now from to) }
+    ensures kept { IfOk result (IsKept log.now) }
+{
+    if to < from {
+        return Ok(PartFound::Refused(TableRefusal::VersionRange));
+    }
+    Ok(PartFound::Feed(feed_of(alloc, log.commits, log.marks, from, to)?))
+}
+
+fn feed_found(
+    alloc: Global,
+    history: bool,
+    log: &SeenLog<'_>,
+    from: Bound,
+    to: Bound,
+) -> Result<PartFound, AllocError>
+    ensures found { IfOk result (λ p. p ≡ parts.feed_found history log.now from to) }
+    ensures kept { IfOk result (IsKept log.now) }
+{
+    if !history {
+        return Ok(PartFound::Refused(TableRefusal::NoHistory));
+    }
+    match (log.resolve(from), log.resolve(to)) {
+        (Err(why), _) | (Ok(_), Err(why)) => Ok(PartFound::Refused(refused_by(why))),
+        (Ok(from), Ok(to)) => feed_between(alloc, log, from, to),
+    }
+}
+
+fn pinned_feed(
+    alloc: Global,
+    log: &SeenLog<'_>,
+    from: u64,
+    to: u64,
+) -> Result<PartFound, AllocError>
+    ensures found { IfOk result (λ p. p ≡ parts.pinned_feed log.now from to) }
+    ensures kept { IfOk result (IsKept log.now) }
+{
+    if to < log.len() {
+        feed_between(alloc, log, from, to)
+    } else {
+        Ok(PartFound::Refused(TableRefusal::Ahead))
+    }
+}
+
+// What is found of a log, with a version in place of its files.
+fn version_of(
+    alloc: Global,
+    history: bool,
+    log: &SeenLog<'_>,
+    part: &Part,
+) -> Result<PartFound, AllocError>
+    ensures found { IfOk result (λ p. p ≡ parts.version_of history log.now part.now) }
+    ensures kept { IfOk result (IsKept log.now) }
+{
+    match *part {
+        Part::Place => Ok(PartFound::Nothing),
+        Part::Head(bound) | Part::Files(bound) => Ok(head_found(history, log, bound)),
+        Part::Feed(from, to) => feed_found(alloc, history, log, from, to),
+        Part::PinnedFiles(version) => Ok(pinned_found(log, version.get())),
+        Part::PinnedFeed(from, to) => pinned_feed(alloc, log, from.get(), to.get()),
+    }
+}
+
+// The commits of which the files of a part are made, none where none are asked or no version is
+// found.
+fn commits_for(
+    alloc: Global,
+    log: &SeenLog<'_>,
+    part: &Part,
+    found: &PartFound,
+) -> Result<Option<Commits>, AllocError>
+    requires { IsKept log.now found.now }
+    ensures commits { IfOk result (λ c. c ≡ parts.commits_for log.now part.now found.now) }
+    ensures some { IfOk result (λ c. IfSome c (λ cs. 0 < length cs)) }
+{
+    match (part, found) {
+        (Part::Files(_) | Part::PinnedFiles(_), PartFound::Version(version)) => {
+            Ok(Some(up_to(alloc, log.commits, *version)?))
+        }
+        _ => Ok(None),
+    }
+}
+
+/// What is found of a log, with a version in place of its files, and the commits of which these are
+/// made. The error is want of memory.
+pub(crate) fn part_found(
+    alloc: Global,
+    history: bool,
+    log: &SeenLog<'_>,
+    part: &Part,
+) -> Result<(PartFound, Option<Commits>), AllocError>
+    ensures found { IfOk result (λ p. p.0 ≡ parts.version_of history log.now part.now) }
+    ensures commits { IfOk result (λ p. p.1 ≡ parts.commits_for log.now part.now (parts.version_of history log.now part.now)) }
+    ensures some { IfOk result (λ p. IfSome p.1 (λ cs. 0 < length cs)) }
+{
+    let found = version_of(alloc, history, log, part)?;
+    let commits = commits_for(alloc, log, part, &found)?;
+    Ok((found, commits))
+}
