@@ -1,0 +1,14 @@
+pub mod Passes
+pub mod Limits
+pub mod Loads
+pub mod CatalogPasses
+pub mod Rounding
+pub mod Recording
+pub mod Storing
+pub mod Refreshing
+pub mod Opening
+pub mod TableRests
+pub mod TablePasses
+pub mod TableRounding
+pub mod LogSteps
+pub mod RefreshSteps

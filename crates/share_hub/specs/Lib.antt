@@ -1,0 +1,15 @@
+pub mod Records
+pub mod CatalogTurns
+pub mod NewLogs
+pub mod Calls
+pub mod CatalogCalls
+pub mod Edits
+pub mod Rounds
+pub mod Opens
+pub mod Refreshes
+pub mod TableTurns
+pub mod TableCalls
+pub mod FoundCommits
+pub mod TableRounds
+pub mod LogRefreshes
+pub mod RefreshRounds

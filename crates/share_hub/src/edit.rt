@@ -1,0 +1,316 @@
+// The edits of the catalogue.
+ghost use Rattle.std.specs.Prelude.{◌≡◌, [], None, Some, false, IfOk, IfSome, IsSome};
+ghost use Rattle.std.specs.FinMap as finmap;
+ghost use Rattle.edge_core.specs.Faults.{Cause};
+ghost use Rattle.edge_core.specs.Objects.{Lacks};
+ghost use Rattle.catalog_log.specs.Printing.{record_text};
+ghost use Rattle.catalog_log.specs.RecordNames.{record_name_of};
+ghost use Rattle.share_catalog.specs.Catalogue.{refusal_of};
+ghost use Rattle.share_book.specs.History.{edits, open_on};
+ghost use Rattle.share_book.specs.declared.entry.Act.TheVariants as act;
+ghost use Rattle.share_hub.specs.Calls.{IsIdle};
+ghost use Rattle.share_hub.specs.CatalogCalls.{HasBegun, Stops};
+ghost use Rattle.share_hub.specs.CatalogTurns.{LoadFits};
+ghost use Rattle.share_hub.specs.Edits.{Edits, Leaves, failed_edit};
+ghost use Rattle.share_hub.specs.Rounds.{OwnRounds, RoundStore, Rounds, RunsOn, TriedStore, Tries, end_by, failed_round, failed_tried, refusal_by};
+ghost use Rattle.share_hub.specs.declared.edit.Round.TheVariants as round;
+
+use crate::found::{CatalogRefusal, Next, shared};
+use crate::hub::{Hub, HubPass};
+use crate::new_log::Allowed;
+use catalog_log::{bytes_of_edit, record_name};
+use edge_core::{Name, Put, Store};
+use log_store::LoadRefusal;
+use share_book::{ReadyLog, SharedEdit};
+use share_catalog::{Edit, EditRefusal};
+use std::alloc::{AllocError, Global};
+use std::sync::Wait;
+
+/// Why an edit wasn't made.
+#[derive(Clone, Copy, Debug, PartialEq, Eq)]
+pub enum EditEnd {
+    /// An object is there as the next record, and is no record of at most 16 MiB, or the catalogue refuses its edit.
+    CatalogBlocked {
+        /// The record's number.
+        number: u64,
+    },
+    /// The store had 64 records that weren't known, and they are now.
+    Contended,
+    /// The catalogue refuses the edit after all records that the store had.
+    Refused(EditRefusal),
+    /// The store failed: its count of faults rose in this call. The edit's record may be stored.
+    StoreFault,
+    /// Memory is wanting. Nothing was stored.
+    NoMemory,
+}
+
+// The caller's edit was published; the store has another record of that number; or the caller ended what it began.
+#[derive(Clone, Copy)]
+enum Tried {
+    Done,
+    Exists,
+    StoreFault,
+    NoMemory,
+}
+
+// How many edits there are after a found record was published; the caller's edit was; or the caller ended what it began.
+#[derive(Clone, Copy)]
+enum Round {
+    Found(u64),
+    Done,
+    End(EditEnd),
+}
+
+// What is made before a put, so that none of it is wanting after.
+#[derive(Drop)]
+struct Own {
+    edit: Edit,
+    shared: SharedEdit,
+    bytes: Vec<u8>,
+    name: Name,
+}
+
+fn prepare(alloc: Global, edit: &Edit, number: u64) -> Result<Own, AllocError>
+    ensures same { IfOk result (λ o. (o.edit ≡ edit.now) × (o.shared ≡ edit.now)) }
+    ensures stored { IfOk result (λ o. (o.name ≡ record_name_of number) × (o.bytes.items ≡ record_text edit.now)) }
+{
+    Ok(Own {
+        edit: edit.copy(alloc)?,
+        shared: shared(alloc, edit)?,
+        bytes: bytes_of_edit(alloc, edit)?,
+        name: record_name(alloc, number)?,
+    })
+}
+
+fn end_of(refusal: CatalogRefusal) -> EditEnd
+    ensures { result ≡ end_by refusal }
+{
+    match refusal {
+        CatalogRefusal::Blocked { number } => EditEnd::CatalogBlocked { number },
+        CatalogRefusal::StoreFault => EditEnd::StoreFault,
+        CatalogRefusal::NoMemory => EditEnd::NoMemory,
+    }
+}
+
+fn failed(refusal: LoadRefusal) -> EditEnd
+    ensures { result ≡ end_by (refusal_by refusal) }
+{
+    match refusal {
+        LoadRefusal::StoreFault => EditEnd::StoreFault,
+        LoadRefusal::NoMemory => EditEnd::NoMemory,
+    }
+}
+
+impl Hub {
+    // Ends what the caller began.
+    fn end_edit<R: Wait>(&self, rt: &R, pass: &mut HubPass, end: EditEnd) -> Round
+        requires cell { (pass.old.cell ≡ self.now) × (pass.old.holds ≡ false) }
+        requires begun { open_on 0 pass.old.seen ≡ Some pass.old.number }
+        ensures same { IsIdle pass.old pass.new }
+        ensures ended { (result ≡ round.End end) × Stops pass.old pass.new [] None act.Abort }
+    {
+        self.abort(rt, pass);
+        Round::End(end)
+    }
+
+    // Puts the record of an edit that may be added, and publishes the edit.
+    fn put_own<R: Wait, W: Store>(
+        &self,
+        rt: &R,
+        alloc: Global,
+        pass: &mut HubPass,
+        store: &mut W,
+        edit: &Edit,
+        load: Option<ReadyLog>,
+        number: u64,
+    ) -> Tried
+        requires cell { (pass.old.cell ≡ self.now) × (pass.old.holds ≡ false) }
+        requires begun { HasBegun pass.old number }
+        requires admitted { refusal_of (edits pass.old.seen) edit.now ≡ None }
+        requires fits { LoadFits pass.old.seen edit.now load }
+        ensures same { IsIdle pass.old pass.new }
+        ensures tried { Tries result edit.now load pass.old pass.new }
+        ensures store { TriedStore result edit.now number (W.objects store.old) (W.objects store.new) (W.alone store.old) (W.alone store.new) pass.new }
+        ensures cause { Cause (W.faults store.old) (W.faults store.new) (failed_tried result) }
+    {
+        let Ok(own) = prepare(alloc, edit, number) else {
+            self.abort(rt, pass);
+            return Tried::NoMemory;
+        };
+        let Own {
+            edit: mine,
+            shared,
+            bytes,
+            name,
+        } = own;
+        match store.put_absent(&name, &bytes) {
+            Put::Stored => {
+                self.publish_own(rt, pass, mine, shared, load);
+                Tried::Done
+            }
+            Put::Exists => Tried::Exists,
+            Put::Failed => {
+                self.abort(rt, pass);
+                Tried::StoreFault
+            }
+        }
+    }
+
+    // The record that the store has, since a put answered that it has one.
+    fn again<R: Wait, W: Store>(
+        &self,
+        rt: &R,
+        alloc: Global,
+        pass: &mut HubPass,
+        store: &mut W,
+        edit: &Edit,
+        number: u64,
+    ) -> Round
+        requires cell { (pass.old.cell ≡ self.now) × (pass.old.holds ≡ false) }
+        requires begun { HasBegun pass.old number }
+        requires exists { IfSome (W.objects store.old) (λ os. IsSome (finmap.get os (record_name_of number))) }
+        ensures same { IsIdle pass.old pass.new }
+        ensures round { Rounds result edit.now number (W.objects store.old) (W.objects store.new) pass.old pass.new }
+        ensures store { RoundStore result edit.now number (W.objects store.old) (W.objects store.new) (W.alone store.old) (W.alone store.new) pass.new }
+        ensures cause { Cause (W.faults store.old) (W.faults store.new) (failed_round result) }
+    {
+        match self.next_record(rt, alloc, pass, store, number) {
+            Next::Found(count) => Round::Found(count),
+            Next::Absent => self.end_edit(rt, pass, EditEnd::CatalogBlocked { number }),
+            Next::End(refusal) => Round::End(end_of(refusal)),
+        }
+    }
+
+    // The caller's own record, or the one that the store has instead.
+    fn own<R: Wait, W: Store>(
+        &self,
+        rt: &R,
+        alloc: Global,
+        pass: &mut HubPass,
+        store: &mut W,
+        edit: &Edit,
+        load: Option<ReadyLog>,
+        number: u64,
+    ) -> Round
+        requires cell { (pass.old.cell ≡ self.now) × (pass.old.holds ≡ false) }
+        requires begun { HasBegun pass.old number }
+        requires admitted { refusal_of (edits pass.old.seen) edit.now ≡ None }
+        requires fits { LoadFits pass.old.seen edit.now load }
+        ensures same { IsIdle pass.old pass.new }
+        ensures round { OwnRounds result edit.now load number (W.objects store.old) (W.objects store.new) pass.old pass.new }
+        ensures store { RoundStore result edit.now number (W.objects store.old) (W.objects store.new) (W.alone store.old) (W.alone store.new) pass.new }
+        ensures cause { Cause (W.faults store.old) (W.faults store.new) (failed_round result) }
+    {
+        match self.put_own(rt, alloc, pass, store, edit, load, number) {
+            Tried::Done => Round::Done,
+            Tried::Exists => self.again(rt, alloc, pass, store, edit, number),
+            Tried::StoreFault => Round::End(EditEnd::StoreFault),
+            Tried::NoMemory => Round::End(EditEnd::NoMemory),
+        }
+    }
+
+    // The caller's own record, where no other is there.
+    fn own_round<R: Wait, W: Store>(
+        &self,
+        rt: &R,
+        alloc: Global,
+        pass: &mut HubPass,
+        store: &mut W,
+        edit: &Edit,
+        number: u64,
+    ) -> Round
+        requires cell { (pass.old.cell ≡ self.now) × (pass.old.holds ≡ false) }
+        requires begun { HasBegun pass.old number }
+        requires absent { Lacks (record_name_of number) (W.objects store.old) }
+        ensures same { IsIdle pass.old pass.new }
+        ensures round { Rounds result edit.now number (W.objects store.old) (W.objects store.new) pass.old pass.new }
+        ensures store { RoundStore result edit.now number (W.objects store.old) (W.objects store.new) (W.alone store.old) (W.alone store.new) pass.new }
+        ensures cause { Cause (W.faults store.old) (W.faults store.new) (failed_round result) }
+    {
+        match self.allow(rt, alloc, pass, store, edit) {
+            Allowed::Fits(load) => self.own(rt, alloc, pass, store, edit, load, number),
+            Allowed::Refused(refusal) => self.end_edit(rt, pass, EditEnd::Refused(refusal)),
+            Allowed::Failed(refusal) => self.end_edit(rt, pass, failed(refusal)),
+        }
+    }
+
+    // One record more of the store's, or the caller's own.
+    fn round<R: Wait, W: Store>(
+        &self,
+        rt: &R,
+        alloc: Global,
+        pass: &mut HubPass,
+        store: &mut W,
+        edit: &Edit,
+        number: u64,
+    ) -> Round
+        requires cell { (pass.old.cell ≡ self.now) × (pass.old.holds ≡ false) }
+        requires begun { HasBegun pass.old number }
+        ensures same { IsIdle pass.old pass.new }
+        ensures round { Rounds result edit.now number (W.objects store.old) (W.objects store.new) pass.old pass.new }
+        ensures store { RoundStore result edit.now number (W.objects store.old) (W.objects store.new) (W.alone store.old) (W.alone store.new) pass.new }
+        ensures cause { Cause (W.faults store.old) (W.faults store.new) (failed_round result) }
+    {
+        match self.next_record(rt, alloc, pass, store, number) {
+            Next::Found(count) => Round::Found(count),
+            Next::Absent => self.own_round(rt, alloc, pass, store, edit, number),
+            Next::End(refusal) => Round::End(end_of(refusal)),
+        }
+    }
+
+    // Up to 64 rounds.
+    fn rounds<R: Wait, W: Store>(
+        &self,
+        rt: &R,
+        alloc: Global,
+        pass: &mut HubPass,
+        store: &mut W,
+        edit: &Edit,
+        first: u64,
+    ) -> Result<u64, EditEnd>
+        requires cell { (pass.old.cell ≡ self.now) × (pass.old.holds ≡ false) }
+        requires begun { HasBegun pass.old first }
+        ensures same { IsIdle pass.old pass.new }
+        ensures run { RunsOn result edit.now (W.objects store.old) (W.objects store.new) pass.old pass.new }
+        ensures store { Leaves result edit.now (W.objects store.old) (W.objects store.new) (W.alone store.old) (W.alone store.new) pass.new }
+        ensures cause { Cause (W.faults store.old) (W.faults store.new) (failed_edit result) }
+    {
+        let mut number = first;
+        for turn in 0..64u32 {
+            match self.round(rt, alloc, pass, store, edit, number) {
+                Round::Found(count) => number = count,
+                Round::Done => return Ok(number),
+                Round::End(end) => return Err(end),
+            }
+        }
+        self.abort(rt, pass);
+        Err(EditEnd::Contended)
+    }
+
+    /// Makes an edit of the catalogue as the next record of the store, and answers the record's number. Where another caller
+    /// has begun on the catalogue, it waits.
+    ///
+    /// Records that the store has beyond those that are known are published before, at most 63 of them; the 64th ends the call
+    /// with `Contended`. A log is loaded for each edit, found or own, that binds a location of which none was; it is published
+    /// in the same turn as the edit, right before it. Memory for publishing is taken before the put, so a record that was
+    /// stored is published too. No turn is held over a call of the store.
+    pub fn edit<R: Wait, W: Store>(
+        &self,
+        rt: &R,
+        alloc: Global,
+        pass: &mut HubPass,
+        store: &mut W,
+        edit: &Edit,
+    ) -> Result<u64, EditEnd>
+        requires cell { (pass.old.cell ≡ self.now) × (pass.old.holds ≡ false) }
+        ensures same { IsIdle pass.old pass.new }
+        ensures entries { Edits result edit.now (W.objects store.old) (W.objects store.new) pass.old pass.new }
+        ensures store { Leaves result edit.now (W.objects store.old) (W.objects store.new) (W.alone store.old) (W.alone store.new) pass.new }
+        ensures cause { Cause (W.faults store.old) (W.faults store.new) (failed_edit result) }
+    {
+        match self.begin(rt, alloc, pass) {
+            Some(first) => self.rounds(rt, alloc, pass, store, edit, first),
+            None => Err(EditEnd::NoMemory),
+        }
+    }
+}

@@ -1,0 +1,175 @@
+// Records that the store has, published one by one.
+ghost use Rattle.std.specs.Prelude.{◌≡◌, [], None, Some, false, IfOk};
+ghost use Rattle.edge_core.specs.Faults.{Cause};
+ghost use Rattle.log_store.specs.Loads.{Looked};
+ghost use Rattle.share_catalog.specs.Catalogue.{refusal_of};
+ghost use Rattle.share_book.specs.History.{edits, open_on};
+ghost use Rattle.share_book.specs.declared.entry.Act.TheVariants as act;
+ghost use Rattle.share_hub.specs.Calls.{IsIdle};
+ghost use Rattle.share_hub.specs.CatalogCalls.{Goes, HasBegun, Stops};
+ghost use Rattle.share_hub.specs.CatalogTurns.{AllowsIn, LoadFits};
+ghost use Rattle.share_hub.specs.NewLogs.{failed_allowed};
+ghost use Rattle.share_hub.specs.Records.{HasRecord};
+ghost use Rattle.share_hub.specs.Rounds.{Nexts, PublishesNext, failed_next, refusal_by};
+ghost use Rattle.share_hub.specs.declared.found.Next.TheVariants as next;
+
+use crate::catalog_turns::Published;
+use crate::hub::{Hub, HubPass};
+use crate::new_log::{Allowed, allow};
+use crate::record::{Read, read_record};
+use edge_core::Store;
+use log_store::LoadRefusal;
+use share_book::{ReadyLog, SharedEdit};
+use share_catalog::Edit;
+use std::alloc::{AllocError, Global};
+use std::sync::{Arc, Wait};
+
+/// Why found records weren't published to the last.
+#[derive(Clone, Copy, Debug, PartialEq, Eq)]
+pub enum CatalogRefusal {
+    /// An object is there as the next record, and is no record of at most 16 MiB, or the catalogue refuses its edit.
+    Blocked {
+        /// The record's number.
+        number: u64,
+    },
+    /// The store failed: its count of faults rose in this call.
+    StoreFault,
+    /// Memory is wanting.
+    NoMemory,
+}
+
+// How many edits there are after a found record was published; none was there; or the caller ended what it began.
+#[derive(Clone, Copy)]
+pub enum Next {
+    Found(u64),
+    Absent,
+    End(CatalogRefusal),
+}
+
+// The refusal that a failed load stands for.
+pub fn refused(refusal: LoadRefusal) -> CatalogRefusal
+    ensures { result ≡ refusal_by refusal }
+{
+    match refusal {
+        LoadRefusal::StoreFault => CatalogRefusal::StoreFault,
+        LoadRefusal::NoMemory => CatalogRefusal::NoMemory,
+    }
+}
+
+// The same edit, to be held by several. The error is want of memory.
+pub fn shared(alloc: Global, edit: &Edit) -> Result<SharedEdit, AllocError>
+    ensures { IfOk result (λ s. s ≡ edit.now) }
+{
+    let Ok(held) = Arc::new(alloc, edit.copy(alloc)?) else {
+        return Err(AllocError);
+    };
+    Ok(SharedEdit::of(held))
+}
+
+impl Hub {
+    // Whether an edit may be published, and the log that it needs, which is loaded outside the turn.
+    pub(crate) fn allow<R: Wait, W: Store>(
+        &self,
+        rt: &R,
+        alloc: Global,
+        pass: &mut HubPass,
+        store: &mut W,
+        edit: &Edit,
+    ) -> Allowed
+        requires cell { (pass.old.cell ≡ self.now) × (pass.old.holds ≡ false) }
+        requires begun { open_on 0 pass.old.seen ≡ Some pass.old.number }
+        ensures same { IsIdle pass.old pass.new }
+        ensures goes { Goes pass.old pass.new [] }
+        ensures allowed { AllowsIn result edit.now (W.objects store.old) (W.objects store.new) pass.new.seen }
+        ensures looked { Looked (W.objects store.old) (W.objects store.new) (W.alone store.old) (W.alone store.new) }
+        ensures cause { Cause (W.faults store.old) (W.faults store.new) (failed_allowed result) }
+    {
+        let checked = self.check(rt, pass, edit);
+        allow(alloc, store, edit, checked)
+    }
+
+    // Ends what the caller began.
+    fn end<R: Wait>(&self, rt: &R, pass: &mut HubPass, refusal: CatalogRefusal) -> Next
+        requires cell { (pass.old.cell ≡ self.now) × (pass.old.holds ≡ false) }
+        requires begun { open_on 0 pass.old.seen ≡ Some pass.old.number }
+        ensures same { IsIdle pass.old pass.new }
+        ensures ended { (result ≡ next.End refusal) × Stops pass.old pass.new [] None act.Abort }
+    {
+        self.abort(rt, pass);
+        Next::End(refusal)
+    }
+
+    // Publishes an edit that the store had, after the log that it needs.
+    fn publish<R: Wait>(
+        &self,
+        rt: &R,
+        alloc: Global,
+        pass: &mut HubPass,
+        edit: Edit,
+        load: Option<ReadyLog>,
+    ) -> Next
+        requires cell { (pass.old.cell ≡ self.now) × (pass.old.holds ≡ false) }
+        requires begun { open_on 0 pass.old.seen ≡ Some pass.old.number }
+        requires admitted { refusal_of (edits pass.old.seen) edit ≡ None }
+        requires fits { LoadFits pass.old.seen edit load }
+        ensures same { IsIdle pass.old pass.new }
+        ensures published { PublishesNext result (record { load = load; edit = edit }) pass.old pass.new }
+    {
+        let Ok(held) = shared(alloc, &edit) else {
+            return self.end(rt, pass, CatalogRefusal::NoMemory);
+        };
+        match self.publish_found(rt, alloc, pass, edit, held, load) {
+            Published::Open(count) => Next::Found(count),
+            Published::NoMemory => Next::End(CatalogRefusal::NoMemory),
+        }
+    }
+
+    // Publishes a record that the store has.
+    fn found<R: Wait, W: Store>(
+        &self,
+        rt: &R,
+        alloc: Global,
+        pass: &mut HubPass,
+        store: &mut W,
+        edit: Edit,
+        number: u64,
+    ) -> Next
+        requires cell { (pass.old.cell ≡ self.now) × (pass.old.holds ≡ false) }
+        requires begun { HasBegun pass.old number }
+        requires stored { HasRecord (W.objects store.old) number edit }
+        ensures same { IsIdle pass.old pass.new }
+        ensures next { Nexts result number (W.objects store.old) (W.objects store.new) pass.old pass.new }
+        ensures looked { Looked (W.objects store.old) (W.objects store.new) (W.alone store.old) (W.alone store.new) }
+        ensures cause { Cause (W.faults store.old) (W.faults store.new) (failed_next result) }
+    {
+        match self.allow(rt, alloc, pass, store, &edit) {
+            Allowed::Fits(load) => self.publish(rt, alloc, pass, edit, load),
+            Allowed::Refused(_) => self.end(rt, pass, CatalogRefusal::Blocked { number }),
+            Allowed::Failed(refusal) => self.end(rt, pass, refused(refusal)),
+        }
+    }
+
+    // Publishes the record of that number, where the store has one.
+    pub(crate) fn next_record<R: Wait, W: Store>(
+        &self,
+        rt: &R,
+        alloc: Global,
+        pass: &mut HubPass,
+        store: &mut W,
+        number: u64,
+    ) -> Next
+        requires cell { (pass.old.cell ≡ self.now) × (pass.old.holds ≡ false) }
+        requires begun { HasBegun pass.old number }
+        ensures same { IsIdle pass.old pass.new }
+        ensures next { Nexts result number (W.objects store.old) (W.objects store.new) pass.old pass.new }
+        ensures looked { Looked (W.objects store.old) (W.objects store.new) (W.alone store.old) (W.alone store.new) }
+        ensures cause { Cause (W.faults store.old) (W.faults store.new) (failed_next result) }
+    {
+        match read_record(alloc, store, number) {
+            Ok(Read::Edit(edit)) => self.found(rt, alloc, pass, store, edit, number),
+            Ok(Read::Absent) => Next::Absent,
+            Ok(Read::Bad(_)) => self.end(rt, pass, CatalogRefusal::Blocked { number }),
+            Err(refusal) => self.end(rt, pass, refused(refusal)),
+        }
+    }
+}

@@ -1,0 +1,186 @@
+// Calls of the hub that take one turn on a table's log.
+ghost use Rattle.std.specs.Prelude.{◌≡◌, ◌∷◌, [], false, true, IfOk, None, Some, length, map};
+ghost use Rattle.std.specs.Arc.{arc_value};
+ghost use Rattle.log_actions.specs.CommitTexts.{commit_text};
+ghost use Rattle.share_book.specs.Books.{OwnIsLawful};
+ghost use Rattle.share_book.specs.History.{open_on, table_on};
+ghost use Rattle.share_book.specs.Legal.{TakesCommit, There};
+ghost use Rattle.share_book.specs.declared.entry.Act.TheVariants as act;
+ghost use Rattle.share_hub.specs.Calls.{Adds, IsIdle};
+ghost use Rattle.share_hub.specs.TableCalls.{BeginsLog, BlocksLog, FindsCommit, GoesOn, StartsLog, StopsOn};
+ghost use Rattle.share_hub.specs.TableTurns.{FindsLog, IsLog};
+
+use crate::hub::{Hub, HubPass};
+use crate::table_turns::{
+    CommitPublished, KnownLog, LogOpened, abort_log_in, begin_log_in, block_log_in, find_in,
+    own_commit_in, publish_commit_in,
+};
+use log_actions::Commit;
+use share_book::{LogState, SharedCommit};
+use std::alloc::{AllocError, Global};
+use std::sync::{Arc, Wait};
+use std::thread;
+
+impl Hub {
+    // The log of the table at a location.
+    pub(crate) fn find_log<R: Wait>(
+        &self,
+        rt: &R,
+        pass: &mut HubPass,
+        location: &str,
+    ) -> Option<KnownLog>
+        requires cell { (pass.old.cell ≡ self.now) × (pass.old.holds ≡ false) }
+        ensures same { IsIdle pass.old pass.new }
+        ensures added { Adds pass.old pass.new [] }
+        ensures found { FindsLog result location.now pass.new.seen }
+    {
+        let turn = self.cell.take(rt, pass);
+        let found = find_in(&turn.value, location);
+        self.cell.give(pass, turn);
+        found
+    }
+
+    // One turn, in which the Begin is added unless another is open on the log.
+    fn try_begin_log<R: Wait>(&self, rt: &R, pass: &mut HubPass, log: u32) -> LogOpened
+        requires cell { (pass.old.cell ≡ self.now) × (pass.old.holds ≡ false) }
+        requires there { IsLog log pass.old.seen }
+        ensures same { IsIdle pass.old pass.new }
+        ensures begun { BeginsLog result log pass.old pass.new }
+    {
+        let number = pass.number();
+        let mut turn = self.cell.take(rt, pass);
+        let opened = begin_log_in(&mut turn.value, number, log);
+        self.cell.give(pass, turn);
+        opened
+    }
+
+    // Begins on a table's log, and waits where another caller has begun on it. It answers how far the log is known, or None
+    // for want of memory.
+    pub(crate) fn begin_log<R: Wait>(
+        &self,
+        rt: &R,
+        pass: &mut HubPass,
+        log: u32,
+    ) -> Option<LogState>
+        requires cell { (pass.old.cell ≡ self.now) × (pass.old.holds ≡ false) }
+        requires there { IsLog log pass.old.seen }
+        ensures same { IsIdle pass.old pass.new }
+        ensures begun { StartsLog result log pass.old pass.new }
+    {
+        for _ in rt.forever() {
+            match self.try_begin_log(rt, pass, log) {
+                LogOpened::Open(state) => return Some(state),
+                LogOpened::NoMemory => return None,
+                LogOpened::Held => thread::yield_now(),
+            }
+        }
+        unreachable!()
+    }
+
+    // The commits of a table's log on which the caller has begun. The error is want of memory.
+    pub(crate) fn log_commits<R: Wait>(
+        &self,
+        rt: &R,
+        alloc: Global,
+        pass: &mut HubPass,
+        log: u32,
+    ) -> Result<Vec<Arc<Commit>>, AllocError>
+        requires cell { (pass.old.cell ≡ self.now) × (pass.old.holds ≡ false) }
+        requires there { IsLog log pass.old.seen }
+        requires begun { open_on log pass.old.seen ≡ Some pass.old.number }
+        ensures same { IsIdle pass.old pass.new }
+        ensures goes { GoesOn pass.old pass.new log [] }
+        ensures commits { IfOk result (λ v. There (table_on log pass.old.seen) (λ t. t.commits ≡ map arc_value v.items)) }
+    {
+        let turn = self.cell.take(rt, pass);
+        turn.value.len();
+        let commits = turn.value.commits(alloc, log);
+        self.cell.give(pass, turn);
+        commits
+    }
+
+    // Ends what the caller began.
+    pub(crate) fn abort_log<R: Wait>(&self, rt: &R, pass: &mut HubPass, log: u32)
+        requires cell { (pass.old.cell ≡ self.now) × (pass.old.holds ≡ false) }
+        requires there { IsLog log pass.old.seen }
+        requires begun { open_on log pass.old.seen ≡ Some pass.old.number }
+        ensures same { IsIdle pass.old pass.new }
+        ensures ended { StopsOn pass.old pass.new log [] (act.Abort ∷ []) }
+    {
+        let number = pass.number();
+        let mut turn = self.cell.take(rt, pass);
+        turn.value.len();
+        abort_log_in(&mut turn.value, number, log);
+        self.cell.give(pass, turn);
+    }
+
+    // Says that the next version isn't kept, and ends what the caller began.
+    pub(crate) fn block_log<R: Wait>(&self, rt: &R, pass: &mut HubPass, log: u32)
+        requires cell { (pass.old.cell ≡ self.now) × (pass.old.holds ≡ false) }
+        requires there { IsLog log pass.old.seen }
+        requires begun { open_on log pass.old.seen ≡ Some pass.old.number }
+        requires free { There (table_on log pass.old.seen) (λ t. t.block ≡ None) }
+        ensures same { IsIdle pass.old pass.new }
+        ensures blocked { BlocksLog log pass.old pass.new }
+    {
+        let number = pass.number();
+        let mut turn = self.cell.take(rt, pass);
+        turn.value.len();
+        block_log_in(&mut turn.value, number, log);
+        self.cell.give(pass, turn);
+    }
+
+    // Publishes a commit that the store had. For want of memory the caller has ended what it began after it.
+    pub(crate) fn publish_commit<R: Wait>(
+        &self,
+        rt: &R,
+        pass: &mut HubPass,
+        log: u32,
+        commit: Arc<Commit>,
+        shared: SharedCommit,
+        bytes: u64,
+    ) -> CommitPublished
+        requires cell { (pass.old.cell ≡ self.now) × (pass.old.holds ≡ false) }
+        requires there { IsLog log pass.old.seen }
+        requires begun { open_on log pass.old.seen ≡ Some pass.old.number }
+        requires same { shared ≡ commit.value }
+        requires bytes { bytes ≡ length (commit_text commit.value) }
+        requires takes { TakesCommit pass.old.seen log commit.value }
+        ensures same { IsIdle pass.old pass.new }
+        ensures found { FindsCommit result log commit.value pass.old pass.new }
+    {
+        let number = pass.number();
+        let mut turn = self.cell.take(rt, pass);
+        turn.value.len();
+        let published = publish_commit_in(&mut turn.value, number, log, commit, shared, bytes);
+        self.cell.give(pass, turn);
+        published
+    }
+
+    // Publishes the caller's own commit.
+    pub(crate) fn own_commit<R: Wait>(
+        &self,
+        rt: &R,
+        pass: &mut HubPass,
+        log: u32,
+        commit: Arc<Commit>,
+        shared: SharedCommit,
+        bytes: u64,
+    )
+        requires cell { (pass.old.cell ≡ self.now) × (pass.old.holds ≡ false) }
+        requires there { IsLog log pass.old.seen }
+        requires begun { open_on log pass.old.seen ≡ Some pass.old.number }
+        requires same { shared ≡ commit.value }
+        requires bytes { bytes ≡ length (commit_text commit.value) }
+        requires takes { TakesCommit pass.old.seen log commit.value }
+        requires lawful { OwnIsLawful true pass.old.seen log commit.value }
+        ensures same { IsIdle pass.old pass.new }
+        ensures ended { StopsOn pass.old pass.new log [] (act.Own commit.value ∷ []) }
+    {
+        let number = pass.number();
+        let mut turn = self.cell.take(rt, pass);
+        turn.value.len();
+        own_commit_in(&mut turn.value, number, log, commit, shared, bytes);
+        self.cell.give(pass, turn);
+    }
+}

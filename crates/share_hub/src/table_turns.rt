@@ -1,0 +1,158 @@
+// What is done of a table's log within one turn.
+ghost use Rattle.std.specs.Prelude.{◌≡◌, ◌++◌, ◌∷◌, [], None, Some, length, slice_index, ◌-◌, ◌≤◌, ◌<◌, true};
+ghost use Rattle.log_actions.specs.CommitTexts.{commit_text};
+ghost use Rattle.share_book.specs.Books.{OthersRest, OwnIsLawful, rests};
+ghost use Rattle.share_book.specs.History.{entry, open_on, pending, starts, table_on};
+ghost use Rattle.share_book.specs.Legal.{TakesCommit, There};
+ghost use Rattle.share_book.specs.declared.entry.Act.TheVariants as act;
+ghost use Rattle.share_hub.specs.TableTurns.{Blocks, FindsLog, GoesOnLog, IsLog, OpensLog, PublishesCommit};
+
+use log_actions::Commit;
+use share_book::{Book, LogState, SharedCommit};
+use std::alloc::{AllocError, Global};
+use std::sync::Arc;
+
+// The number of a table's log, and how far the log is known.
+#[derive(Clone, Copy)]
+pub struct KnownLog {
+    pub log: u32,
+    pub state: LogState,
+}
+
+// How far the log is known on which a Begin was added, or why none was.
+#[derive(Clone, Copy)]
+pub enum LogOpened {
+    Open(LogState),
+    Held,
+    NoMemory,
+}
+
+// A found commit was added. For want of memory the Begin was ended after it.
+#[derive(Clone, Copy)]
+pub enum CommitPublished {
+    Open,
+    NoMemory,
+}
+
+// The log of the table at a location.
+pub fn find_in(book: &Book, location: &str) -> Option<KnownLog>
+    ensures { FindsLog result location.now book.now.past.history }
+{
+    book.len();
+    let log = book.log_of(location)?;
+    Some(KnownLog {
+        log,
+        state: book.state(log),
+    })
+}
+
+pub fn begin_log_in(book: &mut Book, caller: u32, log: u32) -> LogOpened
+    requires rests { rests book.old ≡ true }
+    requires there { IsLog log book.old.past.history }
+    ensures rests { rests book.new ≡ true }
+    ensures opened { OpensLog result caller log book.old.past.history book.new.past.history }
+{
+    book.len();
+    match book.reserve(log) {
+        Ok(()) => {}
+        Err(_) => return LogOpened::NoMemory,
+    }
+    let state = book.state(log);
+    if book.begin(caller, log) {
+        LogOpened::Open(state)
+    } else {
+        LogOpened::Held
+    }
+}
+
+pub fn abort_log_in(book: &mut Book, caller: u32, log: u32)
+    requires rests { rests book.old ≡ true }
+    requires there { IsLog log book.old.past.history }
+    requires begun { open_on log book.old.past.history ≡ Some caller }
+    ensures rests { rests book.new ≡ true }
+    ensures added { book.new.past.history ≡ book.old.past.history ++ entry caller log act.Abort ∷ [] }
+{
+    book.len();
+    book.abort(caller, log);
+}
+
+// Says that the next version isn't kept, and ends what the caller began.
+pub fn block_log_in(book: &mut Book, caller: u32, log: u32)
+    requires rests { rests book.old ≡ true }
+    requires there { IsLog log book.old.past.history }
+    requires begun { open_on log book.old.past.history ≡ Some caller }
+    requires free { There (table_on log book.old.past.history) (λ t. t.block ≡ None) }
+    ensures rests { rests book.new ≡ true }
+    ensures blocked { Blocks caller log book.old.past.history book.new.past.history }
+{
+    book.len();
+    book.block(caller, log);
+    book.len();
+    book.abort(caller, log);
+}
+
+// Takes memory for the next entries after a found commit, or ends what the caller began.
+fn go_on_log(book: &mut Book, caller: u32, log: u32) -> CommitPublished
+    requires there { IsLog log book.old.past.history }
+    requires others { OthersRest log book.old }
+    requires settled { pending book.old.past.history ≡ None }
+    requires begun { open_on log book.old.past.history ≡ Some caller }
+    requires room { 1 ≤ slice_index book.old.past.rooms log }
+    ensures rests { rests book.new ≡ true }
+    ensures ended { GoesOnLog result caller log book.old.past.history book.new.past.history }
+{
+    book.len();
+    match book.reserve(log) {
+        Ok(()) => CommitPublished::Open,
+        Err(_) => {
+            book.abort(caller, log);
+            CommitPublished::NoMemory
+        }
+    }
+}
+
+// Publishes a commit that the store had.
+pub fn publish_commit_in(
+    book: &mut Book,
+    caller: u32,
+    log: u32,
+    commit: Arc<Commit>,
+    shared: SharedCommit,
+    bytes: u64,
+) -> CommitPublished
+    requires rests { rests book.old ≡ true }
+    requires there { IsLog log book.old.past.history }
+    requires begun { open_on log book.old.past.history ≡ Some caller }
+    requires same { shared ≡ commit.value }
+    requires bytes { bytes ≡ length (commit_text commit.value) }
+    requires takes { TakesCommit book.old.past.history log commit.value }
+    ensures rests { rests book.new ≡ true }
+    ensures published { PublishesCommit result caller log commit.value book.old.past.history book.new.past.history }
+{
+    book.len();
+    book.commit(caller, log, commit, shared, bytes, false);
+    go_on_log(book, caller, log)
+}
+
+// Publishes the caller's own commit.
+pub fn own_commit_in(
+    book: &mut Book,
+    caller: u32,
+    log: u32,
+    commit: Arc<Commit>,
+    shared: SharedCommit,
+    bytes: u64,
+)
+    requires rests { rests book.old ≡ true }
+    requires there { IsLog log book.old.past.history }
+    requires begun { open_on log book.old.past.history ≡ Some caller }
+    requires same { shared ≡ commit.value }
+    requires bytes { bytes ≡ length (commit_text commit.value) }
+    requires takes { TakesCommit book.old.past.history log commit.value }
+    requires lawful { OwnIsLawful true book.old.past.history log commit.value }
+    ensures rests { rests book.new ≡ true }
+    ensures added { book.new.past.history ≡ book.old.past.history ++ entry caller log (act.Own commit.value) ∷ [] }
+{
+    book.len();
+    book.commit(caller, log, commit, shared, bytes, true);
+}
