@@ -1,0 +1,5 @@
+//! Tests of the hub. They stand in a crate of their own since a crate with tests is proved twice, with them and without.
+#![tactic(auto)]
+
+#[cfg(test)]
+mod servers;
