@@ -3,8 +3,12 @@
 #![tactic(auto)]
 
 #[cfg(test)]
+mod faulty;
+#[cfg(test)]
 mod linked;
 #[cfg(test)]
 mod made;
 #[cfg(test)]
 mod queries;
+#[cfg(test)]
+mod turned;
