@@ -50,8 +50,7 @@ action_of_data d = action_of_member (only_member d)
 abbrev pub after_tree : Result Data TreeFault → Result (Option Action) LineFault
 after_tree (Ok d) = action_of_data d
 after_tree (Err tree.NotUtf8) = Err fault.NotUtf8
-after_tree (Err tree.NotJson) = Err fault.NotJson
-after_tree (Err tree.NoMemory) = Err fault.NoMemory
+after_tree (Err e) = Err fault.NotJson
 
 -- what a line stands for
 abbrev pub action_at : List ℕ → Result (Option Action) LineFault

@@ -8,7 +8,6 @@ use Rattle.case_table.specs.declared.action_fields.Field as table
 use Rattle.case_table.specs.declared.action_fields.Field.TheVariants.{ProtocolMinReaderVersion, ProtocolMinWriterVersion, ProtocolReaderFeatures, ProtocolWriterFeatures, MetaDataId, MetaDataName, MetaDataDescription, MetaDataFormat, MetaDataSchemaString, MetaDataPartitionColumns, MetaDataConfiguration, MetaDataCreatedTime, AddPath, AddPartitionValues, AddSize, AddModificationTime, AddDataChange, AddStats, AddTags, RemovePath, RemoveDeletionTimestamp, RemoveDataChange, RemovePartitionValues, RemoveSize, CdcPath, CdcPartitionValues, CdcSize, TxnAppId, TxnVersion, TxnLastUpdated}
 use Rattle.log_actions.specs.Ranges.{within, times_end}
 use Rattle.json_tree.specs.Results.{◌>>=◌}
-use Rattle.log_actions.specs.Faults.{fault_of}
 use Rattle.log_actions.specs.declared.line_fault.LineFault.{LineFault}
 use Rattle.log_actions.specs.declared.line_fault.LineFault.TheVariants.{Field, NotObject}
 use Rattle.log_actions.specs.declared.actions.AddFile.{AddFile}
@@ -22,18 +21,18 @@ use Rattle.log_actions.specs.declared.actions.CommitInfo.{CommitInfo}
 
 -- a field that has to be there
 abbrev pub required : {X : Type 0} → table.Field → Result (Option X) FieldFault → Result X LineFault
-required which (Err e) = Err (fault_of which e)
+required which (Err e) = Err (Field which)
 required which (Ok None) = Err (Field which)
 required which (Ok (Some x)) = Ok x
 
 -- a field that may be absent
 abbrev pub optional : {X : Type 0} → table.Field → Result (Option X) FieldFault → Result (Option X) LineFault
-optional which (Err e) = Err (fault_of which e)
+optional which (Err e) = Err (Field which)
 optional which (Ok o) = Ok o
 
 -- a field with a default
 abbrev pub default_to : {X : Type 0} → table.Field → X → Result (Option X) FieldFault → Result X LineFault
-default_to which default (Err e) = Err (fault_of which e)
+default_to which default (Err e) = Err (Field which)
 default_to which default (Ok None) = Ok default
 default_to which default (Ok (Some x)) = Ok x
 

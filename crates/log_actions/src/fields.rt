@@ -5,33 +5,33 @@ ghost use Rattle.serde_json.specs.Find.{as_str};
 ghost use Rattle.json_tree.specs.Fields.{field, or_wrong, present};
 ghost use Rattle.json_tree.specs.Gives.{Gives as Found};
 ghost use Rattle.log_actions.specs.Faults.{Gives};
-ghost use Rattle.log_actions.specs.Faults as faults;
+ghost use Rattle.log_actions.specs.Answers as answers;
 ghost use Rattle.log_actions.specs.Reading.{as_action, count, count_below, format_in};
 ghost use Rattle.log_actions.specs.Ranges.{times_end};
 ghost use Rattle.log_actions.specs.Reading as reading;
 
-use crate::{CommitTime, FileSize, Format, LineFault, ProtocolVersion};
+use crate::{CommitTime, FileSize, Format, LineFault, NoAction, ProtocolVersion};
 use case_table::Field;
 use json_tree::{FieldFault, Pairs, Text, member_at, pairs_at, text_at, whole_at};
 use serde_json::Value;
 use std::alloc::Global;
 
-fn fault_of(which: Field, fault: FieldFault) -> LineFault
-    ensures { result ≡ faults.fault_of which fault }
+fn fault_of(which: Field, fault: FieldFault) -> NoAction
+    ensures { result ≡ answers.fault_of which fault }
 {
     match fault {
-        FieldFault::WrongKind => LineFault::Field { which },
-        FieldFault::NoMemory => LineFault::NoMemory,
+        FieldFault::WrongKind => NoAction::Fault(LineFault::Field { which }),
+        FieldFault::NoMemory => NoAction::NoMemory,
     }
 }
 
 /// A field that has to be there.
-pub fn required<X: Drop>(which: Field, read: Result<Option<X>, FieldFault>) -> Result<X, LineFault>
-    ensures { result ≡ reading.required which read }
+pub fn required<X: Drop>(which: Field, read: Result<Option<X>, FieldFault>) -> Result<X, NoAction>
+    ensures { result ≡ answers.required_answer which read }
 {
     match read {
         Ok(Some(value)) => Ok(value),
-        Ok(None) => Err(LineFault::Field { which }),
+        Ok(None) => Err(NoAction::Fault(LineFault::Field { which })),
         Err(fault) => Err(fault_of(which, fault)),
     }
 }
@@ -40,8 +40,8 @@ pub fn required<X: Drop>(which: Field, read: Result<Option<X>, FieldFault>) -> R
 pub fn optional<X: Drop>(
     which: Field,
     read: Result<Option<X>, FieldFault>,
-) -> Result<Option<X>, LineFault>
-    ensures { result ≡ reading.optional which read }
+) -> Result<Option<X>, NoAction>
+    ensures { result ≡ answers.optional_answer which read }
 {
     match read {
         Ok(value) => Ok(value),
@@ -54,8 +54,8 @@ pub fn default_to<X: Drop>(
     which: Field,
     default: X,
     read: Result<Option<X>, FieldFault>,
-) -> Result<X, LineFault>
-    ensures { result ≡ reading.default_to which default read }
+) -> Result<X, NoAction>
+    ensures { result ≡ answers.default_answer which default read }
 {
     match read {
         Ok(Some(value)) => Ok(value),
@@ -71,7 +71,7 @@ pub fn required_text(
     object: &Value,
     name: &str,
     which: Field,
-) -> Result<Text, LineFault>
+) -> Result<Text, NoAction>
     ensures { Gives result (reading.required which (field as_str name.now (view object.now))) }
 {
     required(which, text_at(alloc, object, name))
@@ -84,20 +84,20 @@ pub fn optional_text(
     object: &Value,
     name: &str,
     which: Field,
-) -> Result<Option<Text>, LineFault>
+) -> Result<Option<Text>, NoAction>
     ensures { Gives result (reading.optional which (field as_str name.now (view object.now))) }
 {
     optional(which, text_at(alloc, object, name))
 }
 
 /// Refuses an action's value that isn't an object.
-pub fn object_of(value: &Value) -> Result<(), LineFault>
+pub fn object_of(value: &Value) -> Result<(), NoAction>
     ensures { Gives result (as_action (view value.now)) }
 {
     if value.is_object() {
         Ok(())
     } else {
-        Err(LineFault::NotObject)
+        Err(NoAction::Fault(LineFault::NotObject))
     }
 }
 

@@ -19,7 +19,7 @@ pub use case_table::Field;
 pub use commit::Commit;
 pub use commit_text::text_len;
 pub use fields::size_at;
-pub use line_fault::LineFault;
+pub use line_fault::{LineFault, NoAction};
 pub use lines::{action_of, action_of_line};
 pub use paths::{is_good_path, path_name};
 pub use printing::{line_len, line_of_action, size_field};

@@ -1,6 +1,6 @@
 // Why a line isn't read.
 ghost use Rattle.std.specs.Prelude.{◌≡◌};
-ghost use Rattle.log_actions.specs.declared.line_fault.LineFault.TheVariants.{NoMemory};
+ghost use Rattle.log_actions.specs.declared.line_fault.NoAction.TheVariants.{NoMemory};
 
 use case_table::Field;
 use std::alloc::AllocError;
@@ -18,14 +18,21 @@ pub enum LineFault {
     NotObject,
     /// A field of the action is wanting, of another kind or out of its bounds: the first such field in the order of the table.
     Field { which: Field },
-    /// Memory is wanting.
+}
+
+/// Why no action was read.
+#[derive(Clone, Copy, Debug, PartialEq, Eq)]
+pub enum NoAction {
+    /// The line isn't read.
+    Fault(LineFault),
+    /// Memory is wanting. It says nothing of the line.
     NoMemory,
 }
 
-impl From<AllocError> for LineFault {
+impl From<AllocError> for NoAction {
     ghost from_gives = { λ _ e. e ≡ NoMemory };
 
     fn from(_: AllocError) -> Self {
-        LineFault::NoMemory
+        NoAction::NoMemory
     }
 }

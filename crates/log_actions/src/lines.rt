@@ -7,7 +7,7 @@ ghost use Rattle.log_actions.specs.Lines.{action_at, action_in, action_of_data, 
 use crate::reading::{
     read_add, read_cdc, read_commit_info, read_meta_data, read_protocol, read_remove, read_txn,
 };
-use crate::{Action, LineFault};
+use crate::{Action, LineFault, NoAction};
 use json_tree::{TreeFault, tree_of};
 use serde_json::{Map, Value};
 use std::alloc::Global;
@@ -36,7 +36,7 @@ fn only_member(object: &Value) -> Option<(&str, &Value)>
 }
 
 #[tactic(auto, unfolding(crate::specs::Lines::action_in))]
-fn read_action(alloc: Global, name: &str, value: &Value) -> Result<Option<Action>, LineFault>
+fn read_action(alloc: Global, name: &str, value: &Value) -> Result<Option<Action>, NoAction>
     ensures { Gives result (action_in name.now (view value.now)) }
 {
     match name {
@@ -53,23 +53,23 @@ fn read_action(alloc: Global, name: &str, value: &Value) -> Result<Option<Action
 
 /// The action that a JSON value stands for: an object with one member that isn't null, the action's
 /// name and value. None where that member has another name.
-pub fn action_of(alloc: Global, object: &Value) -> Result<Option<Action>, LineFault>
+pub fn action_of(alloc: Global, object: &Value) -> Result<Option<Action>, NoAction>
     ensures { Gives result (action_of_data (view object.now)) }
 {
     match only_member(object) {
         Some((name, value)) => read_action(alloc, name, value),
-        None => Err(LineFault::NotOneKey),
+        None => Err(NoAction::Fault(LineFault::NotOneKey)),
     }
 }
 
 /// The action that a line stands for; none where its one member has another name.
-pub fn action_of_line(alloc: Global, line: &[u8]) -> Result<Option<Action>, LineFault>
+pub fn action_of_line(alloc: Global, line: &[u8]) -> Result<Option<Action>, NoAction>
     ensures { Gives result (action_at line.now) }
 {
     match tree_of(alloc, line) {
         Ok(value) => action_of(alloc, &value),
-        Err(TreeFault::NotUtf8) => Err(LineFault::NotUtf8),
-        Err(TreeFault::NotJson) => Err(LineFault::NotJson),
-        Err(TreeFault::NoMemory) => Err(LineFault::NoMemory),
+        Err(TreeFault::NotUtf8) => Err(NoAction::Fault(LineFault::NotUtf8)),
+        Err(TreeFault::NotJson) => Err(NoAction::Fault(LineFault::NotJson)),
+        Err(TreeFault::NoMemory) => Err(NoAction::NoMemory),
     }
 }

@@ -1,23 +1,23 @@
 // The actions that JSON objects stand for.
-ghost use Rattle.std.specs.Prelude.{◌≡◌, IfOk, codes};
+ghost use Rattle.std.specs.Prelude.{◌≡◌, [], IfOk, codes};
 ghost use Rattle.serde_json.specs.View.{view};
-ghost use Rattle.json_tree.specs.Fields.{field as field_in, whole};
-ghost use Rattle.case_table.specs.declared.action_fields.Field.TheVariants.{MetaDataCreatedTime};
+ghost use Rattle.json_tree.specs.Fields.{field as field_in, pairs, texts, whole};
+ghost use Rattle.case_table.specs.declared.action_fields.Field.TheVariants.{MetaDataConfiguration, MetaDataCreatedTime, MetaDataFormat, MetaDataPartitionColumns};
 ghost use Rattle.log_actions.specs.Faults.{Gives};
-ghost use Rattle.log_actions.specs.Reading.{add_of, cdc_of, commit_info_of, meta_data_of, optional as optional_in, parquet, protocol_of, remove_of, txn_of};
+ghost use Rattle.log_actions.specs.Reading.{add_of, cdc_of, commit_info_of, default_to as default_in, format_in, meta_data_of, optional as optional_in, parquet, protocol_of, remove_of, txn_of};
 
 use crate::fields::{
     default_to, format_at, has_member, object_of, optional, optional_text, required, required_text,
     size_at, time_at, version_at,
 };
-use crate::{AddFile, CdcFile, CommitInfo, Format, LineFault, MetaData, Protocol, RemoveFile, Txn};
+use crate::{AddFile, CdcFile, CommitInfo, Format, MetaData, NoAction, Protocol, RemoveFile, Txn};
 use case_table::Field;
 use json_tree::{Pairs, Text, Texts, flag_at, pairs_at, texts_at, whole_at};
 use serde_json::Value;
 use std::alloc::{AllocError, Global};
 
 #[tactic(auto, using(crate::proofs::FieldReads::Gives_optional), unfolding(crate::specs::Reading::protocol_of))]
-pub fn read_protocol(alloc: Global, value: &Value) -> Result<Protocol, LineFault>
+pub fn read_protocol(alloc: Global, value: &Value) -> Result<Protocol, NoAction>
     ensures { Gives result (protocol_of (view value.now)) }
 {
     object_of(value)?;
@@ -54,37 +54,59 @@ fn parquet_format(alloc: Global) -> Result<Format, AllocError>
     })
 }
 
-fn created_at(value: &Value) -> Result<Option<i64>, LineFault>
-    ensures { result ≡ optional_in MetaDataCreatedTime (field_in whole (codes "createdTime") (view value.now)) }
+#[tactic(auto, using(crate::proofs::FieldReads::Gives_default_to))]
+fn format_or_parquet(alloc: Global, value: &Value) -> Result<Format, NoAction>
+    ensures { Gives result (default_in MetaDataFormat parquet (field_in format_in (codes "format") (view value.now))) }
+{
+    let parquet = parquet_format(alloc)?;
+    default_to(
+        Field::MetaDataFormat,
+        parquet,
+        format_at(alloc, value, "format"),
+    )
+}
+
+#[tactic(auto, using(crate::proofs::FieldReads::Gives_default_to))]
+fn columns_at(alloc: Global, value: &Value) -> Result<Texts, NoAction>
+    ensures { Gives result (default_in MetaDataPartitionColumns [] (field_in texts (codes "partitionColumns") (view value.now))) }
+{
+    default_to(
+        Field::MetaDataPartitionColumns,
+        Texts::of(Vec::new(alloc)),
+        texts_at(alloc, value, "partitionColumns"),
+    )
+}
+
+#[tactic(auto, using(crate::proofs::FieldReads::Gives_default_to))]
+fn configuration_at(alloc: Global, value: &Value) -> Result<Pairs, NoAction>
+    ensures { Gives result (default_in MetaDataConfiguration [] (field_in pairs (codes "configuration") (view value.now))) }
+{
+    default_to(
+        Field::MetaDataConfiguration,
+        Pairs::new(alloc),
+        pairs_at(alloc, value, "configuration"),
+    )
+}
+
+#[tactic(auto, using(crate::proofs::FieldReads::Gives_optional))]
+fn created_at(value: &Value) -> Result<Option<i64>, NoAction>
+    ensures { Gives result (optional_in MetaDataCreatedTime (field_in whole (codes "createdTime") (view value.now))) }
 {
     optional(Field::MetaDataCreatedTime, whole_at(value, "createdTime"))
 }
 
-#[tactic(auto, using(crate::proofs::FieldReads::Gives_required, crate::proofs::FieldReads::Gives_optional, crate::proofs::FieldReads::Gives_default_to), unfolding(crate::specs::Reading::meta_data_of))]
-pub fn read_meta_data(alloc: Global, value: &Value) -> Result<MetaData, LineFault>
+#[tactic(auto, unfolding(crate::specs::Reading::meta_data_of))]
+pub fn read_meta_data(alloc: Global, value: &Value) -> Result<MetaData, NoAction>
     ensures { Gives result (meta_data_of (view value.now)) }
 {
     object_of(value)?;
     let id = required_text(alloc, value, "id", Field::MetaDataId)?;
     let name = optional_text(alloc, value, "name", Field::MetaDataName)?;
     let description = optional_text(alloc, value, "description", Field::MetaDataDescription)?;
-    let parquet = parquet_format(alloc)?;
-    let format = default_to(
-        Field::MetaDataFormat,
-        parquet,
-        format_at(alloc, value, "format"),
-    )?;
+    let format = format_or_parquet(alloc, value)?;
     let schema = required_text(alloc, value, "schemaString", Field::MetaDataSchemaString)?;
-    let columns = default_to(
-        Field::MetaDataPartitionColumns,
-        Texts::of(Vec::new(alloc)),
-        texts_at(alloc, value, "partitionColumns"),
-    )?;
-    let configuration = default_to(
-        Field::MetaDataConfiguration,
-        Pairs::new(alloc),
-        pairs_at(alloc, value, "configuration"),
-    )?;
+    let columns = columns_at(alloc, value)?;
+    let configuration = configuration_at(alloc, value)?;
     let created = created_at(value)?;
     Ok(MetaData {
         id,
@@ -99,7 +121,7 @@ pub fn read_meta_data(alloc: Global, value: &Value) -> Result<MetaData, LineFaul
 }
 
 #[tactic(auto, using(crate::proofs::FieldReads::Gives_required, crate::proofs::FieldReads::Gives_optional, crate::proofs::FieldReads::Gives_default_to), unfolding(crate::specs::Reading::add_of))]
-pub fn read_add(alloc: Global, value: &Value) -> Result<AddFile, LineFault>
+pub fn read_add(alloc: Global, value: &Value) -> Result<AddFile, NoAction>
     ensures { Gives result (add_of (view value.now)) }
 {
     object_of(value)?;
@@ -132,7 +154,7 @@ pub fn read_add(alloc: Global, value: &Value) -> Result<AddFile, LineFault>
 }
 
 #[tactic(auto, using(crate::proofs::FieldReads::Gives_required, crate::proofs::FieldReads::Gives_optional), unfolding(crate::specs::Reading::remove_of))]
-pub fn read_remove(alloc: Global, value: &Value) -> Result<RemoveFile, LineFault>
+pub fn read_remove(alloc: Global, value: &Value) -> Result<RemoveFile, NoAction>
     ensures { Gives result (remove_of (view value.now)) }
 {
     object_of(value)?;
@@ -159,7 +181,7 @@ pub fn read_remove(alloc: Global, value: &Value) -> Result<RemoveFile, LineFault
 }
 
 #[tactic(auto, using(crate::proofs::FieldReads::Gives_required, crate::proofs::FieldReads::Gives_default_to), unfolding(crate::specs::Reading::cdc_of))]
-pub fn read_cdc(alloc: Global, value: &Value) -> Result<CdcFile, LineFault>
+pub fn read_cdc(alloc: Global, value: &Value) -> Result<CdcFile, NoAction>
     ensures { Gives result (cdc_of (view value.now)) }
 {
     object_of(value)?;
@@ -174,7 +196,7 @@ pub fn read_cdc(alloc: Global, value: &Value) -> Result<CdcFile, LineFault>
 }
 
 #[tactic(auto, unfolding(crate::specs::Reading::txn_of))]
-pub fn read_txn(alloc: Global, value: &Value) -> Result<Txn, LineFault>
+pub fn read_txn(alloc: Global, value: &Value) -> Result<Txn, NoAction>
     ensures { Gives result (txn_of (view value.now)) }
 {
     object_of(value)?;

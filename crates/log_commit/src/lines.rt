@@ -9,7 +9,7 @@ ghost use Rattle.log_commit.specs.Seen.{AreRead, TakesLine};
 
 use crate::CommitFault;
 use json_print::lines::cut;
-use log_actions::{Action, LineFault, action_of_line};
+use log_actions::{Action, NoAction, action_of_line};
 use std::alloc::{AllocError, Global};
 
 // The actions of lines, and the numbers of the lines that have one.
@@ -25,7 +25,7 @@ fn is_blank(line: &[u8]) -> bool
     line.iter().all(|b| b" \t\r".contains(b))
 }
 
-fn read_line(alloc: Global, line: &[u8]) -> Result<Option<Action>, LineFault>
+fn read_line(alloc: Global, line: &[u8]) -> Result<Option<Action>, NoAction>
     ensures { Gives result (given line.now) }
 {
     if is_blank(line) {
@@ -63,8 +63,8 @@ fn take_line(
             found.add(n, action)?;
             Ok(None)
         }
-        Err(LineFault::NoMemory) => Err(AllocError),
-        Err(fault) => Ok(Some(CommitFault::Line { n, fault })),
+        Err(NoAction::Fault(fault)) => Ok(Some(CommitFault::Line { n, fault })),
+        Err(NoAction::NoMemory) => Err(AllocError),
     }
 }
 

@@ -2,7 +2,7 @@
 use crate::texts::{action, spelt};
 use case_table::Field;
 use json_tree::Texts;
-use log_actions::{Action, FileSize, LineFault, ProtocolVersion};
+use log_actions::{Action, FileSize, LineFault, NoAction, ProtocolVersion};
 use std::alloc::{AllocError, Global};
 
 fn is_first(texts: &Option<Texts>, wanted: &str) -> bool {
@@ -231,8 +231,8 @@ fn line_without(alloc: Global, action: &str, field: &str) -> Result<String, Allo
 
 fn fault_of(alloc: Global, line: &[u8]) -> Option<LineFault> {
     match &action(alloc, line) {
-        Ok(_) => None,
-        Err(fault) => Some(*fault),
+        Err(NoAction::Fault(fault)) => Some(*fault),
+        Ok(_) | Err(NoAction::NoMemory) => None,
     }
 }
 

@@ -1,7 +1,7 @@
 // Texts that the tests are made of, and the actions of lines.
 use edge_core::Name;
 use json_tree::Text;
-use log_actions::{Action, LineFault, action_of_line};
+use log_actions::{Action, NoAction, action_of_line};
 use std::alloc::{AllocError, Global};
 
 pub fn text(alloc: Global, of: &str) -> Result<Text, AllocError> {
@@ -29,6 +29,6 @@ pub fn spelt(
 }
 
 // The action of a line. It has no clause, so that what is known of the answer doesn't burden the tests' proofs.
-pub fn action(alloc: Global, line: &[u8]) -> Result<Option<Action>, LineFault> {
+pub fn action(alloc: Global, line: &[u8]) -> Result<Option<Action>, NoAction> {
     action_of_line(alloc, line)
 }
