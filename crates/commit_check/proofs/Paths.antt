@@ -1,16 +1,14 @@
 -- What counts as read, by a file and by a path.
-use Rattle.std.proofs.Common.{◌≡◌, ℕ, zero, suc, ◌<◌, List, [], ◌∷◌, Bool, true, false, cond, Option, Some, None, Err, map, length, get_or, refl, sym, ap, ◌∙◌, subst, Less, Equal, arith, bytes_eq, nat_cmp}
-use Rattle.std.specs.Prelude.{◌||◌, filter, nat_lt}
+use Rattle.std.proofs.Common.{◌≡◌, ℕ, List, [], ◌∷◌, Bool, true, false, cond, Option, Some, None, map, refl, sym, ap, ◌∙◌, subst, Less, bytes_eq, nat_cmp}
+use Rattle.std.specs.Prelude.{◌||◌, filter}
 use Rattle.std.specs.List.{AllByRecursion, find, list_any}
-use Rattle.std.specs.List.Sorted.{IsStrictlySortedBy, IsBinarySearchResult}
+use Rattle.std.specs.List.Sorted.{IsStrictlySortedBy}
 use Rattle.std.specs.Option.{option_map_or}
 use Rattle.std.specs.Ordering.{is_eq}
 use Rattle.std.specs.Cmp.Lexicographic.{slice_cmp}
-use Rattle.std.proofs.lemmas.Bool.Decides.{nat_tests}
 use Rattle.std.proofs.lemmas.Cmp.{nat_list_eq_equiv}
 use Rattle.std.proofs.lemmas.Map.Text.{is_eq-slice_cmp}
 use Rattle.std.proofs.lemmas.Slice.Eq.{bytes_eq-Decides}
-use Rattle.json_tree.proofs.Rising.{below, rises}
 use Rattle.log_actions.specs.declared.actions.AddFile.{AddFile}
 use Rattle.log_replay.specs.Snapshots.{PathsRise}
 use Rattle.log_replay.specs.State.{State}
@@ -25,36 +23,6 @@ use Rattle.commit_check.specs.declared.reading.Reading.TheVariants as reading
 
 abbrev path_of : AddFile → List ℕ
 path_of f = f.path
-
--- ---- halving
-
--- the file that ties with the path is the first of that path
-pub found : (path : List ℕ) (fs : List AddFile) (i : ℕ) (f : AddFile) → PathsRise fs → i < length fs → f ≡ get_or fs i f → slice_cmp nat_cmp f.path path ≡ Equal → Some f ≡ file_at fs path
-unfolding IsStrictlySortedBy
-found path [] i f rise lt at is = absurd (omega (arith, lt))
-found path (g ∷ fs) zero f rise lt at is =
-    let same : bytes_eq g.path path ≡ true = sym (is_eq-slice_cmp g.path path) ∙ ap is_eq (subst (λ x. slice_cmp nat_cmp x.path path ≡ Equal) at is) in
-    rw same (ap Some at)
-found path (g ∷ fs) (suc i) f rise lt at is =
-    let lower : slice_cmp nat_cmp g.path (get_or fs i f).path ≡ Less = below path_of (g ∷ fs) 0 (suc i) f rise (omega arith) lt in
-    let named : f.path ≡ path = (bytes_eq-Decides f.path path).0 (sym (is_eq-slice_cmp f.path path) ∙ ap is_eq is) in
-    let first : slice_cmp nat_cmp g.path path ≡ Less = subst (λ n. slice_cmp nat_cmp g.path n ≡ Less) named (subst (λ x. slice_cmp nat_cmp g.path x.path ≡ Less) (sym at) lower) in
-    let other : bytes_eq g.path path ≡ false = sym (is_eq-slice_cmp g.path path) ∙ ap is_eq first in
-    rw other (found path fs i f rise.1 (omega (arith, lt)) at is)
-
-none_left : (path : List ℕ) (fs : List AddFile) → ((k : ℕ) (d : AddFile) → k < length fs → is_eq (slice_cmp nat_cmp (get_or fs k d).path path) ≡ false) → None ≡ file_at fs path
-none_left path [] h = refl
-none_left path (g ∷ fs) h =
-    let other : bytes_eq g.path path ≡ false = sym (is_eq-slice_cmp g.path path) ∙ h 0 g (omega arith) in
-    rw other (none_left path fs (λ k d lt. h (suc k) d (omega (arith, lt))))
-
-pub missing : (path : List ℕ) (fs : List AddFile) (i : ℕ) → PathsRise fs → IsBinarySearchResult (λ f. slice_cmp nat_cmp f.path path) fs (Err i) → None ≡ file_at fs path
-missing path fs i rise ends =
-    let parted = ends (rises path_of fs path rise) in
-    none_left path fs (λ k d lt. elim (nat_lt k i) as (λ b. nat_lt k i ≡ b → is_eq (slice_cmp nat_cmp (get_or fs k d).path path) ≡ false) [
-      | true ↦ λ e. ap is_eq (parted.0 k d (omega arith) (grind (arith, nat_tests, e)))
-      | false ↦ λ e. ap is_eq (parted.1 k d (grind (arith, nat_tests, e)) lt)
-    ] refl)
 
 -- ---- the paths of the files that count
 

@@ -1,7 +1,6 @@
 // What of a state counts as read, its predicate bound to the table's columns once.
 ghost use Rattle.std.specs.Prelude.{◌≡◌, IfOk, option_map};
 ghost use Rattle.commit_check.specs.Lookups as look;
-ghost use Rattle.log_replay.specs.Snapshots.{PathsRise};
 
 use crate::offer::Reads;
 use log_actions::{AddFile, MetaData};
@@ -29,17 +28,6 @@ fn filter_of(alloc: Global, reads: &Reads, meta: &MetaData) -> Result<Option<Fil
             let pred = pred_of(alloc, text.as_str())?;
             Ok(Some(Filter::of(alloc, &pred, meta)?))
         }
-    }
-}
-
-// The file at that path, if it is one of those, whose paths rise. It is found by halving.
-fn file_at<'a>(files: &'a [AddFile], path: &str) -> Option<&'a AddFile>
-    requires { PathsRise files.now }
-    ensures { option_map (λ f. f.now) result ≡ look.file_at files.now path.now }
-{
-    match files.binary_search_by(|file| file.path.as_str().cmp(path)) {
-        Ok(place) => Some(&files[place]),
-        Err(_) => None,
     }
 }
 
@@ -78,7 +66,7 @@ impl<'a> Reading<'a> {
     {
         match self {
             Reading::Nothing => false,
-            Reading::Of(state, filter) => match file_at(state.files(), path) {
+            Reading::Of(state, filter) => match state.find(path) {
                 Some(file) => filter.lists(file),
                 None => false,
             },

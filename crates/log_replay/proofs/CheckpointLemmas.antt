@@ -57,7 +57,7 @@ last_case key q e es true is h keyed ih =
 last_case key q e es false is h keyed ih = ih
 
 -- among values in order of their keys, the last with a key is the only one
-last_in_order : {V : Type 0} (key : V → List ℕ) (q : List ℕ) (es : List (List ℕ × V)) → T (is_sorted (slice_cmp nat_cmp) es) → AreKeyed key es
+pub last_in_order : {V : Type 0} (key : V → List ℕ) (q : List ℕ) (es : List (List ℕ × V)) → T (is_sorted (slice_cmp nat_cmp) es) → AreKeyed key es
     → last_or None (filter (λ v. bytes_eq (key v) q) (map (λ e. e.1) es)) ≡ map.find (slice_cmp nat_cmp) q es
 last_in_order key q [] h keyed = refl
 last_in_order key q (e ∷ es) h keyed =
@@ -73,11 +73,11 @@ add_more : (b : Bool) (f : AddFile) (fs : List AddFile) (o : Option AddFile) →
 add_more true f fs o = refl
 add_more false f fs o = refl
 
-latest_adds : (q : List ℕ) (o : Option AddFile) (fs : List AddFile) → latest q o (map (λ f. action.Add f) fs) ≡ last_or o (filter (λ f. bytes_eq f.path q) fs)
+pub latest_adds : (q : List ℕ) (o : Option AddFile) (fs : List AddFile) → latest q o (map (λ f. action.Add f) fs) ≡ last_or o (filter (λ f. bytes_eq f.path q) fs)
 latest_adds q o [] = refl
 latest_adds q o (f ∷ fs) = latest_adds q (after q o (action.Add f)) fs ∙ add_more (bytes_eq f.path q) f (filter (λ f. bytes_eq f.path q) fs) o
 
-latest_txns_none : (q : List ℕ) (o : Option AddFile) (ts : List Txn) → latest q o (map (λ t. action.Txn t) ts) ≡ o
+pub latest_txns_none : (q : List ℕ) (o : Option AddFile) (ts : List Txn) → latest q o (map (λ t. action.Txn t) ts) ≡ o
 latest_txns_none q o [] = refl
 latest_txns_none q o (t ∷ ts) = latest_txns_none q o ts
 

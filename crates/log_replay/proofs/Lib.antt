@@ -11,3 +11,8 @@ pub mod PartLemmas
 pub mod CheckpointLemmas
 pub mod HeadLemmas
 pub mod TimeLemmas
+pub mod ListingLemmas
+pub mod SpotLemmas
+pub mod BesideLemmas
+pub mod StartLemmas
+pub mod FindLemmas

@@ -5,3 +5,4 @@ pub mod Applied
 pub mod Times
 pub mod Standing
 pub mod Snapshots
+pub mod Listing

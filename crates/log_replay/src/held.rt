@@ -25,7 +25,7 @@ pub struct Held<'a> {
 
 impl<'a> Held<'a> {
     ghost use Rattle.log_replay.specs.Applied.{Applies, AreParts, Holds};
-    ghost use Rattle.log_replay.specs.Snapshots.{checkpoint_of};
+    ghost use Rattle.log_replay.specs.Listing.{bare_of};
 
     pub fn new(alloc: Global) -> Self
         ensures { Holds result [] }
@@ -49,13 +49,12 @@ impl<'a> Held<'a> {
         }
     }
 
-    // What a state holds.
-    pub fn of(alloc: Global, base: &'a Snapshot) -> Result<Self, AllocError>
-        ensures { IfOk result (λ held. Holds held (checkpoint_of base.now)) }
+    // What a state holds beside its files.
+    pub fn beside(alloc: Global, base: &'a Snapshot) -> Result<Self, AllocError>
+        ensures { IfOk result (λ held. Holds held (bare_of base.now)) }
     {
         let mut held = Held::under(alloc, base.protocol(), base.meta());
         held.put_txns(base.txns())?;
-        held.put_files(base.files())?;
         Ok(held)
     }
 
@@ -70,15 +69,6 @@ impl<'a> Held<'a> {
         ensures { OnOk result (Applies self.old self.new (action.Txn txn.now ∷ [])) }
     {
         self.txns.insert(txn.app.as_str(), txn)?;
-        Ok(())
-    }
-
-    fn put_files(&mut self, files: &'a [AddFile]) -> Result<(), AllocError>
-        ensures { OnOk result (Applies self.old self.new (map (λ f. action.Add f) files.now)) }
-    {
-        for file in files {
-            self.put_file(file)?;
-        }
         Ok(())
     }
 

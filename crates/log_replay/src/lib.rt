@@ -3,13 +3,18 @@
 
 mod causes;
 mod commits;
+mod files;
 mod held;
+mod listing;
+mod part;
+mod places;
 mod refusal;
 mod snapshot;
 mod standing;
 mod times;
 
 pub use commits::{advance, replay, replay_ref};
+pub use files::Files;
 pub use refusal::{Cause, NoState, ReplayRefusal};
 pub use snapshot::{Snapshot, SnapshotRef};
 pub use standing::{Support, refusal_after};

@@ -7,11 +7,15 @@ mod loads;
 #[cfg(test)]
 mod logs;
 #[cfg(test)]
+mod long_log;
+#[cfg(test)]
 mod moments;
 #[cfg(test)]
 mod predicates;
 #[cfg(test)]
 mod probes;
+#[cfg(test)]
+mod shared;
 #[cfg(test)]
 mod states;
 #[cfg(test)]

@@ -193,8 +193,8 @@ fn txn_version(snapshot: &Snapshot, app: &str) -> Option<i64> {
 }
 
 fn is_listed(snapshot: &Snapshot, last_path: &str, first_app: &str) -> bool {
-    match (snapshot.files(), snapshot.txns()) {
-        ([_, file], [txn, _]) => {
+    match (snapshot.files().last(), snapshot.txns()) {
+        (Some(file), [txn, _]) => {
             file.path.as_str() == last_path && txn.app.as_str() == first_app
         }
         _ => false,

@@ -1,0 +1,171 @@
+// A table of some hundred files over ten versions that each change a few of them.
+ghost use Rattle.std.specs.Prelude.{◌<◌, ◌≤◌};
+
+use itoa::Buffer;
+use log_actions::{AddFile, Commit};
+use log_commit::commit_of;
+use log_replay::{Snapshot, advance, replay};
+use std::alloc::Global;
+use std::sync::Arc;
+use step_count::Steps;
+
+const BEGUN: &str = "{\"protocol\":{\"minReaderVersion\":1,\"minWriterVersion\":2}}
+{\"metaData\":{\"id\":\"m\",\"schemaString\":\"{}\"}}
+";
+
+const VERSIONS: u64 = 10;
+
+const NUMBERS: u64 = 1_300;
+
+struct Work;
+
+// The size that the file of a number has at a version, 0 where there is none. Each version adds
+// ten odd numbers among the least, which there are none of at first; removes an even number; and
+// gives another a new size.
+fn size_at(version: u64, number: u64) -> u64
+    requires { version ≤ 10 }
+{
+    if number % 2 == 1 {
+        return (number < 20 * version) as u64;
+    }
+    if number > 1_000 && number <= 1_000 + 2 * version {
+        return 0;
+    }
+    if number > 600 && number <= 600 + 2 * version {
+        return number;
+    }
+    1
+}
+
+// The path of a number: the paths of numbers below 9,000 are in their order.
+fn path_of(alloc: Global, number: u64) -> Option<String>
+    requires { number < 1300 }
+{
+    String::from_str(alloc, Buffer::new().format(1_000 + number)).ok()
+}
+
+fn push_line(text: &mut String, path: &str, size: u64) -> Option<()> {
+    if size == 0 {
+        text.push_str("{\"remove\":{\"path\":\"").ok()?;
+    } else {
+        text.push_str("{\"add\":{\"size\":").ok()?;
+        text.push_str(Buffer::new().format(size)).ok()?;
+        text.push_str(",\"path\":\"").ok()?;
+    }
+    text.push_str(path).ok()?;
+    text.push_str("\"}}\n").ok()
+}
+
+fn committed(alloc: Global, text: &str) -> Option<Arc<Commit>> {
+    Arc::new(alloc, commit_of(alloc, text.as_bytes()).ok()?).ok()
+}
+
+// The first version.
+fn first(alloc: Global) -> Option<Arc<Commit>> {
+    let mut text = String::from_str(alloc, BEGUN).ok()?;
+    for number in 0..NUMBERS {
+        let size = size_at(0, number);
+        if size > 0 {
+            push_line(&mut text, &path_of(alloc, number)?, size)?;
+        }
+    }
+    committed(alloc, &text)
+}
+
+// A later version: each number that it changes.
+fn later(alloc: Global, version: u64) -> Option<Arc<Commit>>
+    requires { (1 ≤ version) × (version ≤ 10) }
+{
+    let mut text = String::new(alloc);
+    for number in 0..NUMBERS {
+        let size = size_at(version, number);
+        if size != size_at(version - 1, number) {
+            push_line(&mut text, &path_of(alloc, number)?, size)?;
+        }
+    }
+    committed(alloc, &text)
+}
+
+fn begun(alloc: Global) -> Option<Snapshot> {
+    let mut log = Vec::new(alloc);
+    log.push(first(alloc)?).ok()?;
+    if log.is_empty() {
+        return None;
+    }
+    let mut steps: Steps<Work> = Steps::new();
+    replay(alloc, &log, &mut steps).ok()
+}
+
+fn next(alloc: Global, base: &Snapshot, commit: &Commit) -> Option<Snapshot> {
+    if base.version() > VERSIONS {
+        return None;
+    }
+    let mut steps: Steps<Work> = Steps::new();
+    advance(alloc, base, commit, &mut steps).ok()
+}
+
+// The states of the versions, each made of the one before.
+fn states(alloc: Global) -> Option<Vec<Snapshot>> {
+    let mut states = Vec::new(alloc);
+    states.push(begun(alloc)?).ok()?;
+    for version in 1..=VERSIONS {
+        let state = next(alloc, states.last()?, &*later(alloc, version)?)?;
+        states.push(state).ok()?;
+    }
+    Some(states)
+}
+
+fn is_file(file: Option<&AddFile>, path: &str, size: u64) -> bool {
+    match file {
+        Some(file) => file.path.as_str() == path && file.size.get() == size,
+        None => false,
+    }
+}
+
+fn file_at(state: &Snapshot, place: u64) -> Option<&AddFile> {
+    if place < state.len() {
+        return Some(state.file(place));
+    }
+    None
+}
+
+// Whether a state has these files and no other, by each way to read them.
+fn is_state(alloc: Global, state: &Snapshot, version: u64) -> Option<bool>
+    requires { version ≤ 10 }
+{
+    let mut files = state.files();
+    let mut place = 0u64;
+    for number in 0..NUMBERS {
+        let path = path_of(alloc, number)?;
+        let size = size_at(version, number);
+        if state.has(&path) != (size > 0) {
+            return Some(false);
+        }
+        if size > 0 {
+            let read = is_file(files.next(), &path, size)
+                && is_file(file_at(state, place), &path, size)
+                && is_file(state.find(&path), &path, size);
+            if !read {
+                return Some(false);
+            }
+            place = place.wrapping_add(1);
+        }
+    }
+    Some(files.next().is_none() && place == state.len() && state.version() == version)
+}
+
+// Whether each version has its own files, also after later ones were made of it.
+fn are_states(alloc: Global) -> Option<bool> {
+    let states = states(alloc)?;
+    for version in 0..=VERSIONS {
+        if !is_state(alloc, states.get(version as usize)?, version)? {
+            return Some(false);
+        }
+    }
+    Some(true)
+}
+
+#[test]
+fn each_version_keeps_its_own_files(rt: HostRuntime) {
+    assert!(rt; are_states(rt.alloc()) == Some(true));
+}
