@@ -4,8 +4,8 @@ use Rattle.catalog_log.specs.declared.fault.RecordFault.{RecordFault}
 use Rattle.catalog_log.specs.declared.fault.RecordFault.TheVariants as record_fault
 use Rattle.json_tree.specs.declared.tree.TreeFault.{TreeFault}
 use Rattle.json_tree.specs.declared.tree.TreeFault.TheVariants as tree
-use Rattle.log_actions.specs.declared.line_fault.LineFault.{LineFault}
-use Rattle.log_actions.specs.declared.line_fault.LineFault.TheVariants as line
+use Rattle.log_actions.specs.declared.line_fault.NoAction.{NoAction}
+use Rattle.log_actions.specs.declared.line_fault.NoAction.TheVariants as none
 use Rattle.share_request.specs.Faults.{parameter_of}
 use Rattle.share_request.specs.declared.fault.RequestFault.{RequestFault}
 use Rattle.share_request.specs.declared.fault.RequestFault.TheVariants as fault
@@ -36,13 +36,9 @@ record_stop record_fault.NotJson = stop.Refused fault.BadBody
 record_stop record_fault.BadRecord = stop.Refused fault.BadBody
 record_stop record_fault.NoMemory = stop.NoMemory
 
-abbrev pub line_stop : LineFault → Stop
-line_stop line.NotUtf8 = stop.Refused fault.BadBody
-line_stop line.NotJson = stop.Refused fault.BadBody
-line_stop line.NotOneKey = stop.Refused fault.BadBody
-line_stop line.NotObject = stop.Refused fault.BadBody
-line_stop (line.Field f) = stop.Refused fault.BadBody
-line_stop line.NoMemory = stop.NoMemory
+abbrev pub action_stop : NoAction → Stop
+action_stop (none.Fault f) = stop.Refused fault.BadBody
+action_stop none.NoMemory = stop.NoMemory
 
 -- The same of a reader of a body, whose one fault is a bad body.
 abbrev pub GivesBody : {X : Type 0} → Result X Stop → Option X → Type 0

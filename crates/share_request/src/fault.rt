@@ -8,7 +8,7 @@ use crate::query::{QueryFault, QueryField};
 use case_table::{Method, Refusal};
 use catalog_log::RecordFault;
 use json_tree::TreeFault;
-use log_actions::LineFault;
+use log_actions::NoAction;
 use std::alloc::{AllocError, AllocFailed};
 
 /// A parameter of a query string, or a field of a query's body, that has a grammar of its own (Delta Sharing PROTOCOL.md, "REST
@@ -195,17 +195,13 @@ impl From<RecordFault> for Stop {
     }
 }
 
-impl From<LineFault> for Stop {
-    ghost from_gives = { λ f e. e ≡ stops.line_stop f };
+impl From<NoAction> for Stop {
+    ghost from_gives = { λ f e. e ≡ stops.action_stop f };
 
-    fn from(fault: LineFault) -> Self {
+    fn from(fault: NoAction) -> Self {
         match fault {
-            LineFault::NoMemory => Stop::NoMemory,
-            LineFault::NotUtf8
-            | LineFault::NotJson
-            | LineFault::NotOneKey
-            | LineFault::NotObject
-            | LineFault::Field { .. } => Stop::Refused(RequestFault::BadBody),
+            NoAction::Fault(_) => Stop::Refused(RequestFault::BadBody),
+            NoAction::NoMemory => Stop::NoMemory,
         }
     }
 }
