@@ -1,15 +1,19 @@
-//! The work that `bench/hub` measures: refused edits and looks at a server whose history has many entries.
+//! The work that `bench/hub` measures: refused edits, looks and commits at a server whose history has many entries.
 //!
-//! Words: `edit` or `look`, how many entries the history has before (each edit that is refused adds two), and how many edits or
-//! looks then follow. With other words, or none, it does nothing. It prints nothing: the script has the clock. The status is 1
-//! where an answer was another or memory was wanting, else 0.
+//! Words: `edit`, `look` or `commit`, how many entries the history has before (each edit that is refused adds two), and how many
+//! edits, looks or commits then follow; or `catalogue`, how many edits the catalogue has before, and how many refused edits
+//! follow; or `file`, a folder and how many commits are then made to a store of its files. With other words, or none, it does
+//! nothing. It prints nothing: the script has the clock. The status is 1 where an answer was another or memory was wanting, else 0.
 #![tactic(auto)]
 
 ghost use Rattle.std.specs.Prelude.{◌≡◌, All, false};
 
 use catalog_log::edit_at;
-use edge_core::MemStore;
-use json_tree::{Text, tree_of};
+use commit_check::{Offer, Reads};
+use edge_core::{MemStore, Name, Store};
+use edge_std::FileStore;
+use json_tree::{Text, Version, tree_of};
+use log_actions::{Action, Actions, CommitTime, action_of_line};
 use share_book::{Ask, Want, Who};
 use share_catalog::Edit;
 use share_hub::{EditEnd, Hub, HubPass, OpenRefusal};
@@ -27,6 +31,18 @@ const SHARE: &str = "{\"newShare\":{\"name\":\"s\"}}";
 const RECIPIENT: &str =
     "{\"newRecipient\":{\"digest\":\"0101010101010101010101010101010101010101010101010101010101010101\",\"expires\":null,\"name\":\"r\"}}";
 
+const DROP: &str = "{\"dropShare\":{\"name\":\"s\"}}";
+
+const BIND: &str =
+    "{\"bind\":{\"history\":true,\"location\":\"t\",\"schema\":\"d\",\"share\":\"s\",\"table\":\"t\"}}";
+
+const PROTOCOL: &str = "{\"protocol\":{\"minReaderVersion\":1,\"minWriterVersion\":2}}";
+
+const META: &str = "{\"metaData\":{\"id\":\"t\",\"schemaString\":\"{}\"}}";
+
+// The moment of all commits.
+const NOW: u64 = 1_700_000_000_000;
+
 const GRANT: &str = "{\"grant\":{\"recipient\":\"r\",\"share\":\"s\"}}";
 
 // What is measured.
@@ -34,9 +50,11 @@ const GRANT: &str = "{\"grant\":{\"recipient\":\"r\",\"share\":\"s\"}}";
 enum Kind {
     Edit,
     Look,
+    Catalogue,
+    Commit,
 }
 
-// How many entries stand before, and how often it is done.
+// How many entries or edits stand before, and how often it is done.
 #[derive(Clone, Copy)]
 struct Load {
     kind: Kind,
@@ -49,12 +67,12 @@ fn edit_of(alloc: Global, text: &str) -> Option<Edit> {
     edit_at(alloc, &object).ok()
 }
 
-fn make<R: Wait>(
+fn make<R: Wait, W: Store>(
     rt: &R,
     alloc: Global,
     hub: &Hub,
     pass: &mut HubPass,
-    store: &mut MemStore,
+    store: &mut W,
     text: &str,
 ) -> Option<()>
     requires { (pass.old.cell ≡ hub.now) × (pass.old.holds ≡ false) }
@@ -66,12 +84,12 @@ fn make<R: Wait>(
 }
 
 // One edit that is refused: Begin and Abort.
-fn refused<R: Wait>(
+fn refused<R: Wait, W: Store>(
     rt: &R,
     alloc: Global,
     hub: &Hub,
     pass: &mut HubPass,
-    store: &mut MemStore,
+    store: &mut W,
     edit: &Edit,
 ) -> bool
     requires { (pass.old.cell ≡ hub.now) × (pass.old.holds ≡ false) }
@@ -83,12 +101,12 @@ fn refused<R: Wait>(
     )
 }
 
-fn repeat_edits<R: Wait>(
+fn repeat_edits<R: Wait, W: Store>(
     rt: &R,
     alloc: Global,
     hub: &Hub,
     pass: &mut HubPass,
-    store: &mut MemStore,
+    store: &mut W,
     times: u32,
 ) -> Option<()>
     requires { (pass.old.cell ≡ hub.now) × (pass.old.holds ≡ false) }
@@ -137,12 +155,100 @@ fn repeat_looks<R: Wait>(
     Some(())
 }
 
-fn work<R: Wait>(
+// A share is dropped and made again, so often.
+fn repeat_swaps<R: Wait, W: Store>(
+    rt: &R,
+    alloc: Global,
+    hub: &Hub,
+    pass: &mut HubPass,
+    store: &mut W,
+    times: u32,
+) -> Option<()>
+    requires { (pass.old.cell ≡ hub.now) × (pass.old.holds ≡ false) }
+    ensures { (pass.new.cell ≡ hub.now) × (pass.new.holds ≡ false) }
+{
+    for _ in 0..times {
+        make(rt, alloc, hub, pass, store, DROP)?;
+        make(rt, alloc, hub, pass, store, SHARE)?;
+    }
+    Some(())
+}
+
+fn action_of(alloc: Global, line: &str) -> Option<Action> {
+    action_of_line(alloc, line.as_bytes()).ok()?
+}
+
+// What the commit of a version has: what begins a table, or a file of its own.
+fn actions_of(alloc: Global, version: u32) -> Option<Actions> {
+    let mut actions = Vec::new(alloc);
+    if version == 0 {
+        actions.push(action_of(alloc, PROTOCOL)?).ok()?;
+        actions.push(action_of(alloc, META)?).ok()?;
+    } else {
+        let add = format!(in alloc; "{{\"add\":{{\"path\":\"f{version}\",\"size\":1}}}}").ok()?;
+        actions.push(action_of(alloc, add.as_str())?).ok()?;
+    }
+    Some(Actions::of(actions))
+}
+
+fn read_before(version: u32) -> Option<Version> {
+    if version == 0 {
+        None
+    } else {
+        Version::of(u64::from(version - 1))
+    }
+}
+
+fn offer_of(alloc: Global, version: u32) -> Option<Offer> {
+    Some(Offer {
+        location: Name::of(String::from_str(alloc, "t").ok()?)?,
+        read: read_before(version),
+        reads: Reads::Nothing,
+        actions: actions_of(alloc, version)?,
+    })
+}
+
+// The commit of a version.
+fn commit<R: Wait, W: Store>(
+    rt: &R,
+    alloc: Global,
+    hub: &Hub,
+    pass: &mut HubPass,
+    store: &mut W,
+    version: u32,
+) -> Option<()>
+    requires { (pass.old.cell ≡ hub.now) × (pass.old.holds ≡ false) }
+    ensures { (pass.new.cell ≡ hub.now) × (pass.new.holds ≡ false) }
+{
+    let now = CommitTime::of(NOW)?;
+    let offer = offer_of(alloc, version)?;
+    hub.commit(rt, alloc, pass, store, now, &offer).ok()?;
+    Some(())
+}
+
+fn repeat_commits<R: Wait, W: Store>(
+    rt: &R,
+    alloc: Global,
+    hub: &Hub,
+    pass: &mut HubPass,
+    store: &mut W,
+    times: u32,
+) -> Option<()>
+    requires { (pass.old.cell ≡ hub.now) × (pass.old.holds ≡ false) }
+    ensures { (pass.new.cell ≡ hub.now) × (pass.new.holds ≡ false) }
+{
+    for version in 0..times {
+        commit(rt, alloc, hub, pass, store, version)?;
+    }
+    Some(())
+}
+
+fn work<R: Wait, W: Store>(
     rt: &R,
     alloc: Global,
     hub: &Hub,
     passes: &mut [HubPass],
-    store: &mut MemStore,
+    store: &mut W,
     load: Load,
 ) -> Option<()>
     requires { All (λ p. (p.cell ≡ hub.now) × (p.holds ≡ false)) passes.old }
@@ -151,17 +257,32 @@ fn work<R: Wait>(
     make(rt, alloc, hub, pass, store, SHARE)?;
     make(rt, alloc, hub, pass, store, RECIPIENT)?;
     make(rt, alloc, hub, pass, store, GRANT)?;
-    repeat_edits(rt, alloc, hub, pass, store, load.entries / 2)?;
+    let half = load.entries / 2;
     match load.kind {
-        Kind::Edit => repeat_edits(rt, alloc, hub, pass, store, load.times),
-        Kind::Look => repeat_looks(rt, alloc, hub, pass, load.times),
+        Kind::Edit => {
+            repeat_edits(rt, alloc, hub, pass, store, half)?;
+            repeat_edits(rt, alloc, hub, pass, store, load.times)
+        }
+        Kind::Look => {
+            repeat_edits(rt, alloc, hub, pass, store, half)?;
+            repeat_looks(rt, alloc, hub, pass, load.times)
+        }
+        Kind::Catalogue => {
+            repeat_swaps(rt, alloc, hub, pass, store, half)?;
+            repeat_edits(rt, alloc, hub, pass, store, load.times)
+        }
+        Kind::Commit => {
+            make(rt, alloc, hub, pass, store, BIND)?;
+            repeat_edits(rt, alloc, hub, pass, store, half)?;
+            repeat_commits(rt, alloc, hub, pass, store, load.times)
+        }
     }
 }
 
-fn serve<R: Wait>(
+fn serve<R: Wait, W: Store>(
     rt: &R,
     alloc: Global,
-    store: &mut MemStore,
+    store: &mut W,
     load: Load,
 ) -> Result<Option<()>, OpenRefusal> {
     let (hub, mut passes) = Hub::open(alloc, store, 1)?;
@@ -169,18 +290,31 @@ fn serve<R: Wait>(
 }
 
 fn run<R: Wait>(rt: &R, alloc: Global, load: Load) -> Option<()> {
-    let mut store = MemStore::new(alloc, 8, 10_000, Vec::new(alloc)).ok()?;
+    let mut store = MemStore::new(alloc, 50_000, 10_000_000, Vec::new(alloc)).ok()?;
     serve(rt, alloc, &mut store, load).ok()?
 }
 
-fn load_of(kind: &str, entries: &str, times: &str) -> Option<Load> {
-    let kind = match kind {
-        "edit" => Kind::Edit,
-        "look" => Kind::Look,
-        _ => return None,
+fn run_file<R: Wait>(rt: &R, alloc: Global, mut store: FileStore, times: u32) -> Option<()> {
+    let load = Load {
+        kind: Kind::Commit,
+        entries: 0,
+        times,
     };
+    serve(rt, alloc, &mut store, load).ok()?
+}
+
+fn kind_of(word: &str) -> Option<Kind> {
+    match word {
+        "edit" => Some(Kind::Edit),
+        "look" => Some(Kind::Look),
+        "catalogue" => Some(Kind::Catalogue),
+        "commit" => Some(Kind::Commit),
+        _ => None,
+    }
+}
+
+fn load_of(kind: Kind, entries: &str, times: u32) -> Option<Load> {
     let entries = entries.parse::<u32>().ok()?;
-    let times = times.parse::<u32>().ok()?;
     Some(Load {
         kind,
         entries,
@@ -188,16 +322,30 @@ fn load_of(kind: &str, entries: &str, times: &str) -> Option<Load> {
     })
 }
 
+fn status(done: Option<()>) -> ExitCode {
+    match done {
+        Some(()) => ExitCode::SUCCESS,
+        None => ExitCode::FAILURE,
+    }
+}
+
 fn main(rt: HostRuntime) -> io::Result<ExitCode> {
     let mut words = env::args(&rt)?.skip(1);
-    let (Some(kind), Some(entries), Some(times)) = (words.next(), words.next(), words.next()) else {
+    let (Some(word), Some(before), Some(times)) = (words.next(), words.next(), words.next()) else {
         return Ok(ExitCode::SUCCESS);
     };
-    let Some(load) = load_of(kind.as_str(), entries.as_str(), times.as_str()) else {
+    let Ok(times) = times.as_str().parse::<u32>() else {
         return Ok(ExitCode::SUCCESS);
     };
-    match run(&rt, rt.alloc(), load) {
-        Some(()) => Ok(ExitCode::SUCCESS),
-        None => Ok(ExitCode::FAILURE),
+    if word.as_str() == "file" {
+        let store = FileStore::new(rt.clone()?, before);
+        return Ok(status(run_file(&rt, rt.alloc(), store, times)));
+    }
+    let Some(kind) = kind_of(word.as_str()) else {
+        return Ok(ExitCode::SUCCESS);
+    };
+    match load_of(kind, before.as_str(), times) {
+        Some(load) => Ok(status(run(&rt, rt.alloc(), load))),
+        None => Ok(ExitCode::SUCCESS),
     }
 }

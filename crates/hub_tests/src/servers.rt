@@ -1,19 +1,9 @@
 // Servers over one store in memory: what one of them does, and when another sees it.
-ghost use Rattle.std.specs.Prelude.{◌≡◌, false, All};
-
-use catalog_log::edit_at;
-use edge_core::{MemStore, Name, Stored};
-use json_tree::{Text, tree_of};
-use log_replay::Bound;
-use share_book::{Ask, Found, Part, PartFound, Want, Who};
-use share_catalog::{CatalogName, TableName};
-use share_hub::{EditEnd, Hub, HubPass, OpenRefusal};
+use crate::server::{Server, stock};
+use edge_core::MemStore;
+use share_hub::EditEnd;
 use std::alloc::Global;
 use std::sync::Wait;
-use step_count::Steps;
-
-// The work of a replay.
-struct Work;
 
 const NEW_S: &str = "{\"newShare\":{\"name\":\"s\"}}";
 
@@ -38,173 +28,46 @@ const VERSION_0: &str = "t/_delta_log/00000000000000000000.json";
 
 const VERSION_1: &str = "t/_delta_log/00000000000000000001.json";
 
-fn name(alloc: Global, text: &str) -> Option<Name> {
-    Name::of(String::from_str(alloc, text).ok()?)
-}
-
-fn catalog_name(alloc: Global, text: &str) -> Option<CatalogName> {
-    CatalogName::of(String::from_str(alloc, text).ok()?)
-}
-
-// Someone else stores an object.
-fn stock(alloc: Global, store: &mut MemStore, object: &str, text: &str) -> Option<()> {
-    let name = name(alloc, object)?;
-    let bytes = Vec::from_slice(alloc, text.as_bytes()).ok()?;
-    store.stock(Stored { name, bytes });
-    Some(())
-}
-
-// How an edit ends: the record's number, or why not.
-fn edit<R: Wait>(
-    rt: &R,
-    alloc: Global,
-    hub: &Hub,
-    pass: &mut HubPass,
-    store: &mut MemStore,
-    text: &str,
-) -> Option<Result<u64, EditEnd>>
-    requires { (pass.old.cell ≡ hub.now) × (pass.old.holds ≡ false) }
-    ensures { (pass.new.cell ≡ hub.now) × (pass.new.holds ≡ false) }
-{
-    let object = tree_of(alloc, text.as_bytes()).ok()?;
-    let edit = edit_at(alloc, &object).ok()?;
-    Some(hub.edit(rt, alloc, pass, store, &edit))
-}
-
-// What the recipient is shown.
-fn look<R: Wait>(rt: &R, alloc: Global, hub: &Hub, pass: &mut HubPass, want: Want) -> Option<Found>
-    requires { (pass.old.cell ≡ hub.now) × (pass.old.holds ≡ false) }
-    ensures { (pass.new.cell ≡ hub.now) × (pass.new.holds ≡ false) }
-{
-    let who = Who::Named(Text::of(String::from_str(alloc, "r").ok()?));
-    let mut steps: Steps<Work> = Steps::new();
-    let ask = Ask { who, want };
-    let look = hub.look(rt, alloc, pass, &ask, &mut steps).ok()?;
-    Some(look.seen?.found)
-}
-
-// How many shares and tables it is shown.
-fn names<R: Wait>(rt: &R, alloc: Global, hub: &Hub, pass: &mut HubPass) -> Option<(usize, usize)>
-    requires { (pass.old.cell ≡ hub.now) × (pass.old.holds ≡ false) }
-    ensures { (pass.new.cell ≡ hub.now) × (pass.new.holds ≡ false) }
-{
-    match look(rt, alloc, hub, pass, Want::Names)? {
-        Found::Names(names) => Some((names.shares().len(), names.tables().len())),
-        _ => None,
-    }
-}
-
-// The table's version and how many files it has.
-fn files<R: Wait>(rt: &R, alloc: Global, hub: &Hub, pass: &mut HubPass) -> Option<(u64, u64)>
-    requires { (pass.old.cell ≡ hub.now) × (pass.old.holds ≡ false) }
-    ensures { (pass.new.cell ≡ hub.now) × (pass.new.holds ≡ false) }
-{
-    let table = TableName {
-        share: catalog_name(alloc, "s")?,
-        schema: catalog_name(alloc, "d")?,
-        table: catalog_name(alloc, "t")?,
-    };
-    let want = Want::Table(table, Part::Files(Bound::Latest));
-    let found = look(rt, alloc, hub, pass, want)?;
-    match &found {
-        Found::Table(_, PartFound::Files(version, state)) => Some((*version, state.get().len())),
-        _ => None,
-    }
-}
-
 // A server makes its edits: a share, a recipient, a table of which the store has one version, and a grant.
 fn set_up<R: Wait>(
     rt: &R,
     alloc: Global,
-    hub: &Hub,
-    pass: &mut HubPass,
+    server: &mut Server,
     store: &mut MemStore,
-) -> Option<bool>
-    requires { (pass.old.cell ≡ hub.now) × (pass.old.holds ≡ false) }
-    ensures { (pass.new.cell ≡ hub.now) × (pass.new.holds ≡ false) }
-{
+) -> Option<bool> {
     stock(alloc, store, VERSION_0, COMMIT_0)?;
-    let share = edit(rt, alloc, hub, pass, store, NEW_S)?;
-    let again = edit(rt, alloc, hub, pass, store, NEW_S)?;
-    let recipient = edit(rt, alloc, hub, pass, store, NEW_R)?;
-    let bind = edit(rt, alloc, hub, pass, store, BIND)?;
-    let hidden = names(rt, alloc, hub, pass)?;
-    let grant = edit(rt, alloc, hub, pass, store, GRANT)?;
-    let made = matches!(
-        (share, recipient, bind, grant),
-        (Ok(0), Ok(1), Ok(2), Ok(3))
-    );
+    let share = server.edit(rt, alloc, store, NEW_S)?;
+    let again = server.edit(rt, alloc, store, NEW_S)?;
+    let recipient = server.edit(rt, alloc, store, NEW_R)?;
+    let bind = server.edit(rt, alloc, store, BIND)?;
+    let hidden = server.names(rt, alloc)?;
+    let grant = server.edit(rt, alloc, store, GRANT)?;
+    let made = share == Ok(0) && recipient == Ok(1) && bind == Ok(2) && grant == Ok(3);
     Some(made && matches!(again, Err(EditEnd::Refused(_))) && hidden == (0, 0))
 }
 
-// What others stored is taken over: how many records were found.
-fn found<R: Wait>(
-    rt: &R,
-    alloc: Global,
-    hub: &Hub,
-    pass: &mut HubPass,
-    store: &mut MemStore,
-) -> Option<u32>
-    requires { (pass.old.cell ≡ hub.now) × (pass.old.holds ≡ false) }
-    ensures { (pass.new.cell ≡ hub.now) × (pass.new.holds ≡ false) }
-{
-    Some(hub.refresh_catalog(rt, alloc, pass, store).ok()?.found)
-}
-
-// The same of the table's log: how many versions are kept, and how many were found.
-fn refreshed<R: Wait>(
-    rt: &R,
-    alloc: Global,
-    hub: &Hub,
-    pass: &mut HubPass,
-    store: &mut MemStore,
-) -> Option<(u64, u32)>
-    requires { (pass.old.cell ≡ hub.now) × (pass.old.holds ≡ false) }
-    ensures { (pass.new.cell ≡ hub.now) × (pass.new.holds ≡ false) }
-{
-    let location = name(alloc, "t")?;
-    let log = hub.refresh(rt, alloc, pass, store, &location).ok()?;
-    Some((log.kept, log.found))
-}
-
-// A server is set up, shows the recipient its table, and another version once it has looked for one.
+// A server shows the recipient its table, and another version once it has looked for one.
 fn serve<R: Wait>(
     rt: &R,
     alloc: Global,
-    hub: &Hub,
-    passes: &mut [HubPass],
+    server: &mut Server,
     store: &mut MemStore,
-) -> Option<bool>
-    requires { All (λ p. (p.cell ≡ hub.now) × (p.holds ≡ false)) passes.old }
-{
-    let (pass, _) = passes.split_first_mut()?;
-    let made = set_up(rt, alloc, hub, pass, store)?;
-    let shown = names(rt, alloc, hub, pass)?;
-    let none = refreshed(rt, alloc, hub, pass, store)?;
-    let before = files(rt, alloc, hub, pass)?;
+) -> Option<bool> {
+    let shown = server.names(rt, alloc)?;
+    let none = server.refresh(rt, alloc, store)?;
+    let before = server.files(rt, alloc)?;
     stock(alloc, store, VERSION_1, COMMIT_1)?;
-    let still = files(rt, alloc, hub, pass)?;
-    let one = refreshed(rt, alloc, hub, pass, store)?;
-    let behind = files(rt, alloc, hub, pass)?;
-    let locations = hub.locations(rt, alloc, pass).ok()?.len();
+    let still = server.files(rt, alloc)?;
+    let one = server.refresh(rt, alloc, store)?;
+    let behind = server.files(rt, alloc)?;
     Some(
-        made && shown == (1, 1)
-            && none == (1, 0)
+        shown == (1, 1)
+            && (none.kept, none.found) == (1, 0)
             && before == (0, 1)
             && still == (0, 1)
-            && one == (2, 1)
-            && behind == (1, 2)
-            && locations == 1,
+            && (one.kept, one.found) == (2, 1)
+            && behind == (1, 2),
     )
-}
-
-fn one_server<R: Wait>(
-    rt: &R,
-    alloc: Global,
-    store: &mut MemStore,
-) -> Result<Option<bool>, OpenRefusal> {
-    let (hub, mut passes) = Hub::open(alloc, store, 1)?;
-    Ok(serve(rt, alloc, &hub, passes.as_mut_slice(), store))
 }
 
 fn empty_store(alloc: Global) -> Option<MemStore> {
@@ -213,7 +76,11 @@ fn empty_store(alloc: Global) -> Option<MemStore> {
 
 fn one<R: Wait>(rt: &R, alloc: Global) -> Option<bool> {
     let mut store = empty_store(alloc)?;
-    one_server(rt, alloc, &mut store).ok()?
+    let mut server = Server::open(alloc, &mut store)?;
+    let made = set_up(rt, alloc, &mut server, &mut store)?;
+    let served = serve(rt, alloc, &mut server, &mut store)?;
+    let locations = server.locations(rt, alloc)?;
+    Some(made && served && locations == 1)
 }
 
 #[test]
@@ -225,25 +92,18 @@ fn a_server_shows_what_it_has_seen(rt: HostRuntime) {
 fn revoke<R: Wait>(
     rt: &R,
     alloc: Global,
-    hub: &Hub,
-    passes: &mut [HubPass],
-    other: &Hub,
-    others: &mut [HubPass],
+    server: &mut Server,
+    other: &mut Server,
     store: &mut MemStore,
-) -> Option<bool>
-    requires passes { All (λ p. (p.cell ≡ hub.now) × (p.holds ≡ false)) passes.old }
-    requires others { All (λ p. (p.cell ≡ other.now) × (p.holds ≡ false)) others.old }
-{
-    let (pass, _) = passes.split_first_mut()?;
-    let (another, _) = others.split_first_mut()?;
-    let revoked = edit(rt, alloc, hub, pass, store, REVOKE)?;
-    let gone = names(rt, alloc, hub, pass)?;
-    let still = names(rt, alloc, other, another)?;
-    let one = found(rt, alloc, other, another, store)?;
-    let later = names(rt, alloc, other, another)?;
-    let none = found(rt, alloc, other, another, store)?;
+) -> Option<bool> {
+    let revoked = server.edit(rt, alloc, store, REVOKE)?;
+    let gone = server.names(rt, alloc)?;
+    let still = other.names(rt, alloc)?;
+    let one = other.found(rt, alloc, store)?;
+    let later = other.names(rt, alloc)?;
+    let none = other.found(rt, alloc, store)?;
     Some(
-        matches!(revoked, Ok(4))
+        revoked == Ok(4)
             && gone == (0, 0)
             && still == (1, 1)
             && one == 1
@@ -252,41 +112,13 @@ fn revoke<R: Wait>(
     )
 }
 
-fn second_server<R: Wait>(
-    rt: &R,
-    alloc: Global,
-    first: &Hub,
-    firsts: &mut [HubPass],
-    store: &mut MemStore,
-) -> Result<Option<bool>, OpenRefusal>
-    requires { All (λ p. (p.cell ≡ first.now) × (p.holds ≡ false)) firsts.old }
-{
-    let (second, mut seconds) = Hub::open(alloc, store, 2)?;
-    Ok(revoke(
-        rt,
-        alloc,
-        first,
-        firsts,
-        &second,
-        seconds.as_mut_slice(),
-        store,
-    ))
-}
-
-fn first_server<R: Wait>(
-    rt: &R,
-    alloc: Global,
-    store: &mut MemStore,
-) -> Result<Option<bool>, OpenRefusal> {
-    let (first, mut firsts) = Hub::open(alloc, store, 1)?;
-    second_server(rt, alloc, &first, firsts.as_mut_slice(), store)
-}
-
 fn two<R: Wait>(rt: &R, alloc: Global) -> Option<bool> {
     let mut store = empty_store(alloc)?;
-    let served = one_server(rt, alloc, &mut store).ok()??;
-    let revoked = first_server(rt, alloc, &mut store).ok()??;
-    Some(served && revoked)
+    let mut server = Server::open(alloc, &mut store)?;
+    let made = set_up(rt, alloc, &mut server, &mut store)?;
+    let mut other = Server::open(alloc, &mut store)?;
+    let revoked = revoke(rt, alloc, &mut server, &mut other, &mut store)?;
+    Some(made && revoked)
 }
 
 #[test]

@@ -12,3 +12,6 @@ pub mod TablePasses
 pub mod TableRounding
 pub mod LogSteps
 pub mod RefreshSteps
+pub mod Admissions
+pub mod CommitSteps
+pub mod CommitStores

@@ -54,7 +54,7 @@ goes_stops_on p q r j xs ys ends n a b = record {
 }
 
 -- from the Begin on
-pub begins_stops : (location : List ℕ) (new : Option Objects) (from : List Entry) (p q r : P) (j : ℕ) (t : TableLog) (xs : List (List Action)) (ends : List Act) → BeginsOn from p q j t → IsIdle p q → IsIdle q r → StopsOn q r j xs ends
+abbrev pub begins_stops : (location : List ℕ) (new : Option Objects) (from : List Entry) (p q r : P) (j : ℕ) (t : TableLog) (xs : List (List Action)) (ends : List Act) → BeginsOn from p q j t → IsIdle p q → IsIdle q r → StopsOn q r j xs ends
     → There (table_on j q.seen) (λ x. AreFound location new x.commits xs) → RanOn location new p r j xs ends
 begins_stops location new from p q r j t xs ends b i k s w =
     let n : q.number ≡ p.number = i.number in

@@ -54,10 +54,10 @@ runs_with location mid new p q r j xs ys ends n g w grows s v few = record {
   few = (let l = length-append xs ys in omega arith);
 }
 
-none_found : (location : List ℕ) (new : Option Objects) (p : P) (j : ℕ) (t : TableLog) → table_on j p.seen ≡ Some t → There (table_on j p.seen) (λ x. AreFound location new x.commits [])
+pub none_found : (location : List ℕ) (new : Option Objects) (p : P) (j : ℕ) (t : TableLog) → table_on j p.seen ≡ Some t → There (table_on j p.seen) (λ x. AreFound location new x.commits [])
 none_found location new p j t is = there_from (table_on j p.seen) t (λ x. AreFound location new x.commits []) is tt
 
-versions_at : (p : P) (j : ℕ) (h : LogHead) → (x : HoldsHead p j h) → h.support.versions ≡ length x.log.commits
+pub versions_at : (p : P) (j : ℕ) (h : LogHead) → (x : HoldsHead p j h) → h.support.versions ≡ length x.log.commits
 versions_at p j h x = ap (λ (s : Standing). s.versions) x.head.stands
 
 -- a refresh that ends with Abort once nothing is left, or 64 were found
@@ -190,7 +190,7 @@ log_at_later xs ys location j p e =
     ap (λ (s : List LogStart). option_map (λ i. i + 1) (position (is_at location) s)) all
     ∙ (ap (option_map (λ i. i + 1)) (position_front (is_at location) (starts xs) (starts p.0) at.0 at.1) ∙ ap (λ (k : ℕ). Some k) at.2)
 
-abbrev ran_after : (location : List ℕ) (new : Option Objects) (p q r : P) (j : ℕ) (found : List (List Action)) (ends : List Act) → IsIdle p q → Adds p q [] → RanOn location new q r j found ends → RanOn location new p r j found ends
+abbrev pub ran_after : (location : List ℕ) (new : Option Objects) (p q r : P) (j : ℕ) (found : List (List Action)) (ends : List Act) → IsIdle p q → Adds p q [] → RanOn location new q r j found ends → RanOn location new p r j found ends
 ran_after location new p q r j found ends i a x =
     let n : q.number ≡ p.number = i.number in
     record {

@@ -17,20 +17,20 @@ use Rattle.share_hub.specs.Calls.{P}
 use Rattle.share_hub.specs.Edits.{AtMostOne, LastIs, Leaves, OneMore, Perhaps, Stored}
 use Rattle.share_hub.specs.Rounds.{RoundStore}
 
-on_both : (b : Bool) (A B : Type 0) → A → OnTrue b B → OnTrue b (A × B)
+pub on_both : (b : Bool) (A B : Type 0) → A → OnTrue b B → OnTrue b (A × B)
 on_both true A B a w = (a, w)
 on_both false A B a w = tt
 
-on_map : (b : Bool) (A B : Type 0) → (A → B) → OnTrue b A → OnTrue b B
+pub on_map : (b : Bool) (A B : Type 0) → (A → B) → OnTrue b A → OnTrue b B
 on_map true A B f w = f w
 on_map false A B f w = tt
 
 -- where the first was alone the second is
-on_after : (a b : Bool) (A B C : Type 0) → (A → B → C) → OnTrue a (b ≡ true) → OnTrue a A → OnTrue b B → OnTrue a C
+pub on_after : (a b : Bool) (A B C : Type 0) → (A → B → C) → OnTrue a (b ≡ true) → OnTrue a A → OnTrue b B → OnTrue a C
 on_after false b A B C f h v w = tt
 on_after true b A B C f h v w = f v (subst (λ (t : Bool). OnTrue t B) h w)
 
-stays_more : (a b c : Bool) → OnTrue a (b ≡ true) → OnTrue b (c ≡ true) → OnTrue a (c ≡ true)
+pub stays_more : (a b c : Bool) → OnTrue a (b ≡ true) → OnTrue b (c ≡ true) → OnTrue a (c ≡ true)
 stays_more false b c h k = tt
 stays_more true b c h k = subst (λ (t : Bool). OnTrue t (c ≡ true)) h k
 

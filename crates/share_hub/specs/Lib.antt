@@ -13,3 +13,6 @@ pub mod FoundCommits
 pub mod TableRounds
 pub mod LogRefreshes
 pub mod RefreshRounds
+pub mod Additions
+pub mod Commits
+pub mod CommitRounds

@@ -1,8 +1,10 @@
 //! The server's shared state: one book, which callers have in turn, over a store.
 #![tactic(auto)]
 
+mod admission;
 mod catalog_calls;
 mod catalog_turns;
+mod commit;
 mod edit;
 mod found;
 mod hub;
@@ -17,6 +19,7 @@ mod table_calls;
 mod table_rounds;
 mod table_turns;
 
+pub use commit::CommitRefusal;
 pub use edit::EditEnd;
 pub use found::CatalogRefusal;
 pub use hub::{Hub, HubPass};

@@ -20,7 +20,7 @@ use std::alloc::{AllocError, Global};
 use std::sync::Wait;
 
 // The most bytes of a location.
-const MOST_LOCATION: usize = 256;
+pub const MOST_LOCATION: usize = 256;
 
 /// What is known of a table's log after a refresh.
 #[derive(Clone, Copy, Debug, PartialEq, Eq)]

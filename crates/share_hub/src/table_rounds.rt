@@ -23,7 +23,7 @@ use share_book::SharedCommit;
 use std::alloc::{AllocError, Global};
 use std::sync::{Arc, Wait};
 
-const MOST_BYTES: u64 = 64 << 20;
+pub const MOST_BYTES: u64 = 64 << 20;
 
 // What is known of a log for its next version: the protocol and the metaData that hold, and the bytes of its printed texts.
 #[derive(Drop)]
@@ -106,7 +106,7 @@ fn take_next(alloc: Global, head: &mut LogHead, commit: Commit, bytes: u64) -> T
 }
 
 // The name of a version's commit.
-fn version_name(alloc: Global, location: &Name, version: u64) -> Result<Name, AllocError>
+pub fn version_name(alloc: Global, location: &Name, version: u64) -> Result<Name, AllocError>
     requires short { length location.now ≤ 256 }
     requires small { version < 2 ^ 63 }
     ensures { IfOk result (λ n. n ≡ commit_name location.now version) }

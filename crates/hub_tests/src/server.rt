@@ -1,0 +1,170 @@
+// A server with one caller. What a call needs is kept in the type, so that the tests' functions have no clauses.
+ghost use Rattle.std.specs.Prelude.{◌≡◌, false};
+
+use catalog_log::edit_at;
+use commit_check::{Offer, Reads};
+use edge_core::{MemStore, Name, Stored};
+use json_tree::{Text, Version, tree_of};
+use log_actions::{Actions, CommitTime, action_of_line};
+use log_replay::Bound;
+use share_book::{Ask, Found, Part, PartFound, Want, Who};
+use share_catalog::{CatalogName, Edit, TableName};
+use share_hub::{CommitRefusal, EditEnd, Hub, HubPass, Refreshed};
+use std::alloc::Global;
+use std::sync::Wait;
+use step_count::Steps;
+
+// The work of a replay.
+struct Work;
+
+// The moment of all commits.
+pub(crate) const NOW: u64 = 1_700_000_000_000;
+
+#[derive(Drop)]
+pub(crate) struct Server {
+    hub: Hub,
+    pass: HubPass,
+    ghost idle: { (pass.cell ≡ hub) × (pass.holds ≡ false) },
+}
+
+pub(crate) fn name(alloc: Global, text: &str) -> Option<Name> {
+    Name::of(String::from_str(alloc, text).ok()?)
+}
+
+// Someone else stores an object.
+pub(crate) fn stock(alloc: Global, store: &mut MemStore, object: &str, text: &str) -> Option<()> {
+    let name = name(alloc, object)?;
+    let bytes = Vec::from_slice(alloc, text.as_bytes()).ok()?;
+    store.stock(Stored { name, bytes });
+    Some(())
+}
+
+pub(crate) fn edit_of(alloc: Global, text: &str) -> Option<Edit> {
+    let object = tree_of(alloc, text.as_bytes()).ok()?;
+    edit_at(alloc, &object).ok()
+}
+
+// An offer for the table at `t`, of one action.
+pub(crate) fn offer(alloc: Global, read: Option<u64>, line: &str) -> Option<Offer> {
+    let mut actions = Vec::new(alloc);
+    actions
+        .push(action_of_line(alloc, line.as_bytes()).ok()??)
+        .ok()?;
+    let read = match read {
+        Some(read) => Some(Version::of(read)?),
+        None => None,
+    };
+    Some(Offer {
+        location: name(alloc, "t")?,
+        read,
+        reads: Reads::All,
+        actions: Actions::of(actions),
+    })
+}
+
+fn catalog_name(alloc: Global, text: &str) -> Option<CatalogName> {
+    CatalogName::of(String::from_str(alloc, text).ok()?)
+}
+
+fn table(alloc: Global) -> Option<TableName> {
+    Some(TableName {
+        share: catalog_name(alloc, "s")?,
+        schema: catalog_name(alloc, "d")?,
+        table: catalog_name(alloc, "t")?,
+    })
+}
+
+impl Server {
+    pub(crate) fn open(alloc: Global, store: &mut MemStore) -> Option<Server> {
+        let (hub, mut passes) = Hub::open(alloc, store, 1).ok()?;
+        let pass = passes.pop()?;
+        Some(Server { hub, pass })
+    }
+
+    pub(crate) fn edit<R: Wait>(
+        &mut self,
+        rt: &R,
+        alloc: Global,
+        store: &mut MemStore,
+        text: &str,
+    ) -> Option<Result<u64, EditEnd>> {
+        let edit = edit_of(alloc, text)?;
+        Some(self.hub.edit(rt, alloc, &mut self.pass, store, &edit))
+    }
+
+    pub(crate) fn commit<R: Wait>(
+        &mut self,
+        rt: &R,
+        alloc: Global,
+        store: &mut MemStore,
+        offer: &Offer,
+    ) -> Option<Result<u64, CommitRefusal>> {
+        let now = CommitTime::of(NOW)?;
+        Some(
+            self.hub
+                .commit(rt, alloc, &mut self.pass, store, now, offer),
+        )
+    }
+
+    pub(crate) fn refresh<R: Wait>(
+        &mut self,
+        rt: &R,
+        alloc: Global,
+        store: &mut MemStore,
+    ) -> Option<Refreshed> {
+        let location = name(alloc, "t")?;
+        self.hub
+            .refresh(rt, alloc, &mut self.pass, store, &location)
+            .ok()
+    }
+
+    // Records that others stored are taken over: how many were found.
+    pub(crate) fn found<R: Wait>(
+        &mut self,
+        rt: &R,
+        alloc: Global,
+        store: &mut MemStore,
+    ) -> Option<u32> {
+        let known = self
+            .hub
+            .refresh_catalog(rt, alloc, &mut self.pass, store)
+            .ok()?;
+        Some(known.found)
+    }
+
+    pub(crate) fn locations<R: Wait>(&mut self, rt: &R, alloc: Global) -> Option<usize> {
+        Some(self.hub.locations(rt, alloc, &mut self.pass).ok()?.len())
+    }
+
+    // What the recipient is shown.
+    fn look<R: Wait>(&mut self, rt: &R, alloc: Global, want: Want) -> Option<Found> {
+        let who = Who::Named(Text::of(String::from_str(alloc, "r").ok()?));
+        let mut steps: Steps<Work> = Steps::new();
+        let ask = Ask { who, want };
+        let look = self
+            .hub
+            .look(rt, alloc, &mut self.pass, &ask, &mut steps)
+            .ok()?;
+        Some(look.seen?.found)
+    }
+
+    // How many shares and tables it is shown.
+    pub(crate) fn names<R: Wait>(&mut self, rt: &R, alloc: Global) -> Option<(usize, usize)> {
+        match self.look(rt, alloc, Want::Names)? {
+            Found::Names(names) => Some((names.shares().len(), names.tables().len())),
+            _ => None,
+        }
+    }
+
+    // The table's version and how many files it has.
+    pub(crate) fn files<R: Wait>(&mut self, rt: &R, alloc: Global) -> Option<(u64, u64)> {
+        let want = Want::Table(table(alloc)?, Part::Files(Bound::Latest));
+        let found = self.look(rt, alloc, want)?;
+        match &found {
+            Found::Table(_, PartFound::Files(version, state)) => {
+                Some((*version, state.get().len()))
+            }
+            _ => None,
+        }
+    }
+}
