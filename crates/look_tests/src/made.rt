@@ -1,0 +1,100 @@
+// What is stored, and asked of a server.
+ghost use Rattle.std.specs.Prelude.{◌≡◌, false};
+
+use catalog_log::{bytes_of_edit, edit_at, record_name};
+use edge_core::{MemStore, Name, Stored};
+use json_tree::{Text, tree_of};
+use share_book::{Ask, Found, Want, Who};
+use share_catalog::{CatalogName, Edit, TableName};
+use share_hub::{EditEnd, Hub, HubPass};
+use std::alloc::Global;
+use std::sync::Wait;
+use step_count::Steps;
+
+// The work of a replay.
+struct Work;
+
+/// The name of an object.
+pub(crate) fn name(alloc: Global, text: &str) -> Option<Name> {
+    Name::of(String::from_str(alloc, text).ok()?)
+}
+
+fn catalog_name(alloc: Global, text: &str) -> Option<CatalogName> {
+    CatalogName::of(String::from_str(alloc, text).ok()?)
+}
+
+/// A table in the schema `d` of a share.
+pub(crate) fn table_name(alloc: Global, share: &str, table: &str) -> Option<TableName> {
+    Some(TableName {
+        share: catalog_name(alloc, share)?,
+        schema: catalog_name(alloc, "d")?,
+        table: catalog_name(alloc, table)?,
+    })
+}
+
+/// A store in memory with room for so many objects, and for 500 bytes of each.
+pub(crate) fn empty_store(alloc: Global, objects: usize) -> Option<MemStore> {
+    MemStore::new(alloc, objects, objects.saturating_mul(500), Vec::new(alloc)).ok()
+}
+
+fn edit_of(alloc: Global, text: &str) -> Option<Edit> {
+    let object = tree_of(alloc, text.as_bytes()).ok()?;
+    edit_at(alloc, &object).ok()
+}
+
+/// Someone else stores an edit as the record of that number.
+pub(crate) fn stock_record(
+    alloc: Global,
+    store: &mut MemStore,
+    number: u64,
+    text: &str,
+) -> Option<()> {
+    let edit = edit_of(alloc, text)?;
+    let name = record_name(alloc, number).ok()?;
+    let bytes = bytes_of_edit(alloc, &edit).ok()?;
+    store.stock(Stored { name, bytes });
+    Some(())
+}
+
+/// Someone else stores an object.
+pub(crate) fn stock(alloc: Global, store: &mut MemStore, object: &str, text: &str) -> Option<()> {
+    let name = name(alloc, object)?;
+    let bytes = Vec::from_slice(alloc, text.as_bytes()).ok()?;
+    store.stock(Stored { name, bytes });
+    Some(())
+}
+
+/// How an edit ends: the record's number, or why not.
+pub(crate) fn edit<R: Wait>(
+    rt: &R,
+    alloc: Global,
+    hub: &Hub,
+    pass: &mut HubPass,
+    store: &mut MemStore,
+    text: &str,
+) -> Option<Result<u64, EditEnd>>
+    requires { (pass.old.cell ≡ hub.now) × (pass.old.holds ≡ false) }
+    ensures { (pass.new.cell ≡ hub.now) × (pass.new.holds ≡ false) }
+{
+    let edit = edit_of(alloc, text)?;
+    Some(hub.edit(rt, alloc, pass, store, &edit))
+}
+
+/// What a recipient is shown.
+pub(crate) fn look<R: Wait>(
+    rt: &R,
+    alloc: Global,
+    hub: &Hub,
+    pass: &mut HubPass,
+    recipient: &str,
+    want: Want,
+) -> Option<Found>
+    requires { (pass.old.cell ≡ hub.now) × (pass.old.holds ≡ false) }
+    ensures { (pass.new.cell ≡ hub.now) × (pass.new.holds ≡ false) }
+{
+    let who = Who::Named(Text::of(String::from_str(alloc, recipient).ok()?));
+    let mut steps: Steps<Work> = Steps::new();
+    let ask = Ask { who, want };
+    let look = hub.look(rt, alloc, pass, &ask, &mut steps).ok()?;
+    Some(look.seen?.found)
+}
