@@ -1,0 +1,91 @@
+-- The lines of a page by what was cut for it.
+use Rattle.std.proofs.Common.{◌≡◌, ℕ, List, [], ◌∷◌, ◌++◌, map, Vec, Option, Some, None, Bool, true, false, refl, sym, ap, ◌∙◌, subst, option_map}
+use Rattle.std.specs.Prelude.{if◌then◌else◌, option_to_list}
+use Rattle.std.specs.Global.{Global}
+use Rattle.std.specs.Borrow.{Bor}
+use Rattle.std.proofs.lemmas.Simd.{map-map}
+use Rattle.change_feed.specs.Changes.{ChangedFile}
+use Rattle.log_actions.specs.declared.actions.AddFile.{AddFile}
+use Rattle.log_actions.specs.declared.actions.MetaData.{MetaData}
+use Rattle.log_replay.specs.State.{State}
+use Rattle.page_token.specs.declared.cursor.TableAccess.{TableAccess}
+use Rattle.pred_tree.specs.Listing.{IsFilter, passes}
+use Rattle.pred_tree.specs.declared.filter.Filter.{Filter}
+use Rattle.share_lines.specs.Lines.{meta_of}
+use Rattle.share_lines.specs.declared.kinds.EndLine.{EndLine}
+use Rattle.share_lines.specs.declared.kinds.Line.{Line}
+use Rattle.share_lines.specs.declared.kinds.Line.TheVariants as line
+use Rattle.share_request.specs.declared.query.QueryBody.{QueryBody}
+use Rattle.share_reply.specs.Access.{expiry}
+use Rattle.share_reply.specs.Answer.{Ending, Page, ends_with}
+use Rattle.share_reply.specs.Bodies.{end_line, page_lines}
+use Rattle.share_reply.specs.Feeds.{ChangesQuery, FeedStart, change_line, feed_cursor, feed_ending, feed_page, lists_all}
+use Rattle.share_reply.specs.Files.{FilesStart, file_line, files_cursor, files_ending, files_page, is_paged, lists, pred_by}
+use Rattle.share_reply.specs.Pages.{given, next_place}
+use Rattle.share_reply.specs.Planned.{content_lines, lines_of}
+use Rattle.share_reply.specs.Starts.{end_of, paged}
+use Rattle.share_reply.specs.declared.keys.ReplyKeys.{ReplyKeys}
+use Rattle.share_reply.specs.declared.lines.Content.{Content}
+use Rattle.share_reply.specs.declared.lines.Content.TheVariants as content
+use Rattle.share_reply.specs.declared.page.Paged.{Paged}
+
+abbrev pub page_with : ℕ → MetaData → List Line → Bool → Ending → Page
+page_with version meta lines asked e = record { version = version; meta = meta_of meta; content = lines; end = if asked then Some e else None }
+
+abbrev pub paged_with : ℕ → List Line → Paged
+paged_with version lines = record { version = version; lines = lines }
+
+end_lines : (keys : ReplyKeys) (asked : Bool) (e : Ending) → option_to_list (option_map (λ e. line.End e) (end_of keys asked e)) ≡ option_to_list (option_map (λ e. line.End (end_line keys e)) (if asked then Some e else None))
+end_lines keys true e = refl
+end_lines keys false e = refl
+
+-- the lines of a plan whose content and whose end are a page's
+lines_paged : (keys : ReplyKeys) (a : TableAccess) (expires version : ℕ) (meta : MetaData) (c : Content) (end : Option EndLine) (found : List Line) (asked : Bool) (e : Ending)
+    → content_lines keys a expires c ≡ found → end ≡ end_of keys asked e → lines_of keys a expires meta c end ≡ page_lines keys (page_with version meta found asked e)
+lines_paged keys a expires version meta c end found asked e is ends =
+    ap (λ ls. line.Protocol ∷ line.MetaData (meta_of meta) ∷ (ls ++ option_to_list (option_map (λ e. line.End e) end))) is
+    ∙ ap (λ last. line.Protocol ∷ line.MetaData (meta_of meta) ∷ (found ++ option_to_list (option_map (λ e. line.End e) last))) ends
+    ∙ ap (λ last. line.Protocol ∷ line.MetaData (meta_of meta) ∷ (found ++ last)) (end_lines keys asked e)
+
+-- ---- files
+
+abbrev ending_with : TableAccess → ℕ → FilesStart → List AddFile → Option ℕ → Ending
+ending_with a expires s files next = record { expires = ends_with expires files; next = option_map (files_cursor a s) next }
+
+-- the page of the files that were cut by a filter of its hint
+pub files_paged : (keys : ReplyKeys) (a : TableAccess) (now : ℕ) (q : QueryBody) (s : FilesStart) (state : State) (listing : Filter) (expires version : ℕ) (meta : MetaData)
+    (files : Vec (Bor AddFile) Global) (next : Option ℕ) (end : Option EndLine)
+    → expires ≡ expiry keys now → version ≡ s.version → meta ≡ state.meta → IsFilter (pred_by s.hint) meta listing
+    → map (λ f. f.now) files.items ≡ given (passes listing) q.max s.place state.files → next ≡ next_place (passes listing) q.max s.place state.files
+    → end ≡ end_of keys (is_paged q.max q.token) (ending_with a expires s (map (λ f. f.now) files.items) next)
+    → paged_with version (lines_of keys a expires meta (content.Files files) end) ≡ paged keys (files_page keys a now q s state)
+files_paged keys a now q s state listing expires version meta files next end is_end is_version is_meta is_filter is_files is_next is_last =
+    let filter_is = subst (λ m. IsFilter (pred_by s.hint) m listing) is_meta is_filter in
+    let test : passes listing ≡ lists s.hint state = λ i file. filter_is file i in
+    let files_are : map (λ f. f.now) files.items ≡ given (lists s.hint state) q.max s.place state.files = is_files ∙ ap (λ t. given t q.max s.place state.files) test in
+    let next_is : next ≡ next_place (lists s.hint state) q.max s.place state.files = is_next ∙ ap (λ t. next_place t q.max s.place state.files) test in
+    let ending : ending_with a expires s (map (λ f. f.now) files.items) next ≡ files_ending keys a now q s state = λ i. ending_with a (is_end i) s (files_are i) (next_is i) in
+    let given_lines : content_lines keys a expires (content.Files files) ≡ map (file_line keys a (expiry keys now)) (given (lists s.hint state) q.max s.place state.files) =
+    sym (map-map (file_line keys a expires) (λ f. f.now) files.items) ∙ (λ i. map (file_line keys a (is_end i)) (files_are i)) in
+    let lines = lines_paged keys a expires s.version meta (content.Files files) end _ (is_paged q.max q.token) (files_ending keys a now q s state) given_lines (is_last ∙ ap (end_of keys (is_paged q.max q.token)) ending) in
+    let here : lines_of keys a expires meta (content.Files files) end ≡ page_lines keys (files_page keys a now q s state) =
+    lines ∙ ap (λ m. page_lines keys (page_with s.version m (map (file_line keys a (expiry keys now)) (given (lists s.hint state) q.max s.place state.files)) (is_paged q.max q.token) (files_ending keys a now q s state))) is_meta in
+    λ i. paged_with (is_version i) (here i)
+
+-- ---- changes
+
+abbrev pub feed_ending_with : TableAccess → ℕ → FeedStart → List ChangedFile → Option ℕ → Ending
+feed_ending_with a expires s page next = record { expires = ends_with expires page; next = option_map (feed_cursor a s) next }
+
+-- the page of the changes that were cut
+pub feed_paged : (keys : ReplyKeys) (a : TableAccess) (now : ℕ) (q : ChangesQuery) (s : FeedStart) (meta : MetaData) (changes : List ChangedFile) (expires version : ℕ)
+    (page : Vec ChangedFile Global) (next : Option ℕ) (end : Option EndLine)
+    → expires ≡ expiry keys now → version ≡ s.to → page.items ≡ given lists_all q.max s.place changes → next ≡ next_place lists_all q.max s.place changes
+    → end ≡ end_of keys (is_paged q.max q.token) (feed_ending_with a expires s page.items next)
+    → paged_with version (lines_of keys a expires meta (content.Changes page) end) ≡ paged keys (feed_page keys a now q s meta changes)
+feed_paged keys a now q s meta changes expires version page next end is_end is_version is_page is_next is_last =
+    let ending : feed_ending_with a expires s page.items next ≡ feed_ending keys a now q s changes = λ i. feed_ending_with a (is_end i) s (is_page i) (is_next i) in
+    let given_lines : content_lines keys a expires (content.Changes page) ≡ map (change_line keys a (expiry keys now)) (given lists_all q.max s.place changes) = λ i. map (change_line keys a (is_end i)) (is_page i) in
+    let here : lines_of keys a expires meta (content.Changes page) end ≡ page_lines keys (feed_page keys a now q s meta changes) =
+    lines_paged keys a expires s.to meta (content.Changes page) end _ (is_paged q.max q.token) (feed_ending keys a now q s changes) given_lines (is_last ∙ ap (end_of keys (is_paged q.max q.token)) ending) in
+    λ i. paged_with (is_version i) (here i)

@@ -1,0 +1,165 @@
+-- What was given under a grant that is over is good no more.
+use Rattle.std.proofs.Common.{◌≡◌, ℕ, zero, suc, ◌+◌, ◌<◌, ◌≤◌, List, [], ◌∷◌, ◌++◌, Bool, true, false, cond, ◌&&◌, Option, Some, None, Result, Ok, Err, option_map, inl, inr, refl, sym, ap, ◌∙◌, subst, arith}
+use Rattle.std.specs.Prelude.{◌⊎◌, ◌==◌, count_by, filter_map, not, nat_le, option_and_then, unwrap_or}
+use Rattle.std.specs.FinMap as maps
+use Rattle.std.specs.List.{cons_option, last_or}
+use Rattle.std.proofs.lemmas.Bool.Decides.{nat_tests}
+use Rattle.std.proofs.lemmas.List.Elements.{filter_map-append}
+use Rattle.std.proofs.lemmas.List.Sums.{sum_by-append}
+use Rattle.case_table.specs.declared.refuse.Refusal.{Refusal}
+use Rattle.page_token.specs.declared.cursor.FeedCursor.{FeedCursor}
+use Rattle.page_token.specs.declared.cursor.FilesCursor.{FilesCursor}
+use Rattle.page_token.specs.declared.cursor.TableAccess.{TableAccess}
+use Rattle.share_catalog.specs.Catalogue.{grant_edition, granted, grants_pair, last_word, said, says_grant}
+use Rattle.share_catalog.specs.TableNames.{parts_of}
+use Rattle.share_catalog.specs.Views.{Spot, named, token}
+use Rattle.share_catalog.specs.declared.edit.Edit.{Edit}
+use Rattle.share_catalog.specs.declared.edit.Edit.TheVariants as edit
+use Rattle.share_catalog.specs.declared.table_name.TableName.{TableName}
+use Rattle.share_book.specs.History.{edit_in, edits}
+use Rattle.share_book.specs.Looks.{log_in, look_of, table_found}
+use Rattle.share_book.specs.Parts.{found_of}
+use Rattle.share_book.specs.Views.{View, view_by}
+use Rattle.share_book.specs.declared.entry.Entry.{Entry}
+use Rattle.share_book.specs.declared.look.Part.TheVariants as part
+use Rattle.share_book.specs.declared.look.Want.TheVariants as want
+use Rattle.signed_link.specs.declared.parts.LinkParts.{LinkParts}
+use Rattle.share_reply.specs.Access.{access}
+use Rattle.share_reply.specs.Answer.{Answer, object, of}
+use Rattle.share_reply.specs.Asking.{ask_by}
+use Rattle.share_reply.specs.Chains.{Turn}
+use Rattle.share_reply.specs.Feeds.{ChangesQuery}
+use Rattle.share_reply.specs.Laws.{IsRevoked, RevokedGrantsGiveNothing}
+use Rattle.share_reply.specs.Links.{linked_object, object_at, object_in, object_or}
+use Rattle.share_reply.specs.Refusing.{Refused, where_all}
+use Rattle.share_reply.specs.Replies.{seen_in, view_asked}
+use Rattle.share_reply.specs.declared.keys.ReplyKeys.{ReplyKeys}
+use Rattle.share_request.specs.declared.query.QueryBody.{QueryBody}
+use Rattle.share_reply.proofs.FeedChain as feed_chain
+use Rattle.share_reply.proofs.FeedPaged as feed_paged
+use Rattle.share_reply.proofs.FilesChain as files_chain
+use Rattle.share_reply.proofs.FilesPaged as files_paged
+use Rattle.share_reply.proofs.FilesPaged.{passed}
+use Rattle.share_reply.proofs.SeenTable.{IsGranted, is_granted, named_granted}
+
+-- ---- a grant that comes back has a later edition
+
+said_false : (b : Bool) → (said b false ≡ None) ⊎ (said b false ≡ Some false)
+said_false true = inr refl
+said_false false = inl refl
+
+-- what an edit that doesn't grant the pair says of it: nothing, or that it isn't granted
+quiet : (r s : List ℕ) (e : Edit) → grants_pair r s e ≡ false → (says_grant r s e ≡ None) ⊎ (says_grant r s e ≡ Some false)
+quiet r s (edit.NewShare n) h = said_false _
+quiet r s (edit.DropShare n) h = said_false _
+quiet r s (edit.Bind t b) h = inl refl
+quiet r s (edit.Unbind t) h = inl refl
+quiet r s (edit.NewRecipient n c) h = said_false _
+quiet r s (edit.Rotate n c) h = inl refl
+quiet r s (edit.DropRecipient n) h = said_false _
+quiet r s (edit.Grant x y) h = inl (ap (λ c. cond c (Some true) None) h)
+quiet r s (edit.Revoke x y) h = said_false _
+
+abbrev words : List ℕ → List ℕ → List Edit → List Bool
+words r s es = filter_map (says_grant r s) es
+
+last_or-append : {X : Type 0} (o : Option X) (xs ys : List X) → last_or o (xs ++ ys) ≡ last_or (last_or o xs) ys
+last_or-append o [] ys = refl
+last_or-append o (x ∷ xs) ys = last_or-append (Some x) xs ys
+
+not_counted : (b : Bool) (n : ℕ) → (0 + cond b 1 0) + n ≡ 0 → (b ≡ false) × (n ≡ 0)
+not_counted true n e = absurd (omega (arith, e))
+not_counted false n e = (refl, omega (arith, e))
+
+by_word : (w o : Option Bool) (ws : List Bool) → (w ≡ None) ⊎ (w ≡ Some false) → unwrap_or o false ≡ false
+    → ((p : Option Bool) → unwrap_or p false ≡ false → unwrap_or (last_or p ws) false ≡ false) → unwrap_or (last_or o (cons_option w ws)) false ≡ false
+by_word None o ws cases off rest = rest o off
+by_word (Some false) o ws cases off rest = rest (Some false) refl
+by_word (Some true) o ws (inl e) off rest = absurd cc
+by_word (Some true) o ws (inr e) off rest = absurd cc
+
+silent : (r s : List ℕ) (es : List Edit) (o : Option Bool) → count_by (grants_pair r s) es ≡ 0 → unwrap_or o false ≡ false → unwrap_or (last_or o (words r s es)) false ≡ false
+silent r s [] o none off = off
+silent r s (e ∷ es) o none off =
+    let (unsaid, rest) = not_counted (grants_pair r s e) (count_by (grants_pair r s) es) (sym (sum_by-append (λ x. cond (grants_pair r s x) 1 0) (e ∷ []) es) ∙ none) in
+    by_word (says_grant r s e) o (words r s es) (quiet r s e unsaid) off (λ p is. silent r s es p rest is)
+
+counted : (r s : List ℕ) (es later : List Edit) (n : ℕ) → count_by (grants_pair r s) later ≡ n → granted es r s ≡ false → granted (es ++ later) r s ≡ true → grant_edition es r s < grant_edition (es ++ later) r s
+counted r s es later zero none off on =
+    let joined : last_word (says_grant r s) (es ++ later) ≡ last_or (last_word (says_grant r s) es) (words r s later) =
+    ap (last_or None) (filter_map-append (says_grant r s) es later) ∙ last_or-append None (words r s es) (words r s later) in
+    let still : granted (es ++ later) r s ≡ false = ap (λ o. unwrap_or o false) joined ∙ silent r s later (last_word (says_grant r s) es) none off in
+    absurd cc
+counted r s es later (suc n) some off on = omega (arith, some, sum_by-append (λ e. cond (grants_pair r s e) 1 0) es later)
+
+-- so what was given before is of another edition
+not_again : (before later : List Entry) (r s : List ℕ) (edition : ℕ) → IsRevoked before r s edition → granted (edits (before ++ later)) r s ≡ true → edition ≡ grant_edition (edits (before ++ later)) r s → ⊥
+not_again before later r s edition (off, low) on is =
+    let joined : edits (before ++ later) ≡ edits before ++ edits later = filter_map-append edit_in before later in
+    let greater : grant_edition (edits before) r s < grant_edition (edits before ++ edits later) r s =
+    counted r s (edits before) (edits later) (count_by (grants_pair r s) (edits later)) refl off (sym (ap (λ (es : List Edit). granted es r s) joined) ∙ on) in
+    let here : edition ≡ grant_edition (edits before ++ edits later) r s = is ∙ ap (λ (es : List Edit). grant_edition es r s) joined in
+    omega (arith, greater, low, here)
+
+-- ---- tokens
+
+stale : (before later : List Entry) (r : List ℕ) (name : TableName) (spot : Spot) (given : TableAccess) → IsRevoked before given.recipient given.share given.grant → access r name spot ≡ given → IsGranted (before ++ later) r name spot → ⊥
+stale before later r name spot given over same (on, is) =
+    let recipient : r ≡ given.recipient = ap (λ (a : TableAccess). a.recipient) same in
+    let share : name.share ≡ given.share = ap (λ (a : TableAccess). a.share) same in
+    let grant : spot.grant ≡ given.grant = ap (λ (a : TableAccess). a.grant) same in
+    let on_here : granted (edits (before ++ later)) given.recipient given.share ≡ true = (λ i. granted (edits (before ++ later)) (sym recipient i) (sym share i)) ∙ on in
+    let is_here : given.grant ≡ grant_edition (edits (before ++ later)) given.recipient given.share = sym grant ∙ is ∙ (λ i. grant_edition (edits (before ++ later)) (recipient i) (share i)) in
+    not_again before later given.recipient given.share given.grant over on_here is_here
+
+-- ---- links
+
+split : (a b : Bool) → (a && b) ≡ true → (a ≡ true) × (b ≡ true)
+split true b e = (refl, e)
+split false b e = absurd cc
+
+-- a test that an object passed
+object_past : (b : Bool) (refusal : Refusal) (r : Result (List ℕ) Refused) (x : List ℕ) → of object (where_all ((b, refusal) ∷ []) r) ≡ object x → r ≡ Ok x
+object_past true refusal (Ok y) x e = cc
+object_past true refusal (Err y) x e = absurd cc
+object_past false refusal r x e = absurd cc
+
+both_same : (spot : Spot) (parts : LinkParts) (x : List ℕ) → object_at parts spot ≡ Ok x → spot.grant ≡ parts.grant
+both_same spot parts x e =
+    let (both, rest) = passed (spot.grant == parts.grant && spot.binding == parts.binding) _ [] (object_or _) x e in
+    let (grant, binding) = split (spot.grant == parts.grant) (spot.binding == parts.binding) both in
+    grind (arith, nat_tests, grant)
+
+spot_case : (before later : List Entry) (parts : LinkParts) (view : View) (x : List ℕ) (o : Option Spot) → IsRevoked before parts.recipient parts.table.share parts.grant → view_by (before ++ later) (named parts.recipient) ≡ Some view
+    → maps.get view.catalog.tables (parts_of parts.table) ≡ o → object_in parts (table_found found_of (log_in view parts.table) part.Place o) ≡ Ok x → ⊥
+spot_case before later parts view x None over is_view is e = absurd cc
+spot_case before later parts view x (Some spot) over is_view is e =
+    let (on, edition) = named_granted (before ++ later) parts.recipient view parts.table spot is_view is in
+    not_again before later parts.recipient parts.table.share parts.grant over on (sym (both_same spot parts x e) ∙ edition)
+
+view_case : (before later : List Entry) (parts : LinkParts) (now : ℕ) (x : List ℕ) (o : Option View) → IsRevoked before parts.recipient parts.table.share parts.grant → view_by (before ++ later) (named parts.recipient) ≡ o
+    → of object (linked_object (look_of o (want.Table parts.table part.Place)) now (Some parts)) ≡ object x → ⊥
+view_case before later parts now x None over is e = let r = object_past (not (nat_le parts.expires now)) _ _ x e in absurd (cc r)
+view_case before later parts now x (Some view) over is e =
+    spot_case before later parts view x (maps.get view.catalog.tables (parts_of parts.table)) over is refl (object_past (not (nat_le parts.expires now)) _ _ x e)
+
+abbrev linked : List Entry → ℕ → Option LinkParts → Answer
+linked history now o = of object (linked_object (option_and_then (seen_in (option_and_then (view_asked history) (ask_by o))) (ask_by o)) now o)
+
+pub revoked_grants_give_nothing : RevokedGrantsGiveNothing
+revoked_grants_give_nothing = record {
+  files = λ keys before later now digest text name q c has read over p e.
+      let t : Turn QueryBody = record { point = before ++ later; digest = digest; moment = now; query = q } in
+      let T : files_chain.TurnAt keys name t p = files_chain.turn_at keys name t p e in
+      let P : files_paged.Later keys (access T.view.catalog.recipient name T.spot) now q c (log_in T.view name) p =
+      files_paged.later keys (access T.view.catalog.recipient name T.spot) now q c text T.spot.history (log_in T.view name) p read has T.page_is in
+      stale before later T.view.catalog.recipient name T.spot c.access over P.same (is_granted (before ++ later) (token digest) T.view name T.spot T.is_view T.is_spot);
+  changes = λ keys before later now digest text name q c has read over p e.
+      let t : Turn ChangesQuery = record { point = before ++ later; digest = digest; moment = now; query = q } in
+      let T : feed_chain.TurnAt keys name t p = feed_chain.turn_at keys name t p e in
+      let P : feed_paged.LaterFeed keys (access T.view.catalog.recipient name T.spot) now q c (log_in T.view name) p =
+      feed_paged.later keys (access T.view.catalog.recipient name T.spot) now q c text T.spot.history (log_in T.view name) p read has T.page_is in
+      stale before later T.view.catalog.recipient name T.spot c.access over P.same (is_granted (before ++ later) (token digest) T.view name T.spot T.is_view T.is_spot);
+  links = λ keys before later now target parts read over x e.
+      view_case before later parts now x (view_by (before ++ later) (named parts.recipient)) over refl (sym (ap (linked (before ++ later) now) read) ∙ e);
+}

@@ -1,0 +1,135 @@
+-- What a view shows of a table, by the history that it is of.
+use Rattle.std.proofs.Common.{◌≡◌, ℕ, ◌+◌, ◌<◌, List, [], ◌∷◌, ◌++◌, Bool, true, false, Option, Some, None, option_map, refl, sym, ap, ◌∙◌, subst, length, arith, take}
+use Rattle.std.specs.Prelude.{option_and_then, unwrap_or}
+use Rattle.std.specs.FinMap as maps
+use Rattle.std.proofs.lemmas.List.{take-append-le}
+use Rattle.std.proofs.lemmas.List.Elements.{filter_map-append}
+use Rattle.log_actions.specs.declared.actions.Action.{Action}
+use Rattle.share_catalog.specs.Catalogue.{binding_edition, bound, credential, grant_edition, granted, said}
+use Rattle.share_catalog.specs.TableNames.{parts_of}
+use Rattle.share_catalog.specs.Views.{Spot, Who, binding, grant, name_of, shared, spot_with}
+use Rattle.share_catalog.specs.Views as catalog
+use Rattle.share_catalog.specs.declared.credential.Credential.{Credential}
+use Rattle.share_catalog.specs.declared.edit.Binding.{Binding}
+use Rattle.share_catalog.specs.declared.edit.Edit.{Edit}
+use Rattle.share_catalog.specs.declared.table_name.TableName.{TableName}
+use Rattle.share_catalog.proofs.ViewLemmas.{tables_are_shown}
+use Rattle.share_book.specs.History.{edit_in, edits}
+use Rattle.share_book.specs.Looks.{log_in}
+use Rattle.share_book.specs.Parts.{up_to}
+use Rattle.share_book.specs.Views.{Log, View, log_at, log_of_spot, logs_of, seen_log, view_by, view_with}
+use Rattle.share_book.specs.declared.entry.Entry.{Entry}
+use Rattle.share_book.proofs.Growth.{logs_grow}
+use Rattle.share_book.proofs.Looking.{logs_are_shown}
+use Rattle.share_reply.specs.Chains.{Continues}
+use Rattle.share_reply.proofs.BindingLemmas.{same_binding}
+
+-- a table stands in a view as it is bound
+pub record IsBound (point : List Entry) (name : TableName) (spot : Spot) (log : Log) : Type 0 where
+  pub binding : Binding
+  pub is_bound : bound (edits point) name ≡ Some binding
+  pub edition : spot.binding ≡ binding_edition (edits point) name
+  pub is_log : log ≡ log_at point binding.location
+
+spot_case : (edition : ℕ) (b : ℕ) (o : Option Binding) (spot : Spot) → option_map (spot_with edition) (option_map (λ (x : Binding). (x, b)) o) ≡ Some spot → (x : Binding) × (o ≡ Some x) × (spot ≡ spot_with edition (x, b))
+spot_case edition b None spot e = absurd cc
+spot_case edition b (Some x) spot e = (x, refl, cc)
+
+grant_case : (es : List Edit) (name : TableName) (o : Option ℕ) (spot : Spot) → option_and_then (λ edition. option_map (spot_with edition) (binding es name)) o ≡ Some spot
+    → (edition : ℕ) × (x : Binding) × (bound es name ≡ Some x) × (spot ≡ spot_with edition (x, binding_edition es name))
+grant_case es name None spot e = absurd cc
+grant_case es name (Some edition) spot e = let (x, is, at) = spot_case edition (binding_edition es name) (bound es name) spot e in (edition, x, is, at)
+
+log_case : (logs : List ℕ → Log) (o : Option Spot) (spot : Spot) → o ≡ Some spot → unwrap_or (option_map (log_of_spot logs) o) (seen_log None) ≡ logs spot.location
+log_case logs None spot e = absurd cc
+log_case logs (Some s) spot e = let same : s ≡ spot = cc in ap (λ (x : Spot). logs x.location) same
+
+bound_in : (h : List Entry) (r : List ℕ) (name : TableName) (spot : Spot) → shared (edits h) r name ≡ Some spot → unwrap_or (maps.get (logs_of (edits h) (log_at h) r) (parts_of name)) (seen_log None) ≡ log_at h spot.location
+bound_in h r name spot is = ap (λ (o : Option Log). unwrap_or o (seen_log None)) (logs_are_shown (edits h) (log_at h) r name) ∙ log_case (log_at h) (shared (edits h) r name) spot is
+
+view_case : (h : List Entry) (r : List ℕ) (c : Credential) (view : View) (name : TableName) (spot : Spot) → view_with (edits h) (log_at h) (catalog.view_with (edits h) r c) ≡ view
+    → maps.get view.catalog.tables (parts_of name) ≡ Some spot → IsBound h name spot (log_in view name)
+view_case h r c view name spot same is =
+    let here : shared (edits h) r name ≡ Some spot = sym (tables_are_shown (edits h) r name) ∙ ap (λ (v : View). maps.get v.catalog.tables (parts_of name)) same ∙ is in
+    let (edition, b, is_bound, at) = grant_case (edits h) name (grant (edits h) r name.share) spot here in
+    let log : log_in view name ≡ log_at h spot.location = sym (ap (λ (v : View). log_in v name) same) ∙ bound_in h r name spot here in
+    record { binding = b; is_bound = is_bound; edition = ap (λ (s : Spot). s.binding) at; is_log = log ∙ ap (λ (s : Spot). log_at h s.location) at }
+
+some_is : {X : Type 0} (x y : X) → Some x ≡ Some y → x ≡ y
+some_is x y e = cc
+
+credential_case : (h : List Entry) (r : List ℕ) (o : Option Credential) (view : View) (name : TableName) (spot : Spot) → option_map (view_with (edits h) (log_at h)) (option_map (catalog.view_with (edits h) r) o) ≡ Some view
+    → maps.get view.catalog.tables (parts_of name) ≡ Some spot → IsBound h name spot (log_in view name)
+credential_case h r None view name spot v is = absurd cc
+credential_case h r (Some c) view name spot v is = view_case h r c view name spot (some_is _ view v) is
+
+who_case : (h : List Entry) (o : Option (List ℕ)) (view : View) (name : TableName) (spot : Spot) → option_map (view_with (edits h) (log_at h)) (option_and_then (catalog.view_of (edits h)) o) ≡ Some view
+    → maps.get view.catalog.tables (parts_of name) ≡ Some spot → IsBound h name spot (log_in view name)
+who_case h None view name spot v is = absurd cc
+who_case h (Some r) view name spot v is = credential_case h r (credential (edits h) r) view name spot v is
+
+pub is_bound : (h : List Entry) (who : Who) (view : View) (name : TableName) (spot : Spot) → view_by h who ≡ Some view → maps.get view.catalog.tables (parts_of name) ≡ Some spot → IsBound h name spot (log_in view name)
+is_bound h who view name spot v is = who_case h (name_of (edits h) who) view name spot v is
+
+-- ---- its grant
+
+granted_case : (es : List Edit) (name : TableName) (b : Bool) (n : ℕ) (spot : Spot) → option_and_then (λ edition. option_map (spot_with edition) (binding es name)) (said b n) ≡ Some spot → (b ≡ true) × (spot.grant ≡ n)
+granted_case es name false n spot e = absurd cc
+granted_case es name true n spot e = let (x, is, at) = spot_case n (binding_edition es name) (bound es name) spot e in (refl, ap (λ (s : Spot). s.grant) at)
+
+-- the recipient is granted the table's share, and this is the grant's edition
+abbrev pub IsGranted : List Entry → List ℕ → TableName → Spot → Type 0
+IsGranted h r name spot = (granted (edits h) r name.share ≡ true) × (spot.grant ≡ grant_edition (edits h) r name.share)
+
+view_granted : (h : List Entry) (r : List ℕ) (c : Credential) (view : View) (name : TableName) (spot : Spot) → view_with (edits h) (log_at h) (catalog.view_with (edits h) r c) ≡ view
+    → maps.get view.catalog.tables (parts_of name) ≡ Some spot → (view.catalog.recipient ≡ r) × IsGranted h r name spot
+view_granted h r c view name spot same is =
+    let here : shared (edits h) r name ≡ Some spot = sym (tables_are_shown (edits h) r name) ∙ ap (λ (v : View). maps.get v.catalog.tables (parts_of name)) same ∙ is in
+    (sym (ap (λ (v : View). v.catalog.recipient) same), granted_case (edits h) name (granted (edits h) r name.share) (grant_edition (edits h) r name.share) spot here)
+
+credential_granted : (h : List Entry) (r : List ℕ) (o : Option Credential) (view : View) (name : TableName) (spot : Spot) → option_map (view_with (edits h) (log_at h)) (option_map (catalog.view_with (edits h) r) o) ≡ Some view
+    → maps.get view.catalog.tables (parts_of name) ≡ Some spot → (view.catalog.recipient ≡ r) × IsGranted h r name spot
+credential_granted h r None view name spot v is = absurd cc
+credential_granted h r (Some c) view name spot v is = view_granted h r c view name spot (some_is _ view v) is
+
+who_granted : (h : List Entry) (o : Option (List ℕ)) (view : View) (name : TableName) (spot : Spot) → option_map (view_with (edits h) (log_at h)) (option_and_then (catalog.view_of (edits h)) o) ≡ Some view
+    → maps.get view.catalog.tables (parts_of name) ≡ Some spot → IsGranted h view.catalog.recipient name spot
+who_granted h None view name spot v is = absurd cc
+who_granted h (Some r) view name spot v is =
+    let (same, granted_is) = credential_granted h r (credential (edits h) r) view name spot v is in
+    subst (λ (x : List ℕ). IsGranted h x name spot) (sym same) granted_is
+
+pub is_granted : (h : List Entry) (who : Who) (view : View) (name : TableName) (spot : Spot) → view_by h who ≡ Some view → maps.get view.catalog.tables (parts_of name) ≡ Some spot → IsGranted h view.catalog.recipient name spot
+is_granted h who view name spot v is = who_granted h (name_of (edits h) who) view name spot v is
+
+-- of a recipient that is found by its name
+pub named_granted : (h : List Entry) (r : List ℕ) (view : View) (name : TableName) (spot : Spot) → view_by h (catalog.named r) ≡ Some view → maps.get view.catalog.tables (parts_of name) ≡ Some spot → IsGranted h r name spot
+named_granted h r view name spot v is = (credential_granted h r (credential (edits h) r) view name spot v is).1
+
+-- ---- its log
+
+-- a log that has more commits at its end
+abbrev pub Grown : Log → Log → Type 0
+Grown log grown = (more : List (List Action)) × (grown.commits ≡ log.commits ++ more)
+
+-- Where a table is seen under the edition of its binding that it had, its log is the same, and has grown.
+pub same_log : (before now : List Entry) (name : TableName) (spot spot' : Spot) (log log' : Log) → IsBound before name spot log → IsBound now name spot' log' → Continues before now → spot'.binding ≡ spot.binding → Grown log log'
+same_log before now name spot spot' log log' s s' (later, goes) same =
+    let joined : edits now ≡ edits before ++ edits later = ap edits goes ∙ filter_map-append edit_in before later in
+    let editions : binding_edition (edits before ++ edits later) name ≡ binding_edition (edits before) name = ap (λ (es : List Edit). binding_edition es name) (sym joined) ∙ sym s'.edition ∙ same ∙ s.edition in
+    let b_is : s'.binding ≡ s.binding = same_binding (edits before) (edits later) name s.binding s'.binding editions s.is_bound (ap (λ (es : List Edit). bound es name) (sym joined) ∙ s'.is_bound) in
+    let (more, grown) = logs_grow.grows before later s.binding.location in (
+      more,
+      ap (λ (l : Log). l.commits) s'.is_log
+          ∙ ap (λ (b : Binding). (log_at now b.location).commits) b_is
+          ∙ ap (λ (h : List Entry). (log_at h s.binding.location).commits) goes
+          ∙ grown
+          ∙ ap (λ (l : Log). l.commits ++ more) (sym s.is_log),
+    )
+
+-- so the versions that it had are as they were
+pub same_versions : (before now : List Entry) (name : TableName) (spot spot' : Spot) (log log' : Log) (version : ℕ) → IsBound before name spot log → IsBound now name spot' log' → Continues before now
+    → spot'.binding ≡ spot.binding → version < length log.commits → up_to log' version ≡ up_to log version
+same_versions before now name spot spot' log log' version s s' goes same kept =
+    let (more, grown) = same_log before now name spot spot' log log' s s' goes same in
+    ap (take (version + 1)) grown ∙ take-append-le (version + 1) log.commits more (omega (arith, kept))

@@ -1,0 +1,8 @@
+use Rattle.std.proofs.Common.{[]}
+use Rattle.std.proofs.lemmas.Result.{on_ok_weaker}
+use Rattle.json_print.proofs.TokenLemmas.{then, object_written}
+use Rattle.share_reply.proofs.listing_text.empty_object.Goals as goal
+
+pub returns : goal.returns
+returns c =
+    rw (← object_written []) (on_ok_weaker c.end_object.result (λ last. then c.in_ok-begin_object.ensures last) c.end_object.ensures)

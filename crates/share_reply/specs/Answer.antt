@@ -1,0 +1,51 @@
+-- What a recipient's request is answered, as a value: before any text is made of it.
+use Rattle.std.specs.Prelude.{ℕ, List, [], ◌∷◌, Option, Some, None, Result, Ok, Err}
+use Rattle.case_table.specs.declared.routing.Method.{Method}
+use Rattle.page_token.specs.declared.cursor.Cursor.{Cursor}
+use Rattle.page_token.specs.declared.cursor.ListCursor.{ListCursor}
+use Rattle.page_token.specs.declared.cursor.ListKind.{ListKind}
+use Rattle.share_lines.specs.declared.kinds.Line.{Line}
+use Rattle.share_lines.specs.declared.kinds.MetaLine.{MetaLine}
+use Rattle.share_reply.specs.Refusing.{Refused}
+
+-- the end of a page: when its links end, where it has any, and where the next page begins, where one is left
+pub record Ending : Type 0 where
+  pub expires : Option ℕ
+  pub next : Option Cursor
+
+-- The lines of a version: its metaData, the files or the changes, and the end where pages are asked for. The first line, the protocol's, is the same in all.
+pub record Page : Type 0 where
+  pub version : ℕ
+  pub meta : MetaLine
+  pub content : List Line
+  pub end : Option Ending
+
+-- Names that are listed, those of a share or of a schema where the listing is of one: each a share; a schema; a table; or a schema and a table.
+pub record NamesPage : Type 0 where
+  pub kind : ListKind
+  pub share : List ℕ
+  pub schema : List ℕ
+  pub names : List (List (List ℕ))
+  pub next : Option ListCursor
+
+pub data Answer : Type 0 where
+  -- a refusal, with its detail
+  refused : Refused → Answer
+  -- the path's route has another method
+  only : Method → Answer
+  names : NamesPage → Answer
+  one_share : List ℕ → Answer
+  at_version : ℕ → Answer
+  page : Page → Answer
+  -- the object of that name in the store
+  object : List ℕ → Answer
+
+-- what is given, or the refusal
+abbrev pub of : {X : Type 0} → (X → Answer) → Result X Refused → Answer
+of answer (Ok x) = answer x
+of answer (Err r) = refused r
+
+-- when the links of a page end, where it has any
+abbrev pub ends_with : {X : Type 0} → ℕ → List X → Option ℕ
+ends_with expires [] = None
+ends_with expires (x ∷ xs) = Some expires

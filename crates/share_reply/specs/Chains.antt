@@ -1,0 +1,174 @@
+-- Chains of pages: a recipient asks for a table's files, or for its changes, page by page, while others commit, grant and bind between its pages. What the pages give together is what the version that the first one was of, or the range, has: each once, in order.
+use Rattle.std.specs.Prelude.{◌≡◌, ℕ, ◌^◌, ◌<◌, ⊤, List, [], ◌∷◌, ◌++◌, Option, Some, None, IfSome, Result, Ok, length, map, option_and_then, option_map, take}
+use Rattle.std.specs.FinMap as maps
+use Rattle.std.specs.Str.{IsUtf8}
+use Rattle.case_table.specs.declared.routing.Route.{Route}
+use Rattle.case_table.specs.declared.routing.Route.TheVariants as route
+use Rattle.change_feed.specs.Changes.{ChangedFile}
+use Rattle.change_feed.specs.Feed.{feed_of}
+use Rattle.log_actions.specs.declared.actions.AddFile.{AddFile}
+use Rattle.log_replay.specs.State.{State, state_of}
+use Rattle.page_token.specs.Payload.{IsAskedInRange, IsAskedValue}
+use Rattle.page_token.specs.Token.{token_text}
+use Rattle.page_token.specs.declared.cursor.Cursor.{Cursor}
+use Rattle.page_token.specs.declared.cursor.TableAccess.{TableAccess}
+use Rattle.share_book.specs.Looks.{log_in}
+use Rattle.share_book.specs.Parts.{resolved_at, up_to}
+use Rattle.share_book.specs.Views.{Log, View, view_by}
+use Rattle.share_book.specs.declared.entry.Entry.{Entry}
+use Rattle.share_catalog.specs.TableNames.{parts_of}
+use Rattle.share_catalog.specs.Views.{Spot, token}
+use Rattle.share_catalog.specs.declared.table_name.TableName.{TableName}
+use Rattle.share_lines.specs.declared.kinds.Line.{Line}
+use Rattle.share_request.specs.declared.asked.Request.{Request}
+use Rattle.share_request.specs.declared.asked.Request.TheVariants as request
+use Rattle.share_request.specs.declared.asked.What.{What}
+use Rattle.share_request.specs.declared.asked.What.TheVariants as what
+use Rattle.share_request.specs.declared.query.QueryBody.{QueryBody}
+use Rattle.share_reply.specs.Access.{access, expiry}
+use Rattle.share_reply.specs.Answer.{Answer, Page, at_version, names, object, one_share, only, page, refused}
+use Rattle.share_reply.specs.Asking.{asked_at, asked_by, first_bound, last_bound}
+use Rattle.share_reply.specs.Feeds.{ChangesQuery, change_line}
+use Rattle.share_reply.specs.Files.{file_line, listed_files, used_hint}
+use Rattle.share_reply.specs.Replies.{answered_at}
+use Rattle.share_reply.specs.declared.keys.ReplyKeys.{ReplyKeys}
+
+-- a history that goes on
+abbrev pub Continues : List Entry → List Entry → Type 0
+Continues before after = (more : List Entry) × (after ≡ before ++ more)
+
+-- what is asked for page by page
+pub record Paging (Q : Type 0) : Type 0 where
+  pub route : Route
+  pub asks : TableName → Q → What
+  pub token_of : Q → Option (List ℕ)
+
+abbrev pub by_files : Paging QueryBody
+by_files = record { route = route.Query; asks = λ name q. what.Query name q; token_of = λ q. q.token }
+
+abbrev pub by_changes : Paging ChangesQuery
+by_changes = record { route = route.Changes; asks = λ name q. what.Changes name q.from q.to q.max q.token; token_of = λ q. q.token }
+
+-- a request of one page: the digest by which its sender is found, what it asks, and where in the history and when it is answered
+pub record Turn (Q : Type 0) : Type 0 where
+  pub point : List Entry
+  pub digest : List ℕ
+  pub moment : ℕ
+  pub query : Q
+
+abbrev pub request_at : {Q : Type 0} → Paging Q → TableName → Turn Q → Request
+request_at paging name t = request.ByToken (record { digest = t.digest; route = paging.route; asked = Ok (paging.asks name t.query) })
+
+abbrev pub answer_at : {Q : Type 0} → Paging Q → ReplyKeys → TableName → Turn Q → Answer
+answer_at paging keys name t = answered_at keys t.point t.moment (request_at paging name t)
+
+-- where the next page begins, where one is left
+abbrev pub next_in : Page → Option Cursor
+next_in p = option_and_then (λ e. e.next) p.end
+
+-- its token
+abbrev pub next_token : ReplyKeys → Page → Option (List ℕ)
+next_token keys p = option_map (token_text keys.token) (next_in p)
+
+-- Each turn's point continues the one before, its token is the one that the page before gave, all answers are pages, and the last page gives no token. That it is one recipient's chain of one table follows: the token says both.
+abbrev pub IsChainAfter : {Q : Type 0} → Paging Q → ReplyKeys → TableName → List Entry → Option (List ℕ) → List (Turn Q) → Type 0
+IsChainAfter paging keys name before None [] = ⊤
+IsChainAfter paging keys name before (Some text) [] = ⊥
+IsChainAfter paging keys name before None (t ∷ ts) = ⊥
+IsChainAfter paging keys name before (Some text) (t ∷ ts) =
+    Continues before t.point × (paging.token_of t.query ≡ Some text) × ((p : Page) × (answer_at paging keys name t ≡ page p) × IsChainAfter paging keys name t.point (next_token keys p) ts)
+
+-- the first request has no token
+abbrev pub IsChain : {Q : Type 0} → Paging Q → ReplyKeys → TableName → Turn Q → List (Turn Q) → Type 0
+IsChain paging keys name t ts =
+    (paging.token_of t.query ≡ None) × ((p : Page) × (answer_at paging keys name t ≡ page p) × IsChainAfter paging keys name t.point (next_token keys p) ts)
+
+-- ---- what a chain gives
+
+abbrev pub content_of : Answer → List Line
+content_of (refused r) = []
+content_of (only allowed) = []
+content_of (names n) = []
+content_of (one_share s) = []
+content_of (at_version v) = []
+content_of (page p) = p.content
+content_of (object name) = []
+
+-- Elements stand in the pages one after another, each as the line that is given of it at its own page's moment.
+abbrev pub Gives : {Q X : Type 0} → Paging Q → ReplyKeys → TableName → (ℕ → X → Line) → List (Turn Q) → List X → Type 0
+Gives paging keys name line_at [] xs = xs ≡ []
+Gives {X = X} paging keys name line_at (t ∷ ts) xs =
+    (here : List X) × (later : List X) × (xs ≡ here ++ later) × (content_of (answer_at paging keys name t) ≡ map (line_at t.moment) here) × Gives paging keys name line_at ts later
+
+-- the table as a turn's view has it: where it stands, its log, and to whom it is given
+pub record Sees {Q : Type 0} (t : Turn Q) (name : TableName) (spot : Spot) (log : Log) (a : TableAccess) : Type 0 where
+  pub view : View
+  pub is_view : view_by t.point (token t.digest) ≡ Some view
+  pub is_spot : maps.get view.catalog.tables (parts_of name) ≡ Some spot
+  pub is_log : log_in view name ≡ log
+  pub is_access : access view.catalog.recipient name spot ≡ a
+
+-- the version that a first query means, and its state
+pub record Pins (q : QueryBody) (log : Log) (state : State) : Type 0 where
+  pub version : ℕ
+  pub is_version : resolved_at log (last_bound (asked_by q.version q.moment)) ≡ Ok version
+  pub is_state : state_of (up_to log version) ≡ Ok state
+
+-- the range that a first query of changes means, and its changes
+pub record PinsRange (q : ChangesQuery) (log : Log) (changes : List ChangedFile) : Type 0 where
+  pub from : ℕ
+  pub to : ℕ
+  pub is_from : resolved_at log (first_bound (asked_at q.from)) ≡ Ok from
+  pub is_to : resolved_at log (last_bound (asked_at q.to)) ≡ Ok to
+  pub is_feed : feed_of log.commits from to ≡ Ok changes
+
+-- the line that is given of a file at a moment
+abbrev pub linked_file : ReplyKeys → TableAccess → ℕ → AddFile → Line
+linked_file keys a now f = file_line keys a (expiry keys now) f
+
+-- and of a change
+abbrev pub linked_change : ReplyKeys → TableAccess → ℕ → ChangedFile → Line
+linked_change keys a now c = change_line keys a (expiry keys now) c
+
+-- What turns, views and answers are by their types in code: texts are UTF-8, numbers have 63 bits, and tokens are shorter than 2^64 bytes. Without it no law says that a token is read again.
+pub record IsTyped {Q : Type 0} (paging : Paging Q) (keys : ReplyKeys) (name : TableName) (t : Turn Q) : Type 0 where
+  pub share : IsUtf8 name.share
+  pub schema : IsUtf8 name.schema
+  pub table : IsUtf8 name.table
+  pub seen : (spot : Spot) (log : Log) (a : TableAccess) → Sees t name spot log a → IsUtf8 a.recipient × (spot.grant < 2 ^ 63) × (spot.binding < 2 ^ 63) × (length log.commits < 2 ^ 63)
+  pub short : (p : Page) → answer_at paging keys name t ≡ page p → IfSome (next_token keys p) (λ text. length text < 2 ^ 64)
+
+-- the same of what a query of files has
+pub record IsTypedQuery (keys : ReplyKeys) (name : TableName) (t : Turn QueryBody) : Type 0 where
+  pub turn : IsTyped by_files keys name t
+  pub asked : IsAskedValue (asked_by t.query.version t.query.moment)
+  pub asked_range : IsAskedInRange (asked_by t.query.version t.query.moment)
+  pub hint : IfSome t.query.hint IsUtf8
+  pub files : (spot : Spot) (log : Log) (a : TableAccess) (n : ℕ) (state : State) → Sees t name spot log a → state_of (up_to log n) ≡ Ok state → length state.files < 2 ^ 63
+
+abbrev pub AreTypedQueries : ReplyKeys → TableName → List (Turn QueryBody) → Type 0
+AreTypedQueries keys name [] = ⊤
+AreTypedQueries keys name (t ∷ ts) = IsTypedQuery keys name t × AreTypedQueries keys name ts
+
+-- and of what a query of changes has
+pub record IsTypedFeed (keys : ReplyKeys) (name : TableName) (t : Turn ChangesQuery) : Type 0 where
+  pub turn : IsTyped by_changes keys name t
+  pub from : IsAskedValue (asked_at t.query.from)
+  pub from_range : IsAskedInRange (asked_at t.query.from)
+  pub to : IsAskedValue (asked_at t.query.to)
+  pub to_range : IsAskedInRange (asked_at t.query.to)
+  pub changes : (spot : Spot) (log : Log) (a : TableAccess) (from to : ℕ) (changes : List ChangedFile) → Sees t name spot log a → feed_of log.commits from to ≡ Ok changes → length changes < 2 ^ 63
+
+abbrev pub AreTypedFeeds : ReplyKeys → TableName → List (Turn ChangesQuery) → Type 0
+AreTypedFeeds keys name [] = ⊤
+AreTypedFeeds keys name (t ∷ ts) = IsTypedFeed keys name t × AreTypedFeeds keys name ts
+
+-- The pages of a chain give all files of the version that the first one was of that the predicate doesn't make False, each once and in order, whatever stands between the points of its pages.
+abbrev pub ChainsAreWhole : Type 0
+ChainsAreWhole = (keys : ReplyKeys) (name : TableName) (t : Turn QueryBody) (ts : List (Turn QueryBody)) → IsChain by_files keys name t ts → AreTypedQueries keys name (t ∷ ts)
+    → (spot : Spot) × (log : Log) × (a : TableAccess) × Sees t name spot log a × ((state : State) × Pins t.query log state × Gives by_files keys name (linked_file keys a) (t ∷ ts) (listed_files (used_hint t.query.hint) state))
+
+-- So do those of a chain of changes: all changes of the range that the first one was of.
+abbrev pub FeedChainsAreWhole : Type 0
+FeedChainsAreWhole = (keys : ReplyKeys) (name : TableName) (t : Turn ChangesQuery) (ts : List (Turn ChangesQuery)) → IsChain by_changes keys name t ts → AreTypedFeeds keys name (t ∷ ts)
+    → (spot : Spot) × (log : Log) × (a : TableAccess) × Sees t name spot log a × ((changes : List ChangedFile) × PinsRange t.query log changes × Gives by_changes keys name (linked_change keys a) (t ∷ ts) changes)

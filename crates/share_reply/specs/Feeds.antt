@@ -1,0 +1,158 @@
+-- What a query of a table's changes is answered (Delta Sharing PROTOCOL.md, "Read Change Data Feed from a Table").
+use Rattle.std.specs.Prelude.{ℕ, ◌==◌, ◌&&◌, List, [], ◌∷◌, ◌++◌, Bool, true, false, Option, Some, None, Result, Ok, Err, length, map, nat_le, option_map, if◌then◌else◌}
+use Rattle.std.specs.Fmt.{decimal}
+use Rattle.std.specs.Ordering.{int_eq}
+use Rattle.case_table.specs.declared.refuse.Refusal.TheVariants.{ChangesNotEnabled, TokenAhead, TokenInvalid, TokenMismatch, UnsupportedTable}
+use Rattle.change_feed.specs.Changes.{ChangedFile}
+use Rattle.change_feed.specs.Shown.{feed_from as feed_in}
+use Rattle.change_feed.specs.declared.change.ChangeKind.{ChangeKind}
+use Rattle.change_feed.specs.declared.change.ChangeKind.TheVariants as kind
+use Rattle.json_tree.specs.Results.{◌>>=◌}
+use Rattle.log_actions.specs.declared.actions.MetaData.{MetaData}
+use Rattle.log_replay.specs.Reconciliation.{last_meta}
+use Rattle.page_token.specs.Cursors.{cursor_of}
+use Rattle.page_token.specs.declared.cursor.Asked.{Asked}
+use Rattle.page_token.specs.declared.cursor.Asked.TheVariants as asked
+use Rattle.page_token.specs.declared.cursor.Cursor.{Cursor}
+use Rattle.page_token.specs.declared.cursor.Cursor.TheVariants as cursor
+use Rattle.page_token.specs.declared.cursor.FeedCursor.{FeedCursor}
+use Rattle.page_token.specs.declared.cursor.TableAccess.{TableAccess}
+use Rattle.share_book.specs.declared.look.FeedPart.{FeedPart}
+use Rattle.share_book.specs.declared.look.PartFound.{PartFound}
+use Rattle.share_book.specs.declared.look.PartFound.TheVariants as part_found
+use Rattle.share_lines.specs.Lines.{meta_of}
+use Rattle.share_lines.specs.declared.kinds.FileLine.{FileLine}
+use Rattle.share_lines.specs.declared.kinds.Line.{Line}
+use Rattle.share_lines.specs.declared.kinds.Line.TheVariants as line
+use Rattle.share_request.specs.declared.asked.Bound.{Bound as At}
+use Rattle.share_reply.specs.Access.{access_tests, expiry, link_to}
+use Rattle.share_reply.specs.Answer.{Ending, Page, ends_with}
+use Rattle.share_reply.specs.Asking.{asked_at}
+use Rattle.share_reply.specs.Files.{is_paged, refused_for, unlike}
+use Rattle.share_reply.specs.Pages.{given, next_place}
+use Rattle.share_reply.specs.Refusing.{Refused, plain, where_all}
+use Rattle.share_reply.specs.declared.keys.ReplyKeys.{ReplyKeys}
+
+-- What is asked of a table's changes: from where, to where, at most how many of them, and with which token.
+pub record ChangesQuery : Type 0 where
+  pub from : Option At
+  pub to : Option At
+  pub max : Option ℕ
+  pub token : Option (List ℕ)
+
+-- ---- where a page begins
+
+pub record FeedStart : Type 0 where
+  pub asked_from : Asked
+  pub asked_to : Asked
+  pub from : ℕ
+  pub to : ℕ
+  pub place : ℕ
+
+abbrev pub first_start : ChangesQuery → FeedPart → FeedStart
+first_start q f = record { asked_from = asked_at q.from; asked_to = asked_at q.to; from = f.from; to = f.to; place = 0 }
+
+abbrev pub start_at : FeedCursor → FeedStart
+start_at c = record { asked_from = c.asked_from; asked_to = c.asked_to; from = c.from; to = c.to; place = c.place }
+
+abbrev pub is_same : Asked → Asked → Bool
+is_same asked.Latest asked.Latest = true
+is_same asked.Latest (asked.Version w) = false
+is_same asked.Latest (asked.Moment z) = false
+is_same (asked.Version v) asked.Latest = false
+is_same (asked.Version v) (asked.Version w) = v == w
+is_same (asked.Version v) (asked.Moment z) = false
+is_same (asked.Moment m) asked.Latest = false
+is_same (asked.Moment m) (asked.Version w) = false
+is_same (asked.Moment m) (asked.Moment z) = int_eq m z
+
+-- an end that isn't given takes the token's
+abbrev pub is_end : Option At → Asked → Bool
+is_end None a = true
+is_end (Some given) a = is_same (asked_at (Some given)) a
+
+abbrev pub agrees : ChangesQuery → FeedCursor → Bool
+agrees q c = is_end q.from c.asked_from && is_end q.to c.asked_to
+
+-- ---- the page
+
+-- the changes of the range, or the first version at which the feed isn't on
+abbrev pub or_off : {X : Type 0} → Result X ℕ → Result X Refused
+or_off (Ok x) = Ok x
+or_off (Err version) = Err (record { refusal = ChangesNotEnabled; detail = decimal version })
+
+abbrev pub changes_in : FeedPart → Result (List ChangedFile) Refused
+changes_in f = or_off (feed_in f.from f.marks f.commits)
+
+abbrev pub line_by : ChangeKind → FileLine → Line
+line_by kind.Add f = line.Add f
+line_by kind.Cdf f = line.Cdf f
+line_by kind.Remove f = line.Remove f
+
+-- "Add File", "CDF File", "Remove File", each with its link
+abbrev pub change_line : ReplyKeys → TableAccess → ℕ → ChangedFile → Line
+change_line keys a expires c = line_by c.kind (record { url = link_to keys a expires c.path; id = c.path; values = c.values; size = c.size; stats = c.stats; expires = Some expires; time = Some c.time; version = Some c.version })
+
+abbrev pub feed_cursor : TableAccess → FeedStart → ℕ → Cursor
+feed_cursor a s place = cursor.Feed (record { access = a; asked_from = s.asked_from; asked_to = s.asked_to; from = s.from; to = s.to; place = place })
+
+-- every change is listed
+abbrev pub lists_all : ChangedFile → Bool
+lists_all c = true
+
+abbrev pub feed_ending : ReplyKeys → TableAccess → ℕ → ChangesQuery → FeedStart → List ChangedFile → Ending
+feed_ending keys a now q s changes = record {
+  expires = ends_with (expiry keys now) (given lists_all q.max s.place changes);
+  next = option_map (feed_cursor a s) (next_place lists_all q.max s.place changes);
+}
+
+-- the metaData is that of the range's last version, and so is the version that is told
+abbrev pub feed_page : ReplyKeys → TableAccess → ℕ → ChangesQuery → FeedStart → MetaData → List ChangedFile → Page
+feed_page keys a now q s meta changes = record {
+  version = s.to;
+  meta = meta_of meta;
+  content = map (change_line keys a (expiry keys now)) (given lists_all q.max s.place changes);
+  end = if is_paged q.max q.token then Some (feed_ending keys a now q s changes) else None;
+}
+
+-- no log that is read lacks a metaData
+abbrev pub or_unsupported : {X : Type 0} → Option X → Result X Refused
+or_unsupported None = Err (plain UnsupportedTable)
+or_unsupported (Some x) = Ok x
+
+abbrev pub with_meta : ReplyKeys → TableAccess → ℕ → ChangesQuery → FeedStart → List ChangedFile → Result MetaData Refused → Result Page Refused
+with_meta keys a now q s changes meta = meta >>= λ m. Ok (feed_page keys a now q s m changes)
+
+abbrev pub with_changes : ReplyKeys → TableAccess → ℕ → ChangesQuery → FeedStart → Option MetaData → Result (List ChangedFile) Refused → Result Page Refused
+with_changes keys a now q s meta found =
+    found >>= λ changes. where_all ((nat_le s.place (length changes), TokenAhead) ∷ []) (with_meta keys a now q s changes (or_unsupported meta))
+
+abbrev pub page_of_feed : ReplyKeys → TableAccess → ℕ → ChangesQuery → FeedStart → FeedPart → Result Page Refused
+page_of_feed keys a now q s f = with_changes keys a now q s (last_meta f.meta) (changes_in f)
+
+-- ---- of what is found
+
+abbrev pub feed_from : ReplyKeys → TableAccess → ℕ → ChangesQuery → (FeedPart → FeedStart) → PartFound → Result Page Refused
+feed_from keys a now q start part_found.Nothing = unlike
+feed_from keys a now q start (part_found.Version version) = unlike
+feed_from keys a now q start (part_found.Files version state) = unlike
+feed_from keys a now q start (part_found.Feed feed) = page_of_feed keys a now q (start feed) feed
+feed_from keys a now q start (part_found.Refused why) = Err (refused_for why)
+
+-- a later page, of the range that the first one was of
+abbrev pub later_feed : ReplyKeys → TableAccess → ℕ → ChangesQuery → FeedCursor → PartFound → Result Page Refused
+later_feed keys a now q c found = where_all (access_tests a c.access ++ (agrees q c, TokenMismatch) ∷ []) (feed_from keys a now q (λ feed. start_at c) found)
+
+abbrev pub feed_by : ReplyKeys → TableAccess → ℕ → ChangesQuery → Option Cursor → PartFound → Result Page Refused
+feed_by keys a now q None found = Err (plain TokenInvalid)
+feed_by keys a now q (Some (cursor.List c)) found = Err (plain TokenInvalid)
+feed_by keys a now q (Some (cursor.Files c)) found = Err (plain TokenInvalid)
+feed_by keys a now q (Some (cursor.Feed c)) found = later_feed keys a now q c found
+
+abbrev pub feed_with : ReplyKeys → TableAccess → ℕ → ChangesQuery → Option (List ℕ) → PartFound → Result Page Refused
+feed_with keys a now q None found = feed_from keys a now q (first_start q) found
+feed_with keys a now q (Some token) found = feed_by keys a now q (cursor_of keys.token token) found
+
+-- the page of changes that is answered, or the refusal
+abbrev pub changes_page : ReplyKeys → TableAccess → ℕ → ChangesQuery → PartFound → Result Page Refused
+changes_page keys a now q found = feed_with keys a now q q.token found

@@ -1,0 +1,68 @@
+-- Laws of replies, over the definitions alone.
+use Rattle.std.specs.Prelude.{◌≡◌, ◌≢◌, ◌≤◌, ◌++◌, ℕ, List, Bool, false, Some, Ok, IsErr}
+use Rattle.case_table.specs.declared.refuse.Refusal.TheVariants.{NotFound}
+use Rattle.case_table.specs.declared.routing.Route.TheVariants as route
+use Rattle.page_token.specs.Cursors.{cursor_of}
+use Rattle.page_token.specs.declared.cursor.Cursor.TheVariants as cursor
+use Rattle.page_token.specs.declared.cursor.FeedCursor.{FeedCursor}
+use Rattle.page_token.specs.declared.cursor.FilesCursor.{FilesCursor}
+use Rattle.page_token.specs.declared.cursor.TableAccess.{TableAccess}
+use Rattle.share_book.specs.History.{edits}
+use Rattle.share_book.specs.declared.entry.Entry.{Entry}
+use Rattle.share_book.specs.declared.look.PartFound.{PartFound}
+use Rattle.share_book.specs.declared.look.Found.TheVariants as found
+use Rattle.share_catalog.specs.declared.table_name.TableName.{TableName}
+use Rattle.share_catalog.specs.Catalogue.{grant_edition, granted}
+use Rattle.share_request.specs.declared.asked.Request.{Request}
+use Rattle.share_request.specs.declared.asked.Request.TheVariants as request
+use Rattle.share_request.specs.declared.asked.What.{What}
+use Rattle.share_request.specs.declared.asked.What.TheVariants as what
+use Rattle.share_request.specs.declared.query.QueryBody.{QueryBody}
+use Rattle.signed_link.specs.Parts.{parts_of}
+use Rattle.signed_link.specs.declared.parts.LinkParts.{LinkParts}
+use Rattle.share_book.specs.NamesView.{NamesView}
+use Rattle.share_reply.specs.Access.{is_same_edition}
+use Rattle.share_reply.specs.Answer.{Page, object, page, refused}
+use Rattle.share_reply.specs.Feeds.{ChangesQuery, changes_page}
+use Rattle.share_reply.specs.Files.{query_page}
+use Rattle.share_reply.specs.Lists.{has_share}
+use Rattle.share_reply.specs.Refusing.{plain}
+use Rattle.share_reply.specs.Replies.{answer_what, answered_at, view_for}
+use Rattle.share_reply.specs.declared.keys.ReplyKeys.{ReplyKeys}
+
+-- Equal views answer alike, links and tokens included: they are part of the answer. So what isn't in a view (other recipients, shares that aren't granted, numbers of logs, who did what) is in no reply.
+abbrev pub EqualViewsAnswerAlike : Type 0
+EqualViewsAnswerAlike = (keys : ReplyKeys) (history other : List Entry) (now : ℕ) (req : Request) → view_for keys req history ≡ view_for keys req other → answered_at keys history now req ≡ answered_at keys other now req
+
+-- what asks for a table
+pub data AsksFor (name : TableName) : What → Type 0 where
+  version : (from : _) → AsksFor name (what.Version name from)
+  metadata : (at : _) → AsksFor name (what.Metadata name at)
+  query : (body : QueryBody) → AsksFor name (what.Query name body)
+  changes : (from to : _) (max : _) (text : _) → AsksFor name (what.Changes name from to max text)
+
+-- A table that isn't seen, for whatever reason, has one answer, whatever is asked of it.
+abbrev pub UnseenTablesAreAlike : Type 0
+UnseenTablesAreAlike = (keys : ReplyKeys) (r : List ℕ) (now : ℕ) (name : TableName) (w : What) → AsksFor name w → answer_what keys r now w found.NoTable ≡ refused (plain NotFound)
+
+-- So has a share that isn't granted.
+abbrev pub UngrantedSharesAreAlike : Type 0
+UngrantedSharesAreAlike = (keys : ReplyKeys) (r : List ℕ) (now : ℕ) (seen : NamesView) (share : List ℕ) → has_share seen share ≡ false → answer_what keys r now (what.GetShare share) (found.Names seen) ≡ refused (plain NotFound)
+
+-- A token that was given under another edition of the grant or of the binding than there is now never gives a line.
+pub record StaleTokensGiveNothing : Type 0 where
+  pub files : (keys : ReplyKeys) (a : TableAccess) (now : ℕ) (q : QueryBody) (part : PartFound) (text : List ℕ) (c : FilesCursor) → q.token ≡ Some text → cursor_of keys.token text ≡ Some (cursor.Files c) → is_same_edition c.access a ≡ false → IsErr (query_page keys a now q part)
+  pub changes : (keys : ReplyKeys) (a : TableAccess) (now : ℕ) (q : ChangesQuery) (part : PartFound) (text : List ℕ) (c : FeedCursor) → q.token ≡ Some text → cursor_of keys.token text ≡ Some (cursor.Feed c) → is_same_edition c.access a ≡ false → IsErr (changes_page keys a now q part)
+
+-- An edition of a grant is over: the pair isn't granted now, and was so often, or oftener.
+abbrev pub IsRevoked : List Entry → List ℕ → List ℕ → ℕ → Type 0
+IsRevoked history r s edition = (granted (edits history) r s ≡ false) × (edition ≤ grant_edition (edits history) r s)
+
+-- What was given under a grant that is over is good no more, at whatever later point, granted again or not: its tokens give no line, and its links no byte.
+pub record RevokedGrantsGiveNothing : Type 0 where
+  pub files : (keys : ReplyKeys) (before later : List Entry) (now : ℕ) (digest text : List ℕ) (name : TableName) (q : QueryBody) (c : FilesCursor) → q.token ≡ Some text → cursor_of keys.token text ≡ Some (cursor.Files c)
+      → IsRevoked before c.access.recipient c.access.share c.access.grant → (p : Page) → answered_at keys (before ++ later) now (request.ByToken (record { digest = digest; route = route.Query; asked = Ok (what.Query name q) })) ≢ page p
+  pub changes : (keys : ReplyKeys) (before later : List Entry) (now : ℕ) (digest text : List ℕ) (name : TableName) (q : ChangesQuery) (c : FeedCursor) → q.token ≡ Some text → cursor_of keys.token text ≡ Some (cursor.Feed c)
+      → IsRevoked before c.access.recipient c.access.share c.access.grant → (p : Page) → answered_at keys (before ++ later) now (request.ByToken (record { digest = digest; route = route.Changes; asked = Ok (what.Changes name q.from q.to q.max q.token) })) ≢ page p
+  pub links : (keys : ReplyKeys) (before later : List Entry) (now : ℕ) (target : List ℕ) (parts : LinkParts) → parts_of keys.link target ≡ Some parts
+      → IsRevoked before parts.recipient parts.table.share parts.grant → (name : List ℕ) → answered_at keys (before ++ later) now (request.ByLink target) ≢ object name

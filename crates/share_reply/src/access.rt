@@ -1,0 +1,141 @@
+// Who reads which table, under which editions.
+ghost use Rattle.std.specs.Prelude.{◌≡◌, IfOk, bytes_eq};
+ghost use Rattle.share_reply.specs.Access.{expiry};
+
+use crate::keys::ReplyKeys;
+use json_tree::{Edition, Millis, Text};
+use page_token::TableAccess;
+use share_book::Spot;
+use share_catalog::{CatalogName, TableName};
+use signed_link::{LinkParts, link};
+use std::alloc::{AllocError, Global};
+use std::marker::Model;
+
+/// Who reads which table, under which editions of its share's grant and of its binding. Contracts see it as tokens have it.
+#[derive(Drop)]
+pub(crate) struct Access {
+    recipient: CatalogName,
+    table: TableName,
+    grant: Edition,
+    binding: Edition,
+}
+
+impl Model for Access {
+    ghost use Rattle.page_token.specs.declared.cursor.TableAccess.{TableAccess};
+
+    ghost Value = { TableAccess };
+
+    ghost view = { λ a. record { recipient = a.recipient; share = a.table.share; schema = a.table.schema; table = a.table.table; grant = a.grant; binding = a.binding } };
+}
+
+fn text_of(alloc: Global, name: &CatalogName) -> Result<Text, AllocError>
+    ensures { IfOk result (λ t. t ≡ name.now) }
+{
+    Ok(Text::of(String::from_str(alloc, name.as_str())?))
+}
+
+fn is_text(text: &Text, name: &CatalogName) -> bool
+    ensures { result ≡ bytes_eq text.now name.now }
+{
+    text.as_str() == name.as_str()
+}
+
+impl Access {
+    ghost use Rattle.std.specs.Prelude.{◌≡◌, IfOk};
+    ghost use Rattle.share_reply.specs.Access.{access, is_same_edition, is_same_table, link_parts, link_to};
+
+    // A recipient's access to a table that stands there. A recipient has a name, so another text never comes.
+    pub(crate) fn of(
+        alloc: Global,
+        recipient: &Text,
+        table: &TableName,
+        spot: &Spot,
+    ) -> Result<Access, AllocError>
+        ensures { IfOk result (λ a. a ≡ access recipient.now table.now spot.now) }
+    {
+        let text = String::from_str(alloc, recipient.as_str())?;
+        match CatalogName::of(text) {
+            Some(recipient) => Ok(Access {
+                recipient,
+                table: table.copy(alloc)?,
+                grant: spot.grant(),
+                binding: spot.binding(),
+            }),
+            None => Err(AllocError),
+        }
+    }
+
+    // As a token has it.
+    pub(crate) fn for_token(&self, alloc: Global) -> Result<TableAccess, AllocError>
+        ensures { IfOk result (λ a. a ≡ self.now) }
+    {
+        Ok(TableAccess {
+            recipient: text_of(alloc, &self.recipient)?,
+            share: text_of(alloc, &self.table.share)?,
+            schema: text_of(alloc, &self.table.schema)?,
+            table: text_of(alloc, &self.table.table)?,
+            grant: self.grant,
+            binding: self.binding,
+        })
+    }
+
+    // Whether a token's is of this recipient and this table.
+    pub(crate) fn is_same_table(&self, given: &TableAccess) -> bool
+        ensures { result ≡ is_same_table given.now self.now }
+    {
+        is_text(&given.recipient, &self.recipient)
+            && is_text(&given.share, &self.table.share)
+            && is_text(&given.schema, &self.table.schema)
+            && is_text(&given.table, &self.table.table)
+    }
+
+    // Whether a token's is of these editions.
+    pub(crate) fn is_same_edition(&self, given: &TableAccess) -> bool
+        ensures { result ≡ is_same_edition given.now self.now }
+    {
+        given.grant.get() == self.grant.get() && given.binding.get() == self.binding.get()
+    }
+
+    fn link_parts(
+        &self,
+        alloc: Global,
+        expires: Millis,
+        path: &Text,
+    ) -> Result<LinkParts, AllocError>
+        ensures { IfOk result (λ p. p ≡ link_parts self.now expires path.now) }
+    {
+        Ok(LinkParts {
+            table: self.table.copy(alloc)?,
+            path: path.copy(alloc)?,
+            binding: self.binding,
+            expires,
+            grant: self.grant,
+            recipient: self.recipient.copy(alloc)?,
+        })
+    }
+
+    // The link to a file of the table, with its end.
+    pub(crate) fn link(
+        &self,
+        alloc: Global,
+        keys: &ReplyKeys,
+        expires: Millis,
+        path: &Text,
+    ) -> Result<Text, AllocError>
+        ensures { IfOk result (λ t. t ≡ link_to keys.now self.now expires path.now) }
+    {
+        let parts = self.link_parts(alloc, expires, path)?;
+        link(alloc, &keys.link, keys.endpoint.as_str(), &parts)
+    }
+}
+
+// When a link that is given now ends. No clock comes to 2^63 milliseconds.
+pub(crate) fn expiry(keys: &ReplyKeys, now: Millis) -> Result<Millis, AllocError>
+    ensures { IfOk result (λ e. e ≡ expiry keys.now now) }
+{
+    let ttl = keys.ttl.seconds();
+    match Millis::of(now.get() + 1000 * ttl) {
+        Some(end) => Ok(end),
+        None => Err(AllocError),
+    }
+}

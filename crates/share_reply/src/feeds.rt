@@ -1,0 +1,415 @@
+// Pages of a table's changes.
+ghost use Rattle.std.specs.Prelude.{◌≡◌, ◌+◌, ◌≤◌, ◌^◌, IfOk, length, map, option_map, vec_len};
+ghost use Rattle.log_replay.specs.Reconciliation.{as_meta, last_meta};
+ghost use Rattle.page_token.specs.Token.{token_text};
+ghost use Rattle.share_reply.specs.Answer.{ends_with};
+ghost use Rattle.share_reply.specs.Asking.{asked_at};
+ghost use Rattle.share_reply.specs.Feeds as spec;
+ghost use Rattle.share_reply.specs.Files as files;
+ghost use Rattle.share_reply.specs.Pages.{given};
+ghost use Rattle.share_reply.specs.Starts.{behind, end_of, feed_start, feed_start_by, off_at, page_of_changes, paged, query_in};
+ghost use Rattle.change_feed.specs.Shown.{feed_from};
+ghost use Rattle.std.specs.Arc.{arc_value};
+ghost use Rattle.share_reply.specs.Stops.{Gives, GivesItems, as_lines};
+
+use crate::access::{Access, expiry};
+use crate::files::{ends_with, is_paged, not_found};
+use crate::keys::ReplyKeys;
+use crate::lines::{Content, LinePlan};
+use crate::numbers::{place_of, version_of};
+use crate::page::Paged;
+use crate::refused::Refused;
+use crate::refusing::refuse;
+use crate::stop::Stop;
+use case_table::Refusal;
+use change_feed::{Change, FeedRefusal, changes};
+use json_tree::{Millis, Place, Text, Version};
+use log_actions::{Action, Commit, MetaData};
+use log_replay::Mark;
+use page_token::{Asked, Cursor, FeedCursor, cursor_of, spell};
+use share_book::{FeedPart, PartFound};
+use share_lines::EndLine;
+use share_request::Bound;
+use std::alloc::{AllocError, Global};
+use std::sync::Arc;
+
+// What is asked of a table's changes: from where, to where, at most how many of them, and with which token.
+#[derive(Clone, Copy)]
+pub(crate) struct ChangesAsked<'q> {
+    pub from: Option<Bound>,
+    pub to: Option<Bound>,
+    pub max: Option<u64>,
+    pub token: &'q Option<Text>,
+}
+
+// Where a page of changes begins.
+#[derive(Drop)]
+pub(crate) struct FeedBegin {
+    asked_from: Asked,
+    asked_to: Asked,
+    from: Version,
+    to: Version,
+    place: Place,
+}
+
+// ---- where a page begins
+
+fn asked_at(bound: &Option<Bound>) -> Asked
+    ensures { result ≡ asked_at bound.now }
+{
+    match bound {
+        None => Asked::Latest,
+        Some(Bound::Version(version)) => Asked::Version(*version),
+        Some(Bound::Moment(moment)) => Asked::Moment(*moment),
+    }
+}
+
+fn first_begin(asked: &ChangesAsked<'_>, feed: &FeedPart) -> Result<FeedBegin, AllocError>
+    ensures { IfOk result (λ s. feed_start s ≡ spec.first_start (query_in asked.now) feed.now) }
+{
+    Ok(FeedBegin {
+        asked_from: asked_at(&asked.from),
+        asked_to: asked_at(&asked.to),
+        from: version_of(feed.from)?,
+        to: version_of(feed.to)?,
+        place: place_of(0)?,
+    })
+}
+
+fn begin_by(
+    asked: &ChangesAsked<'_>,
+    later: Option<FeedCursor>,
+    feed: &FeedPart,
+) -> Result<FeedBegin, AllocError>
+    ensures { IfOk result (λ s. feed_start s ≡ feed_start_by (query_in asked.now) later feed.now) }
+{
+    match later {
+        None => first_begin(asked, feed),
+        Some(cursor) => Ok(FeedBegin {
+            asked_from: cursor.asked_from,
+            asked_to: cursor.asked_to,
+            from: cursor.from,
+            to: cursor.to,
+            place: cursor.place,
+        }),
+    }
+}
+
+// ---- what a request has beside its token
+
+fn is_same(asked: Asked, other: Asked) -> bool
+    ensures { result ≡ spec.is_same asked other }
+{
+    match asked {
+        Asked::Latest => matches!(other, Asked::Latest),
+        Asked::Version(version) => match other {
+            Asked::Version(other) => version.get() == other.get(),
+            Asked::Latest | Asked::Moment(_) => false,
+        },
+        Asked::Moment(moment) => match other {
+            Asked::Moment(other) => moment == other,
+            Asked::Latest | Asked::Version(_) => false,
+        },
+    }
+}
+
+// An end that isn't given takes the token's.
+fn is_end(bound: &Option<Bound>, asked: Asked) -> bool
+    ensures { result ≡ spec.is_end bound.now asked }
+{
+    match bound {
+        None => true,
+        Some(_) => is_same(asked_at(bound), asked),
+    }
+}
+
+// Whether it is what the token was made for.
+fn agrees(asked: &ChangesAsked<'_>, cursor: &FeedCursor) -> bool
+    ensures { result ≡ spec.agrees (query_in asked.now) cursor.now }
+{
+    is_end(&asked.from, cursor.asked_from) && is_end(&asked.to, cursor.asked_to)
+}
+
+// ---- the changes
+
+fn not_on(alloc: Global, version: u64) -> Result<Refused, AllocError>
+    ensures { IfOk result (λ r. r ≡ off_at version) }
+{
+    Refused::changes_off(alloc, version)
+}
+
+// The changes of the versions from one on that have these commits and marks.
+fn changes_from<'a>(
+    alloc: Global,
+    commits: &'a [Arc<Commit>],
+    marks: &[Mark],
+    from: u64,
+) -> Result<Vec<Change<'a>>, Stop>
+    requires lengths { length commits.now ≡ length marks.now }
+    requires versions { from + length commits.now ≤ 2 ^ 63 }
+    ensures { GivesItems result (spec.or_off (feed_from from marks.now (map arc_value commits.now))) }
+{
+    match changes(alloc, commits, marks, from) {
+        Ok(changes) => Ok(changes),
+        Err(FeedRefusal::NotEnabled { version }) => Err(Stop::Refused(not_on(alloc, version)?)),
+        Err(FeedRefusal::NoMemory) => Err(Stop::NoMemory),
+    }
+}
+
+// The changes that are found. Each commit has a mark, and there are fewer than 2^63 versions, so neither test ever fails.
+fn changes_in<'a>(alloc: Global, feed: &'a FeedPart) -> Result<Vec<Change<'a>>, Stop>
+    ensures { GivesItems result (spec.changes_in feed.now) }
+{
+    let commits = feed.commits.items();
+    let marks = feed.marks.items();
+    if commits.len() != marks.len() {
+        return Err(Stop::NoMemory);
+    }
+    let end = feed.from.checked_add(commits.len() as u64);
+    match end {
+        Some(end) if end <= 1 << 63 => changes_from(alloc, commits, marks, feed.from),
+        _ => Err(Stop::NoMemory),
+    }
+}
+
+fn meta_of(action: &Action) -> Option<&MetaData>
+    ensures { option_map (λ m. m.now) result ≡ as_meta action.now }
+{
+    match action {
+        Action::MetaData(meta) => Some(meta),
+        _ => None,
+    }
+}
+
+// The last metaData of a commit.
+fn meta_in(actions: &[Action]) -> Option<&MetaData>
+    ensures { option_map (λ m. m.now) result ≡ last_meta actions.now }
+{
+    let mut last = None;
+    for action in actions {
+        last = meta_of(action).or(last);
+    }
+    last
+}
+
+// ---- the page
+
+// The place behind a page of so many changes, where any are left there.
+fn place_behind(count: usize, most: Option<u64>, place: u64) -> Option<u64>
+    requires { place ≤ count }
+    ensures { result ≡ behind count most place }
+{
+    match most {
+        Some(most) if most < count as u64 - place => Some(place + most),
+        _ => None,
+    }
+}
+
+// The first changes from a place on.
+fn changes_cut<'a>(
+    mut changes: Vec<Change<'a>>,
+    most: Option<u64>,
+    place: u64,
+) -> Result<Vec<Change<'a>>, AllocError>
+    requires { place ≤ vec_len changes }
+    ensures { IfOk result (λ v. v.items ≡ given spec.lists_all most place changes.entry.items) }
+{
+    let mut page = changes.split_off(place as usize)?;
+    match most {
+        Some(most) => page.truncate(most as usize),
+        None => {}
+    }
+    Ok(page)
+}
+
+// The token of the next page, where there is one.
+fn next_token(
+    alloc: Global,
+    keys: &ReplyKeys,
+    access: &Access,
+    begin: &FeedBegin,
+    next: Option<u64>,
+) -> Result<Option<Text>, AllocError>
+    ensures { IfOk result (λ t. t ≡ option_map (token_text keys.now.token) (option_map (spec.feed_cursor access.now (feed_start begin.now)) next)) }
+{
+    let Some(place) = next else {
+        return Ok(None);
+    };
+    let cursor = Cursor::Feed(FeedCursor {
+        access: access.for_token(alloc)?,
+        asked_from: begin.asked_from,
+        asked_to: begin.asked_to,
+        from: begin.from,
+        to: begin.to,
+        place: place_of(place)?,
+    });
+    Ok(Some(spell(alloc, &keys.token, &cursor)?))
+}
+
+// The end of a page, where pages are asked for.
+fn page_end(
+    alloc: Global,
+    keys: &ReplyKeys,
+    access: &Access,
+    expires: Millis,
+    asked: &ChangesAsked<'_>,
+    begin: &FeedBegin,
+    page: &[Change<'_>],
+    next: Option<u64>,
+) -> Result<Option<EndLine>, AllocError>
+    ensures { IfOk result (λ e. e ≡ end_of keys.now (files.is_paged asked.now.max asked.now.token.now)
+        (record { expires = ends_with expires page.now; next = option_map (spec.feed_cursor access.now (feed_start begin.now)) next })) }
+{
+    if !is_paged(asked.max, asked.token) {
+        return Ok(None);
+    }
+    Ok(Some(EndLine {
+        min_expires: ends_with(expires, page.is_empty()),
+        token: next_token(alloc, keys, access, begin, next)?,
+    }))
+}
+
+fn feed_page<'a>(
+    alloc: Global,
+    keys: &'a ReplyKeys,
+    access: Access,
+    now: Millis,
+    asked: &ChangesAsked<'_>,
+    begin: &FeedBegin,
+    meta: &'a MetaData,
+    changes: Vec<Change<'a>>,
+) -> Result<Paged<'a>, AllocError>
+    requires { begin.now.place ≤ vec_len changes }
+    ensures { IfOk result (λ p. p ≡ paged keys.now (spec.feed_page keys.now access now (query_in asked.now) (feed_start begin.now) meta.now changes.entry.items)) }
+{
+    let expires = expiry(keys, now)?;
+    let place = begin.place.get();
+    let next = place_behind(changes.len(), asked.max, place);
+    let page = changes_cut(changes, asked.max, place)?;
+    let end = page_end(alloc, keys, &access, expires, asked, begin, &page, next)?;
+    Ok(Paged {
+        version: begin.to.get(),
+        lines: LinePlan::of(keys, access, expires, meta, Content::Changes(page), end),
+    })
+}
+
+// Of the changes, and of the commit whose metaData holds at the last version.
+fn page_of_changes<'a>(
+    alloc: Global,
+    keys: &'a ReplyKeys,
+    access: Access,
+    now: Millis,
+    asked: &ChangesAsked<'_>,
+    begin: &FeedBegin,
+    actions: &'a [Action],
+    changes: Vec<Change<'a>>,
+) -> Result<Paged<'a>, Stop>
+    ensures { Gives result (as_lines keys.now (page_of_changes keys.now access now (query_in asked.now) (feed_start begin.now) actions.now changes.entry.items)) }
+{
+    if (changes.len() as u64) < begin.place.get() {
+        return Err(refuse(alloc, Refusal::TokenAhead));
+    }
+    match meta_in(actions) {
+        Some(meta) => Ok(feed_page(alloc, keys, access, now, asked, begin, meta, changes)?),
+        None => Err(refuse(alloc, Refusal::UnsupportedTable)),
+    }
+}
+
+fn page_of_feed<'a>(
+    alloc: Global,
+    keys: &'a ReplyKeys,
+    access: Access,
+    now: Millis,
+    asked: &ChangesAsked<'_>,
+    begin: &FeedBegin,
+    feed: &'a FeedPart,
+) -> Result<Paged<'a>, Stop>
+    ensures { Gives result (as_lines keys.now (spec.page_of_feed keys.now access now (query_in asked.now) (feed_start begin.now) feed.now)) }
+{
+    let changes = changes_in(alloc, feed)?;
+    let actions = feed.meta.get().actions();
+    page_of_changes(alloc, keys, access, now, asked, begin, actions, changes)
+}
+
+// ---- of what is found
+
+fn feed_from<'a>(
+    alloc: Global,
+    keys: &'a ReplyKeys,
+    access: Access,
+    now: Millis,
+    asked: &ChangesAsked<'_>,
+    later: Option<FeedCursor>,
+    found: &'a PartFound,
+) -> Result<Paged<'a>, Stop>
+    ensures { Gives result (as_lines keys.now (spec.feed_from keys.now access now (query_in asked.now) (feed_start_by (query_in asked.now) later) found.now)) }
+{
+    match found {
+        PartFound::Feed(feed) => {
+            let begin = begin_by(asked, later, feed)?;
+            page_of_feed(alloc, keys, access, now, asked, &begin, feed)
+        }
+        PartFound::Refused(why) => Err(not_found(alloc, *why)),
+        PartFound::Nothing | PartFound::Version(_) | PartFound::Files(_, _) => {
+            Err(refuse(alloc, Refusal::NotFound))
+        }
+    }
+}
+
+fn later_feed<'a>(
+    alloc: Global,
+    keys: &'a ReplyKeys,
+    access: Access,
+    now: Millis,
+    asked: &ChangesAsked<'_>,
+    cursor: FeedCursor,
+    found: &'a PartFound,
+) -> Result<Paged<'a>, Stop>
+    ensures { Gives result (as_lines keys.now (spec.later_feed keys.now access now (query_in asked.now) cursor found.now)) }
+{
+    if !access.is_same_table(&cursor.access) {
+        return Err(refuse(alloc, Refusal::TokenInvalid));
+    }
+    if !access.is_same_edition(&cursor.access) {
+        return Err(refuse(alloc, Refusal::TokenStale));
+    }
+    if !agrees(asked, &cursor) {
+        return Err(refuse(alloc, Refusal::TokenMismatch));
+    }
+    feed_from(alloc, keys, access, now, asked, Some(cursor), found)
+}
+
+fn feed_by<'a>(
+    alloc: Global,
+    keys: &'a ReplyKeys,
+    access: Access,
+    now: Millis,
+    asked: &ChangesAsked<'_>,
+    cursor: Option<Cursor>,
+    found: &'a PartFound,
+) -> Result<Paged<'a>, Stop>
+    ensures { Gives result (as_lines keys.now (spec.feed_by keys.now access now (query_in asked.now) cursor found.now)) }
+{
+    match cursor {
+        Some(Cursor::Feed(cursor)) => later_feed(alloc, keys, access, now, asked, cursor, found),
+        _ => Err(refuse(alloc, Refusal::TokenInvalid)),
+    }
+}
+
+// The page of changes that is answered, or the refusal.
+pub(crate) fn changes_page<'a>(
+    alloc: Global,
+    keys: &'a ReplyKeys,
+    access: Access,
+    now: Millis,
+    asked: &ChangesAsked<'_>,
+    found: &'a PartFound,
+) -> Result<Paged<'a>, Stop>
+    ensures { Gives result (as_lines keys.now (spec.changes_page keys.now access now (query_in asked.now) found.now)) }
+{
+    let Some(token) = asked.token else {
+        return feed_from(alloc, keys, access, now, asked, None, found);
+    };
+    let cursor = cursor_of(alloc, &keys.token, token.as_str())?;
+    feed_by(alloc, keys, access, now, asked, cursor, found)
+}

@@ -1,0 +1,408 @@
+// Pages of a table's files.
+ghost use Rattle.std.specs.Prelude.{◌≡◌, [], Some, None, Ok, if◌then◌else◌, IfOk, map, option_map, length};
+ghost use Rattle.page_token.specs.Token.{token_text};
+ghost use Rattle.pred_tree.specs.Listing.{IsFilter};
+ghost use Rattle.share_reply.specs.Answer.{ends_with};
+ghost use Rattle.share_reply.specs.Asking.{asked_by};
+ghost use Rattle.share_reply.specs.Files as spec;
+ghost use Rattle.share_reply.specs.Refusing.{plain};
+ghost use Rattle.share_reply.specs.Starts.{end_of, files_start, files_start_by, paged};
+ghost use Rattle.share_reply.specs.Stops.{Gives, as_lines};
+ghost use Rattle.share_reply.specs.declared.stop.Stop.TheVariants as stop;
+
+use crate::access::{Access, expiry};
+use crate::cut::{FilesCut, files_cut};
+use crate::keys::ReplyKeys;
+use crate::lines::{Content, LinePlan};
+use crate::numbers::{place_of, version_of};
+use crate::page::Paged;
+use crate::refusing::refuse;
+use crate::stop::Stop;
+use case_table::Refusal;
+use json_tree::{Millis, Place, Text, Version};
+use log_actions::MetaData;
+use log_replay::Snapshot;
+use page_token::{Asked, Cursor, FilesCursor, cursor_of, spell};
+use pred_tree::{Filter, pred_of};
+use share_book::{PartFound, TableRefusal};
+use share_lines::EndLine;
+use share_request::QueryBody;
+use std::alloc::{AllocError, Global};
+
+// Where a page of files begins.
+#[derive(Drop)]
+pub(crate) struct FilesBegin {
+    asked: Asked,
+    version: Version,
+    hint: Option<Text>,
+    place: Place,
+}
+
+// ---- what isn't found
+
+fn refusal_for(why: TableRefusal) -> Refusal
+    ensures { plain result ≡ spec.refused_for why }
+{
+    match why {
+        TableRefusal::NoHistory => Refusal::HistoryNotShared,
+        TableRefusal::Unsupported => Refusal::UnsupportedTable,
+        TableRefusal::VersionRange => Refusal::VersionRange,
+        TableRefusal::TimestampRange => Refusal::TimestampRange,
+        TableRefusal::Ahead => Refusal::TokenAhead,
+    }
+}
+
+pub(crate) fn not_found(alloc: Global, why: TableRefusal) -> Stop
+    ensures { result ≡ stop.Refused (spec.refused_for why) }
+{
+    refuse(alloc, refusal_for(why))
+}
+
+// ---- where a page begins
+
+pub(crate) fn asked_by(version: Option<u64>, moment: Option<i128>) -> Result<Asked, AllocError>
+    ensures { IfOk result (λ a. a ≡ asked_by version moment) }
+{
+    match version {
+        Some(version) => Ok(Asked::Version(version_of(version)?)),
+        None => match moment {
+            Some(moment) => Ok(Asked::Moment(moment)),
+            None => Ok(Asked::Latest),
+        },
+    }
+}
+
+// The text, where it is a predicate.
+fn used_hint(alloc: Global, hint: &Option<Text>) -> Result<Option<Text>, AllocError>
+    ensures { IfOk result (λ used. used ≡ spec.used_hint hint.now) }
+{
+    let Some(text) = hint else {
+        return Ok(None);
+    };
+    match pred_of(alloc, text.as_str())? {
+        Some(_) => Ok(Some(text.copy(alloc)?)),
+        None => Ok(None),
+    }
+}
+
+fn first_begin(alloc: Global, query: &QueryBody, version: u64) -> Result<FilesBegin, AllocError>
+    ensures { IfOk result (λ s. files_start s ≡ spec.first_start query.now version) }
+{
+    Ok(FilesBegin {
+        asked: asked_by(query.version, query.moment)?,
+        version: version_of(version)?,
+        hint: used_hint(alloc, &query.hint)?,
+        place: place_of(0)?,
+    })
+}
+
+fn begin_by(
+    alloc: Global,
+    query: &QueryBody,
+    later: Option<FilesCursor>,
+    version: u64,
+) -> Result<FilesBegin, AllocError>
+    ensures { IfOk result (λ s. files_start s ≡ files_start_by query.now later version) }
+{
+    match later {
+        None => first_begin(alloc, query, version),
+        Some(cursor) => Ok(FilesBegin {
+            asked: cursor.asked,
+            version: cursor.version,
+            hint: cursor.hint,
+            place: cursor.place,
+        }),
+    }
+}
+
+// ---- what a request has beside its token
+
+fn is_version(version: Option<u64>, asked: Asked) -> bool
+    ensures { result ≡ spec.is_version version asked }
+{
+    match version {
+        None => true,
+        Some(version) => match asked {
+            Asked::Version(other) => version == other.get(),
+            Asked::Latest | Asked::Moment(_) => false,
+        },
+    }
+}
+
+fn is_moment(moment: Option<i128>, asked: Asked) -> bool
+    ensures { result ≡ spec.is_moment moment asked }
+{
+    match moment {
+        None => true,
+        Some(moment) => match asked {
+            Asked::Moment(other) => moment == other,
+            Asked::Latest | Asked::Version(_) => false,
+        },
+    }
+}
+
+fn is_text(text: &Option<Text>, other: &Option<Text>) -> bool
+    ensures { result ≡ spec.is_text text.now other.now }
+{
+    match text {
+        None => other.is_none(),
+        Some(text) => match other {
+            Some(other) => text.as_str() == other.as_str(),
+            None => false,
+        },
+    }
+}
+
+fn is_hint(alloc: Global, hint: &Option<Text>, used: &Option<Text>) -> Result<bool, AllocError>
+    ensures { IfOk result (λ b. b ≡ spec.is_hint hint.now used.now) }
+{
+    match hint {
+        None => Ok(true),
+        Some(_) => Ok(is_text(&used_hint(alloc, hint)?, used)),
+    }
+}
+
+// Whether it is what the token was made for.
+fn agrees(alloc: Global, query: &QueryBody, cursor: &FilesCursor) -> Result<bool, AllocError>
+    ensures { IfOk result (λ b. b ≡ spec.agrees query.now cursor.now) }
+{
+    let hint = is_hint(alloc, &query.hint, &cursor.hint)?;
+    Ok(is_version(query.version, cursor.asked) && is_moment(query.moment, cursor.asked) && hint)
+}
+
+// ---- the page
+
+// The filter of a hint: all files pass where there is none, and where it is no predicate.
+fn filter_by(alloc: Global, hint: &Option<Text>, meta: &MetaData) -> Result<Filter, AllocError>
+    ensures { IfOk result (IsFilter (spec.pred_by hint.now) meta.now) }
+{
+    let pred = match hint {
+        Some(text) => pred_of(alloc, text.as_str())?,
+        None => None,
+    };
+    Filter::of(alloc, &pred, meta)
+}
+
+pub(crate) fn is_paged(max: Option<u64>, token: &Option<Text>) -> bool
+    ensures { result ≡ spec.is_paged max token.now }
+{
+    max.is_some() || token.is_some()
+}
+
+// The token of the next page, where there is one.
+fn next_token(
+    alloc: Global,
+    keys: &ReplyKeys,
+    access: &Access,
+    begin: FilesBegin,
+    next: Option<u64>,
+) -> Result<Option<Text>, AllocError>
+    ensures { IfOk result (λ t. t ≡ option_map (token_text keys.now.token) (option_map (spec.files_cursor access.now (files_start begin)) next)) }
+{
+    let Some(place) = next else {
+        return Ok(None);
+    };
+    let cursor = Cursor::Files(FilesCursor {
+        access: access.for_token(alloc)?,
+        asked: begin.asked,
+        version: begin.version,
+        hint: begin.hint,
+        place: place_of(place)?,
+    });
+    Ok(Some(spell(alloc, &keys.token, &cursor)?))
+}
+
+// When the links of a page end, where it has any.
+pub(crate) fn ends_with(expires: Millis, is_empty: bool) -> Option<Millis>
+    ensures { result ≡ (if is_empty then None else Some expires) }
+{
+    if is_empty { None } else { Some(expires) }
+}
+
+// The end of a page, where pages are asked for.
+fn page_end(
+    alloc: Global,
+    keys: &ReplyKeys,
+    access: &Access,
+    expires: Millis,
+    query: &QueryBody,
+    begin: FilesBegin,
+    cut: &FilesCut<'_>,
+) -> Result<Option<EndLine>, AllocError>
+    ensures { IfOk result (λ e. e ≡ end_of keys.now (spec.is_paged query.now.max query.now.token)
+        (record { expires = ends_with expires (map (λ f. f.now) cut.now.files.items); next = option_map (spec.files_cursor access.now (files_start begin)) cut.now.next })) }
+{
+    if !is_paged(query.max, &query.token) {
+        return Ok(None);
+    }
+    Ok(Some(EndLine {
+        min_expires: ends_with(expires, cut.files.is_empty()),
+        token: next_token(alloc, keys, access, begin, cut.next)?,
+    }))
+}
+
+fn files_page<'a>(
+    alloc: Global,
+    keys: &'a ReplyKeys,
+    access: Access,
+    now: Millis,
+    query: &QueryBody,
+    begin: FilesBegin,
+    snapshot: &'a Snapshot,
+) -> Result<Paged<'a>, AllocError>
+    ensures { IfOk result (λ p. p ≡ paged keys.now (spec.files_page keys.now access now query.now (files_start begin) snapshot.now)) }
+{
+    let expires = expiry(keys, now)?;
+    let meta = snapshot.meta();
+    let listing = filter_by(alloc, &begin.hint, meta)?;
+    let version = begin.version.get();
+    let cut = files_cut(alloc, snapshot, &listing, query.max, begin.place.get())?;
+    let end = page_end(alloc, keys, &access, expires, query, begin, &cut)?;
+    Ok(Paged {
+        version,
+        lines: LinePlan::of(keys, access, expires, meta, Content::Files(cut.files), end),
+    })
+}
+
+fn page_of_state<'a>(
+    alloc: Global,
+    keys: &'a ReplyKeys,
+    access: Access,
+    now: Millis,
+    query: &QueryBody,
+    begin: FilesBegin,
+    snapshot: &'a Snapshot,
+) -> Result<Paged<'a>, Stop>
+    ensures { Gives result (as_lines keys.now (spec.page_of_state keys.now access now query.now (files_start begin) snapshot.now)) }
+{
+    if snapshot.len() < begin.place.get() {
+        return Err(refuse(alloc, Refusal::TokenAhead));
+    }
+    Ok(files_page(alloc, keys, access, now, query, begin, snapshot)?)
+}
+
+// ---- of what is found
+
+fn files_from<'a>(
+    alloc: Global,
+    keys: &'a ReplyKeys,
+    access: Access,
+    now: Millis,
+    query: &QueryBody,
+    later: Option<FilesCursor>,
+    found: &'a PartFound,
+) -> Result<Paged<'a>, Stop>
+    ensures { Gives result (as_lines keys.now (spec.files_from keys.now access now query.now (files_start_by query.now later) found.now)) }
+{
+    match found {
+        PartFound::Files(version, state) => {
+            let begin = begin_by(alloc, query, later, *version)?;
+            page_of_state(alloc, keys, access, now, query, begin, state.get())
+        }
+        PartFound::Refused(why) => Err(not_found(alloc, *why)),
+        PartFound::Nothing | PartFound::Version(_) | PartFound::Feed(_) => {
+            Err(refuse(alloc, Refusal::NotFound))
+        }
+    }
+}
+
+fn later_files<'a>(
+    alloc: Global,
+    keys: &'a ReplyKeys,
+    access: Access,
+    now: Millis,
+    query: &QueryBody,
+    cursor: FilesCursor,
+    found: &'a PartFound,
+) -> Result<Paged<'a>, Stop>
+    ensures { Gives result (as_lines keys.now (spec.later_files keys.now access now query.now cursor found.now)) }
+{
+    if !access.is_same_table(&cursor.access) {
+        return Err(refuse(alloc, Refusal::TokenInvalid));
+    }
+    if !access.is_same_edition(&cursor.access) {
+        return Err(refuse(alloc, Refusal::TokenStale));
+    }
+    if !agrees(alloc, query, &cursor)? {
+        return Err(refuse(alloc, Refusal::TokenMismatch));
+    }
+    files_from(alloc, keys, access, now, query, Some(cursor), found)
+}
+
+fn files_by<'a>(
+    alloc: Global,
+    keys: &'a ReplyKeys,
+    access: Access,
+    now: Millis,
+    query: &QueryBody,
+    cursor: Option<Cursor>,
+    found: &'a PartFound,
+) -> Result<Paged<'a>, Stop>
+    ensures { Gives result (as_lines keys.now (spec.files_by keys.now access now query.now cursor found.now)) }
+{
+    match cursor {
+        Some(Cursor::Files(cursor)) => {
+            later_files(alloc, keys, access, now, query, cursor, found)
+        }
+        _ => Err(refuse(alloc, Refusal::TokenInvalid)),
+    }
+}
+
+// The page of files that a query is answered, or the refusal.
+pub(crate) fn query_page<'a>(
+    alloc: Global,
+    keys: &'a ReplyKeys,
+    access: Access,
+    now: Millis,
+    query: &QueryBody,
+    found: &'a PartFound,
+) -> Result<Paged<'a>, Stop>
+    ensures { Gives result (as_lines keys.now (spec.query_page keys.now access now query.now found.now)) }
+{
+    let Some(token) = &query.token else {
+        return files_from(alloc, keys, access, now, query, None, found);
+    };
+    let cursor = cursor_of(alloc, &keys.token, token.as_str())?;
+    files_by(alloc, keys, access, now, query, cursor, found)
+}
+
+// The metaData of the version that is found, without files.
+pub(crate) fn metadata_page<'a>(
+    alloc: Global,
+    keys: &'a ReplyKeys,
+    access: Access,
+    found: &'a PartFound,
+) -> Result<Paged<'a>, Stop>
+    ensures { Gives result (as_lines keys.now (spec.metadata_page found.now)) }
+{
+    match found {
+        PartFound::Files(version, state) => Ok(Paged {
+            version: *version,
+            lines: LinePlan::of(
+                keys,
+                access,
+                Millis::of_small(0),
+                state.get().meta(),
+                Content::Nothing,
+                None,
+            ),
+        }),
+        PartFound::Refused(why) => Err(not_found(alloc, *why)),
+        PartFound::Nothing | PartFound::Version(_) | PartFound::Feed(_) => {
+            Err(refuse(alloc, Refusal::NotFound))
+        }
+    }
+}
+
+// The version that is found.
+pub(crate) fn version_in(alloc: Global, found: &PartFound) -> Result<u64, Stop>
+    ensures { Gives result (spec.version_in found.now) }
+{
+    match found {
+        PartFound::Version(version) => Ok(*version),
+        PartFound::Refused(why) => Err(not_found(alloc, *why)),
+        PartFound::Nothing | PartFound::Files(_, _) | PartFound::Feed(_) => {
+            Err(refuse(alloc, Refusal::NotFound))
+        }
+    }
+}

@@ -1,0 +1,34 @@
+// Laws of replies. None of these functions does anything when it is called.
+ghost use Rattle.share_reply.specs.Chains.{ChainsAreWhole, FeedChainsAreWhole};
+ghost use Rattle.share_reply.specs.Laws.{EqualViewsAnswerAlike, RevokedGrantsGiveNothing, StaleTokensGiveNothing, UngrantedSharesAreAlike, UnseenTablesAreAlike};
+
+/// A law: the pages of a chain, joined, are the files of the version that the first one was of that the predicate doesn't make false,
+/// each once and in order, each with the link and the expiry of its own page's moment, whatever is committed, granted or bound
+/// between its pages.
+pub fn chains_are_whole()
+    ensures files { ChainsAreWhole }
+    // So are those of a chain of changes: all changes of the range that the first one was of.
+    ensures changes { FeedChainsAreWhole }
+{}
+
+/// A law: where two histories show a recipient the same, the same request at the same moment has the same answer in both, with the
+/// same links and tokens.
+pub fn equal_views_answer_alike()
+    ensures { EqualViewsAnswerAlike }
+{}
+
+/// Laws of what isn't shared.
+pub fn hidden_is_like_absent()
+    // A table that isn't seen has one answer, whatever is asked of it and for whatever reason it isn't.
+    ensures tables { UnseenTablesAreAlike }
+    // So has a share that isn't granted.
+    ensures shares { UngrantedSharesAreAlike }
+    // A token of another edition of the grant or of the binding never gives a line.
+    ensures stale { StaleTokensGiveNothing }
+{}
+
+/// A law: a token or a link that was given under a grant which was revoked gives no line and no byte at any later point, whether the
+/// share is granted again or not.
+pub fn revoked_grants_give_nothing()
+    ensures { RevokedGrantsGiveNothing }
+{}

@@ -1,0 +1,300 @@
+// The lines of a reply.
+ghost use Rattle.std.specs.Prelude.{◌≡◌, ◌<◌, ◌+◌, ◌++◌, ◌∷◌, [], IfOk, None, OnErr, OnOk, length, option_map, option_to_list, slice_get, ℕ};
+ghost use Rattle.page_token.specs.declared.cursor.TableAccess.{TableAccess};
+ghost use Rattle.share_lines.specs.Lines.{meta_of};
+ghost use Rattle.share_lines.specs.Parts.{file_in, line_of};
+ghost use Rattle.share_lines.specs.declared.kinds.FileLine.{FileLine};
+ghost use Rattle.share_lines.specs.declared.kinds.Line.TheVariants as line;
+ghost use Rattle.share_reply.specs.Feeds.{change_line, line_by};
+ghost use Rattle.share_reply.specs.Files.{file_line};
+ghost use Rattle.share_reply.specs.Planned.{content_lines, count_of, fed, line_from, lines_of};
+ghost use Rattle.share_reply.specs.declared.keys.ReplyKeys.{ReplyKeys};
+
+use crate::access::Access;
+use crate::keys::ReplyKeys;
+use change_feed::{Change, ChangeKind};
+use json_tree::{Millis, Pairs, Text, copy_text_or_none};
+use log_actions::{AddFile, MetaData};
+use share_lines::{
+    EndLine, FileKind, FileParts, Line, push_file_parts, push_line, push_meta, push_protocol,
+};
+use std::alloc::{AllocError, Global};
+use std::marker::Model;
+
+// What a page has between its metaData and its end.
+#[derive(Drop)]
+pub(crate) enum Content<'a> {
+    Nothing,
+    Files(Vec<&'a AddFile>),
+    Changes(Vec<Change<'a>>),
+}
+
+// What a line is printed of.
+#[derive(Drop)]
+pub(crate) enum PlanLine<'b, 'a> {
+    Protocol,
+    Meta(&'b MetaData),
+    File(&'b AddFile),
+    Change(&'b Change<'a>),
+    End(&'b EndLine),
+}
+
+/// The lines of a reply, each made when it is asked for. Contracts see the lines.
+#[derive(Drop)]
+pub struct LinePlan<'a> {
+    keys: &'a ReplyKeys,
+    access: Access,
+    expires: Millis,
+    meta: &'a MetaData,
+    content: Content<'a>,
+    end: Option<EndLine>,
+}
+
+impl<'a> Model for LinePlan<'a> {
+    ghost use Rattle.std.specs.Prelude.{List};
+    ghost use Rattle.share_lines.specs.declared.kinds.Line.{Line};
+    ghost use Rattle.share_reply.specs.Planned.{lines_of};
+
+    ghost Value = { List Line };
+
+    ghost view = { λ p. lines_of p.keys.now p.access p.expires p.meta.now p.content p.end };
+}
+
+// ---- one line
+
+// What the line of a file is printed of, with its link.
+fn push_file(
+    alloc: Global,
+    out: &mut Vec<u8>,
+    keys: &ReplyKeys,
+    access: &Access,
+    expires: Millis,
+    file: &AddFile,
+) -> Result<(), AllocError>
+    ensures line { OnOk result (out.new.items ≡ out.old.items ++ fed (file_line keys.now access.now expires file.now)) }
+    ensures kept { OnErr result (out.new.items ≡ out.old.items) }
+{
+    let url = access.link(alloc, keys, expires, &file.path)?;
+    let parts = FileParts {
+        url: &url,
+        id: &file.path,
+        values: &file.values,
+        size: file.size,
+        stats: &file.stats,
+        expires: Some(expires),
+        time: None,
+        version: None,
+    };
+    push_file_parts(alloc, out, FileKind::File, &parts)
+}
+
+fn kind_of(kind: ChangeKind) -> FileKind
+    ensures { (f : FileLine) → line_of result f ≡ line_by kind f }
+{
+    match kind {
+        ChangeKind::Add => FileKind::Add,
+        ChangeKind::Cdf => FileKind::Cdf,
+        ChangeKind::Remove => FileKind::Remove,
+    }
+}
+
+fn push_change(
+    alloc: Global,
+    out: &mut Vec<u8>,
+    keys: &ReplyKeys,
+    access: &Access,
+    expires: Millis,
+    change: &Change<'_>,
+) -> Result<(), AllocError>
+    ensures line { OnOk result (out.new.items ≡ out.old.items ++ fed (change_line keys.now access.now expires change.now)) }
+    ensures kept { OnErr result (out.new.items ≡ out.old.items) }
+{
+    let url = access.link(alloc, keys, expires, change.path())?;
+    let no_values = Pairs::new(alloc);
+    let no_stats = None;
+    let parts = FileParts {
+        url: &url,
+        id: change.path(),
+        values: change.values(&no_values),
+        size: change.size(),
+        stats: change.stats(&no_stats),
+        expires: Some(expires),
+        time: Some(change.time()),
+        version: Some(change.version()),
+    };
+    push_file_parts(alloc, out, kind_of(change.kind()), &parts)
+}
+
+fn push_end(alloc: Global, out: &mut Vec<u8>, end: &EndLine) -> Result<(), AllocError>
+    ensures line { OnOk result (out.new.items ≡ out.old.items ++ fed (line.End end.now)) }
+    ensures kept { OnErr result (out.new.items ≡ out.old.items) }
+{
+    let line = Line::End(EndLine {
+        min_expires: end.min_expires,
+        token: copy_text_or_none(alloc, &end.token)?,
+    });
+    let mut text = String::new(alloc);
+    push_line(alloc, &mut text, &line)?;
+    out.extend_from_slice(text.as_bytes())
+}
+
+fn push(
+    alloc: Global,
+    out: &mut Vec<u8>,
+    keys: &ReplyKeys,
+    access: &Access,
+    expires: Millis,
+    line: PlanLine<'_, '_>,
+) -> Result<(), AllocError>
+    ensures line { OnOk result (out.new.items ≡ out.old.items ++ fed (line_from keys.now access.now expires line.entry)) }
+    ensures kept { OnErr result (out.new.items ≡ out.old.items) }
+{
+    match line {
+        PlanLine::Protocol => push_protocol(out),
+        PlanLine::Meta(meta) => push_meta(alloc, out, meta),
+        PlanLine::File(file) => push_file(alloc, out, keys, access, expires, file),
+        PlanLine::Change(change) => push_change(alloc, out, keys, access, expires, change),
+        PlanLine::End(end) => push_end(alloc, out, end),
+    }
+}
+
+// ---- where it stands
+
+fn count_of(content: &Content<'_>) -> usize
+    ensures { result ≡ count_of content.now }
+{
+    match content {
+        Content::Nothing => 0,
+        Content::Files(files) => files.len(),
+        Content::Changes(changes) => changes.len(),
+    }
+}
+
+fn content_at<'b, 'a>(content: &'b Content<'a>, place: usize) -> Option<PlanLine<'b, 'a>>
+    ensures { (keys : ReplyKeys) (a : TableAccess) (expires : ℕ) → option_map (line_from keys a expires) result ≡ slice_get (content_lines keys a expires content.now) place }
+{
+    match content {
+        Content::Nothing => None,
+        Content::Files(files) => match files.get(place) {
+            Some(file) => Some(PlanLine::File(file)),
+            None => None,
+        },
+        Content::Changes(changes) => match changes.get(place) {
+            Some(change) => Some(PlanLine::Change(change)),
+            None => None,
+        },
+    }
+}
+
+fn end_at<'b, 'a>(end: &'b Option<EndLine>) -> Option<PlanLine<'b, 'a>>
+    ensures { (keys : ReplyKeys) (a : TableAccess) (expires : ℕ) → option_map (line_from keys a expires) result ≡ slice_get (option_to_list (option_map (λ e. line.End e) end.now)) 0 }
+{
+    match end {
+        Some(end) => Some(PlanLine::End(end)),
+        None => None,
+    }
+}
+
+fn rest_at<'b, 'a>(
+    content: &'b Content<'a>,
+    end: &'b Option<EndLine>,
+    place: usize,
+) -> Option<PlanLine<'b, 'a>>
+    ensures { (keys : ReplyKeys) (a : TableAccess) (expires : ℕ) → option_map (line_from keys a expires) result ≡ slice_get (content_lines keys a expires content.now ++ option_to_list (option_map (λ e. line.End e) end.now)) place }
+{
+    let count = count_of(content);
+    if place < count {
+        return content_at(content, place);
+    }
+    if place == count {
+        return end_at(end);
+    }
+    None
+}
+
+// The line of that number, none behind the last.
+fn line_at<'b, 'a>(
+    meta: &'b MetaData,
+    content: &'b Content<'a>,
+    end: &'b Option<EndLine>,
+    n: u64,
+) -> Option<PlanLine<'b, 'a>>
+    ensures { (keys : ReplyKeys) (a : TableAccess) (expires : ℕ) → option_map (line_from keys a expires) result ≡ slice_get (lines_of keys a expires meta.now content.now end.now) n }
+{
+    if n == 0 {
+        return Some(PlanLine::Protocol);
+    }
+    if n == 1 {
+        return Some(PlanLine::Meta(meta));
+    }
+    rest_at(content, end, (n - 2) as usize)
+}
+
+impl<'a> LinePlan<'a> {
+    ghost use Rattle.std.specs.Prelude.{◌≡◌, ◌++◌, IfOk, OnErr, OnOk, length};
+    ghost use Rattle.share_lines.specs.Printing.{body_text};
+    ghost use Rattle.share_reply.specs.Planned.{lines_of, text_at};
+
+    // The lines of these parts.
+    pub(crate) fn of(
+        keys: &'a ReplyKeys,
+        access: Access,
+        expires: Millis,
+        meta: &'a MetaData,
+        content: Content<'a>,
+        end: Option<EndLine>,
+    ) -> LinePlan<'a>
+        ensures { result ≡ lines_of keys.now access expires meta.now content.entry end }
+    {
+        LinePlan {
+            keys,
+            access,
+            expires,
+            meta,
+            content,
+            end,
+        }
+    }
+
+    /// How many lines there are.
+    pub fn count(&self) -> u64
+        ensures { result ≡ length self.now }
+    {
+        let content = count_of(&self.content) as u64;
+        if self.end.is_some() {
+            content + 3
+        } else {
+            content + 2
+        }
+    }
+
+    /// Appends the text of the line of that number, counted from 0, and a line feed; nothing behind the last line. On `Err`, which
+    /// is want of memory, nothing is appended.
+    pub fn push_line(&self, alloc: Global, n: u64, out: &mut Vec<u8>) -> Result<(), AllocError>
+        ensures line { OnOk result (out.new.items ≡ out.old.items ++ text_at self.now n) }
+        ensures kept { OnErr result (out.new.items ≡ out.old.items) }
+    {
+        match line_at(self.meta, &self.content, &self.end, n) {
+            Some(line) => push(alloc, out, self.keys, &self.access, self.expires, line),
+            None => Ok(()),
+        }
+    }
+
+    /// The bytes of all lines, each with its line feed. Each is made once for it. The error is want of memory, or that there are
+    /// 2^64 bytes or more, which no memory holds.
+    pub fn len(&self, alloc: Global) -> Result<u64, AllocError>
+        ensures { IfOk result (λ bytes. bytes ≡ length (body_text self.now)) }
+    {
+        let mut bytes = 0u64;
+        let mut line = Vec::new(alloc);
+        for n in 0..self.count() {
+            line.clear();
+            self.push_line(alloc, n, &mut line)?;
+            match bytes.checked_add(line.len() as u64) {
+                Some(more) => bytes = more,
+                None => return Err(AllocError),
+            }
+        }
+        Ok(bytes)
+    }
+}

@@ -1,0 +1,9 @@
+// A page of a table's lines.
+use crate::lines::LinePlan;
+
+// The version that is answered, and its lines.
+#[derive(Drop)]
+pub(crate) struct Paged<'a> {
+    pub version: u64,
+    pub lines: LinePlan<'a>,
+}
