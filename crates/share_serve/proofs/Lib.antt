@@ -1,0 +1,15 @@
+pub mod Basics
+pub mod Causes
+pub mod Copying
+pub mod Delivering
+pub mod Ended
+pub mod Holds
+pub mod Lines
+pub mod Loop
+pub mod Requests
+pub mod Runs
+pub mod Same
+pub mod Sent
+pub mod Statuses
+pub mod Told
+pub mod Worlds

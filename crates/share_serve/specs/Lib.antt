@@ -1,0 +1,10 @@
+pub mod CallerViews
+pub mod Callers
+pub mod Laws
+pub mod Providers
+pub mod Responses
+pub mod Sends
+pub mod Sessions
+pub mod Sides
+pub mod Turned
+pub mod Turns

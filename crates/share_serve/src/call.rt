@@ -1,0 +1,116 @@
+// Calls of the hub, made for providers and the administrator.
+ghost use Rattle.std.specs.Prelude.{◌≡◌, ◌≤◌, false, ℕ, IfOk};
+ghost use Rattle.share_request.specs.Faults.{fault_detail, fault_refusal};
+ghost use Rattle.share_request.specs.declared.asked.Request.{Request};
+ghost use Rattle.share_serve.specs.CallerViews.{by_call};
+ghost use Rattle.share_serve.specs.Callers as by;
+ghost use Rattle.share_serve.specs.Responses.{refusal_response as refusal_is};
+ghost use Rattle.share_serve.specs.Sides.{held};
+ghost use Rattle.share_serve.specs.Turned.{IsAnswered};
+ghost use Rattle.share_serve.specs.Turns.{Grew};
+ghost use Rattle.share_serve.specs.declared.server.Server.{Server};
+
+use crate::caller::Call;
+use crate::provider::{commit_response, edit_response, refresh_response};
+use crate::response::{Response, refusal_response};
+use case_table::Refusal;
+use commit_check::Offer;
+use edge_core::Store;
+use log_actions::CommitTime;
+use share_catalog::{Edit, Location};
+use share_hub::{Hub, HubPass};
+use share_request::RequestFault;
+use std::alloc::{AllocError, Global};
+use std::sync::Wait;
+
+// A moment that a clock told.
+fn commit_time(moment: u64) -> CommitTime
+    requires { moment ≤ 253_402_300_799_999 }
+    ensures { result ≡ moment }
+{
+    match CommitTime::of(moment) {
+        Some(time) => time,
+        None => unreachable!(),
+    }
+}
+
+fn commit<R: Wait, W: Store>(
+    rt: &R,
+    alloc: Global,
+    hub: &Hub,
+    pass: &mut HubPass,
+    store: &mut W,
+    moment: u64,
+    offer: &Offer,
+) -> Result<Response, AllocError>
+    requires cell { (pass.old.cell ≡ hub.now) × (pass.old.holds ≡ false) }
+    requires dated { moment ≤ 253_402_300_799_999 }
+    ensures grew { Grew (held W.objects W.alone W.faults pass.old store.old) (held W.objects W.alone W.faults pass.new store.new) }
+    ensures answered { (server : Server) (asked : Request) → IsAnswered result server asked (by.commit offer.now) moment (held W.objects W.alone W.faults pass.old store.old) (held W.objects W.alone W.faults pass.new store.new) }
+{
+    let answer = hub.commit(rt, alloc, pass, store, commit_time(moment), offer);
+    commit_response(alloc, answer)
+}
+
+fn refresh<R: Wait, W: Store>(
+    rt: &R,
+    alloc: Global,
+    hub: &Hub,
+    pass: &mut HubPass,
+    store: &mut W,
+    location: &Location,
+) -> Result<Response, AllocError>
+    requires cell { (pass.old.cell ≡ hub.now) × (pass.old.holds ≡ false) }
+    ensures grew { Grew (held W.objects W.alone W.faults pass.old store.old) (held W.objects W.alone W.faults pass.new store.new) }
+    ensures answered { (server : Server) (asked : Request) (moment : ℕ) → IsAnswered result server asked (by.refresh location.now) moment (held W.objects W.alone W.faults pass.old store.old) (held W.objects W.alone W.faults pass.new store.new) }
+{
+    let answer = hub.refresh(rt, alloc, pass, store, location.name());
+    refresh_response(alloc, answer)
+}
+
+fn edit<R: Wait, W: Store>(
+    rt: &R,
+    alloc: Global,
+    hub: &Hub,
+    pass: &mut HubPass,
+    store: &mut W,
+    edit: &Edit,
+) -> Result<Response, AllocError>
+    requires cell { (pass.old.cell ≡ hub.now) × (pass.old.holds ≡ false) }
+    ensures grew { Grew (held W.objects W.alone W.faults pass.old store.old) (held W.objects W.alone W.faults pass.new store.new) }
+    ensures answered { (server : Server) (asked : Request) (moment : ℕ) → IsAnswered result server asked (by.edit edit.now) moment (held W.objects W.alone W.faults pass.old store.old) (held W.objects W.alone W.faults pass.new store.new) }
+{
+    let answer = hub.edit(rt, alloc, pass, store, edit);
+    edit_response(alloc, answer)
+}
+
+fn fault_response(alloc: Global, fault: RequestFault) -> Result<Response, AllocError>
+    ensures { IfOk result (λ r. r ≡ refusal_is (record { refusal = fault_refusal fault; detail = fault_detail fault })) }
+{
+    refusal_response(alloc, fault.refusal(), fault.detail())
+}
+
+/// The response to a request of a provider or of the administrator: by a call of the hub, or a refusal before any. The error is
+/// want of memory, with what a call did before it.
+pub(crate) fn answer<R: Wait, W: Store>(
+    rt: &R,
+    alloc: Global,
+    hub: &Hub,
+    pass: &mut HubPass,
+    store: &mut W,
+    moment: u64,
+    call: Call<'_>,
+) -> Result<Response, AllocError>
+    requires cell { (pass.old.cell ≡ hub.now) × (pass.old.holds ≡ false) }
+    requires dated { moment ≤ 253_402_300_799_999 }
+    ensures grew { Grew (held W.objects W.alone W.faults pass.old store.old) (held W.objects W.alone W.faults pass.new store.new) }
+    ensures answered { (server : Server) (asked : Request) → IsAnswered result server asked (by_call call.entry) moment (held W.objects W.alone W.faults pass.old store.old) (held W.objects W.alone W.faults pass.new store.new) }
+{
+    match call {
+        Call::Commit(offer) => commit(rt, alloc, hub, pass, store, moment, offer),
+        Call::Refresh(location) => refresh(rt, alloc, hub, pass, store, location),
+        Call::Edit(change) => edit(rt, alloc, hub, pass, store, change),
+        Call::Unauthenticated => refusal_response(alloc, Refusal::Unauthenticated, ""),
+        Call::Fault(fault) => fault_response(alloc, fault),
+    }
+}

@@ -1,0 +1,20 @@
+//! Sessions (RFC 9112): the requests of one connection, each answered at a point of the history that the server's shared state has
+//! seen, from the bytes read to the bytes written.
+#![tactic(auto)]
+
+mod call;
+mod caller;
+mod file;
+mod law;
+mod plan;
+mod provider;
+mod response;
+mod send;
+mod serve;
+mod server;
+
+pub use law::{
+    ends_the_same, equal_views_write_the_same, reads_its_requests, writes_its_responses,
+};
+pub use serve::{SessionEnd, serve_conn};
+pub use server::Server;

@@ -1,0 +1,369 @@
+// The loop of a session.
+ghost use Rattle.std.specs.Prelude.{◌≡◌, ◌≤◌, ◌<◌, ◌+◌, ℕ, [], None, MatchOption, IfOk, true, false};
+ghost use Rattle.share_hub.specs.Calls.{Adds, IsIdle};
+ghost use Rattle.share_reply.specs.Replies.{seen_for, view_for};
+ghost use Rattle.share_serve.specs.CallerViews.{by_call};
+ghost use Rattle.share_serve.specs.Callers as by;
+ghost use Rattle.share_serve.specs.Sends.{DeliveryCause};
+ghost use Rattle.share_serve.specs.Sessions.{HasCause, IsSession};
+ghost use Rattle.share_serve.specs.Sides.{held, side, state_at};
+ghost use Rattle.share_serve.specs.Turned.{IsGiven, IsTurned, RefusalEnds, Steps as Stepped, TurnCause, message, turned_of};
+ghost use Rattle.share_serve.specs.Turns.{Grew, Hold, closes_after, is_head};
+ghost use Rattle.share_request.specs.declared.asked.Request.{Request as Asked};
+ghost use Rattle.share_serve.specs.declared.server.Server.{Server as ServerView};
+
+use crate::call::answer;
+use crate::caller::{By, Call, by_request};
+use crate::plan::{reply, send_whole};
+use crate::response::{Delivery, refusal_response};
+use crate::send::{Delivered, Sent, send_response};
+use crate::server::Server;
+use edge_core::{Clock, Gate, Sink, Source, Store};
+use http_message::head::Head;
+use http_message::refusal::Flaw;
+use http_wire::{Message, Wire};
+use share_book::Seen;
+use share_hub::{Hub, HubPass};
+use share_reply::{ReplyKeys, ask_of};
+use share_request::{Request, request_of};
+use std::alloc::{AllocError, Global};
+use std::sync::Wait;
+use step_count::Steps;
+
+// The most requests of a connection.
+const MOST: u64 = 10_000;
+
+/// How a session ends. `served` is the number of requests whose responses were written whole.
+#[derive(Clone, Copy, Debug, PartialEq, Eq)]
+pub enum SessionEnd {
+    /// The bytes ended between messages; or the connection is closed behind a request, by its sender's wish or as the 10,000th.
+    Done { served: u64 },
+    /// The bytes ended inside the message that begins at that place.
+    Truncated { at: u64, served: u64 },
+    /// The message that begins at that place was refused for that.
+    BadMessage { at: u64, flaw: Flaw, served: u64 },
+    /// A read failed: the source's count of faults rose.
+    ReadFault { served: u64 },
+    /// A write or a flush failed: the sink's count of faults rose.
+    WriteFault { served: u64 },
+    /// When so many bytes of an object were written behind a response's head, the store failed or had no more of them.
+    BodyCut { served: u64, sent: u64 },
+    /// Memory was wanting.
+    NoMemory { served: u64 },
+}
+
+// What came of a request.
+#[derive(Clone, Copy, Debug, PartialEq, Eq)]
+pub(crate) enum Turned {
+    // The response was written, and the session goes on.
+    On,
+    // The response was written, and the connection is closed.
+    Last,
+    WriteFault,
+    NoMemory,
+    // So many bytes of the body were written, and not all.
+    BodyCut(u64),
+}
+
+fn turned_by(delivered: Delivered, closes: bool) -> Turned
+    ensures { result ≡ turned_of delivered closes }
+{
+    match delivered {
+        Delivered::Whole if closes => Turned::Last,
+        Delivered::Whole => Turned::On,
+        Delivered::WriteFault => Turned::WriteFault,
+        Delivered::NoMemory => Turned::NoMemory,
+        Delivered::Cut(sent) => Turned::BodyCut(sent),
+    }
+}
+
+// Whether the connection is closed behind the request of that number.
+fn closes_after(served: u64, closes: bool) -> bool
+    requires { served < 10_000 }
+    ensures { result ≡ closes_after served closes }
+{
+    closes || served + 1 == MOST
+}
+
+fn is_head(head: &Head) -> bool
+    ensures { result ≡ is_head head.now }
+{
+    head.method.as_str() == "HEAD"
+}
+
+// What is seen for a request: that of the view of whom it asks for, at what the pass has seen then.
+fn look<R: Wait, L>(
+    rt: &R,
+    alloc: Global,
+    hub: &Hub,
+    keys: &ReplyKeys,
+    pass: &mut HubPass,
+    steps: &mut Steps<L>,
+    request: &Request,
+) -> Result<Option<Seen>, AllocError>
+    requires cell { (pass.old.cell ≡ hub.now) × (pass.old.holds ≡ false) }
+    ensures same { IsIdle pass.old pass.new }
+    ensures added { Adds pass.old pass.new [] }
+    ensures seen { IfOk result (λ s. s ≡ seen_for keys.now request.now (view_for keys.now request.now pass.new.seen)) }
+{
+    match ask_of(alloc, keys, request)? {
+        Some(ask) => Ok(hub.look(rt, alloc, pass, &ask, steps)?.seen),
+        None => Ok(None),
+    }
+}
+
+// Answers a request of a recipient, a link, or what no route has.
+fn serve_view<R: Wait, W: Store, G: Gate, K: Sink, L>(
+    rt: &R,
+    alloc: Global,
+    hub: &Hub,
+    server: &Server,
+    pass: &mut HubPass,
+    store: &mut W,
+    gate: &G,
+    sink: &mut K,
+    steps: &mut Steps<L>,
+    served: u64,
+    delivery: Delivery,
+    request: &Request,
+) -> Delivered
+    requires cell { (pass.old.cell ≡ hub.now) × (pass.old.holds ≡ false) }
+    requires dated { delivery.moment ≤ 253_402_300_799_999 }
+    ensures grew { Grew (held W.objects W.alone W.faults pass.old store.old) (held W.objects W.alone W.faults pass.new store.new) }
+    ensures later { K.faults sink.old ≤ K.faults sink.new }
+    ensures given { IsGiven result server.now request.now by.view delivery (held W.objects W.alone W.faults pass.old store.old) (held W.objects W.alone W.faults pass.new store.new) (K.holds sink.old) (K.holds sink.new) }
+    ensures cause { DeliveryCause result (W.objects store.old) (W.faults store.old) (W.faults store.new) (K.faults sink.old) (K.faults sink.new) }
+{
+    let caller = pass.number();
+    let Ok(seen) = look(rt, alloc, hub, &server.keys, pass, steps, request) else {
+        return Delivered::NoMemory;
+    };
+    gate.pass(rt, caller, served);
+    let delivered = reply(alloc, &server.keys, request, &seen, store, sink, delivery);
+    gate.done(rt, caller, served);
+    delivered
+}
+
+// Answers a request of a provider or of the administrator.
+fn serve_call<R: Wait, W: Store, G: Gate, K: Sink>(
+    rt: &R,
+    alloc: Global,
+    hub: &Hub,
+    pass: &mut HubPass,
+    store: &mut W,
+    gate: &G,
+    sink: &mut K,
+    served: u64,
+    delivery: Delivery,
+    call: Call<'_>,
+) -> Delivered
+    requires cell { (pass.old.cell ≡ hub.now) × (pass.old.holds ≡ false) }
+    requires dated { delivery.moment ≤ 253_402_300_799_999 }
+    ensures grew { Grew (held W.objects W.alone W.faults pass.old store.old) (held W.objects W.alone W.faults pass.new store.new) }
+    ensures later { K.faults sink.old ≤ K.faults sink.new }
+    ensures given { (server : ServerView) (asked : Asked) → IsGiven result server asked (by_call call.entry) delivery (held W.objects W.alone W.faults pass.old store.old) (held W.objects W.alone W.faults pass.new store.new) (K.holds sink.old) (K.holds sink.new) }
+    ensures cause { DeliveryCause result (W.objects store.old) (W.faults store.old) (W.faults store.new) (K.faults sink.old) (K.faults sink.new) }
+{
+    let caller = pass.number();
+    let response = answer(rt, alloc, hub, pass, store, delivery.moment, call);
+    gate.pass(rt, caller, served);
+    let delivered = send_whole(alloc, sink, delivery, response);
+    gate.done(rt, caller, served);
+    delivered
+}
+
+// Answers a request that is known.
+fn serve_known<R: Wait, W: Store, G: Gate, K: Sink, L>(
+    rt: &R,
+    alloc: Global,
+    hub: &Hub,
+    server: &Server,
+    pass: &mut HubPass,
+    store: &mut W,
+    gate: &G,
+    sink: &mut K,
+    steps: &mut Steps<L>,
+    served: u64,
+    delivery: Delivery,
+    request: &Request,
+) -> Delivered
+    requires cell { (pass.old.cell ≡ hub.now) × (pass.old.holds ≡ false) }
+    requires dated { delivery.moment ≤ 253_402_300_799_999 }
+    ensures grew { Grew (held W.objects W.alone W.faults pass.old store.old) (held W.objects W.alone W.faults pass.new store.new) }
+    ensures later { K.faults sink.old ≤ K.faults sink.new }
+    ensures given { IsGiven result server.now request.now (by.by_request server.now request.now) delivery (held W.objects W.alone W.faults pass.old store.old) (held W.objects W.alone W.faults pass.new store.new) (K.holds sink.old) (K.holds sink.new) }
+    ensures cause { DeliveryCause result (W.objects store.old) (W.faults store.old) (W.faults store.new) (K.faults sink.old) (K.faults sink.new) }
+{
+    match by_request(server, request) {
+        By::View => serve_view(
+            rt, alloc, hub, server, pass, store, gate, sink, steps, served, delivery, request,
+        ),
+        By::Call(call) => {
+            serve_call(
+                rt, alloc, hub, pass, store, gate, sink, served, delivery, call,
+            )
+        }
+    }
+}
+
+// Answers the request of that number.
+fn serve_request<R: Wait, W: Store, C: Clock, G: Gate, K: Sink, L>(
+    rt: &R,
+    alloc: Global,
+    hub: &Hub,
+    server: &Server,
+    pass: &mut HubPass,
+    store: &mut W,
+    clock: &mut C,
+    gate: &G,
+    sink: &mut K,
+    steps: &mut Steps<L>,
+    served: u64,
+    head: &Head,
+    body: &[u8],
+    closes: bool,
+) -> Turned
+    requires cell { (pass.old.cell ≡ hub.now) × (pass.old.holds ≡ false) }
+    requires served { served < 10_000 }
+    ensures grew { Grew (held W.objects W.alone W.faults pass.old store.old) (held W.objects W.alone W.faults pass.new store.new) }
+    ensures later { (K.faults sink.old ≤ K.faults sink.new) × (C.faults clock.old ≤ C.faults clock.new) }
+    ensures turned { (at : ℕ) → IsTurned result server.now served (message at head.now body.now closes) (side (C.coming clock.old) (held W.objects W.alone W.faults pass.old store.old) (K.holds sink.old)) (side (C.coming clock.new) (held W.objects W.alone W.faults pass.new store.new) (K.holds sink.new)) }
+    ensures cause { TurnCause result (K.faults sink.old) (K.faults sink.new) (W.objects store.old) (W.faults store.old) (W.faults store.new) }
+{
+    let moment = clock.now();
+    let delivery = Delivery {
+        moment,
+        closes: closes_after(served, closes),
+        to_head: is_head(head),
+    };
+    let Ok(request) = request_of(alloc, head, body) else {
+        return Turned::NoMemory;
+    };
+    let delivered = serve_known(
+        rt, alloc, hub, server, pass, store, gate, sink, steps, served, delivery, &request,
+    );
+    turned_by(delivered, delivery.closes)
+}
+
+// Answers a message that is refused, and ends the session. What the pass has seen and the store stand there for those who call:
+// nothing of them changes.
+fn refuse<C: Clock, K: Sink>(
+    alloc: Global,
+    clock: &mut C,
+    sink: &mut K,
+    at: u64,
+    flaw: Flaw,
+    served: u64,
+) -> SessionEnd
+    ensures later { (K.faults sink.old ≤ K.faults sink.new) × (C.faults clock.old ≤ C.faults clock.new) }
+    ensures cause { HasCause result 0 0 (K.faults sink.old) (K.faults sink.new) None 0 0 }
+    ensures ends { (h : Hold) → RefusalEnds result at flaw served (side (C.coming clock.old) h (K.holds sink.old)) (side (C.coming clock.new) h (K.holds sink.new)) }
+{
+    let delivery = Delivery {
+        moment: clock.now(),
+        closes: true,
+        to_head: false,
+    };
+    let Ok(response) = refusal_response(alloc, flaw.refusal(), "") else {
+        return SessionEnd::NoMemory { served };
+    };
+    match send_response(alloc, sink, delivery, &response) {
+        Sent::Whole => SessionEnd::BadMessage { at, flaw, served },
+        Sent::WriteFault => SessionEnd::WriteFault { served },
+        Sent::NoMemory => SessionEnd::NoMemory { served },
+    }
+}
+
+// Reads the next message, and answers it: the session goes on, or this is its end.
+fn serve_next<R: Wait, W: Store, C: Clock, G: Gate, S: Source, K: Sink, L>(
+    rt: &R,
+    alloc: Global,
+    hub: &Hub,
+    server: &Server,
+    pass: &mut HubPass,
+    store: &mut W,
+    clock: &mut C,
+    gate: &G,
+    source: &mut S,
+    sink: &mut K,
+    steps: &mut Steps<L>,
+    wire: &mut Wire,
+    served: u64,
+) -> Option<SessionEnd>
+    requires cell { (pass.old.cell ≡ hub.now) × (pass.old.holds ≡ false) }
+    requires open { wire.old.is_open ≡ true }
+    requires served { served < 10_000 }
+    ensures grew { Grew (held W.objects W.alone W.faults pass.old store.old) (held W.objects W.alone W.faults pass.new store.new) }
+    ensures later { (S.faults source.old ≤ S.faults source.new) × (K.faults sink.old ≤ K.faults sink.new) × (C.faults clock.old ≤ C.faults clock.new) }
+    ensures goes { MatchOption result ((wire.new.is_open ≡ true) × (served + 1 < 10_000)) (λ e. HasCause e (S.faults source.old) (S.faults source.new) (K.faults sink.old) (K.faults sink.new) (W.objects store.old) (W.faults store.old) (W.faults store.new)) }
+    ensures steps { Stepped server.now (state_at wire.old.buffer (S.left source.old) served (side (C.coming clock.old) (held W.objects W.alone W.faults pass.old store.old) (K.holds sink.old))) (state_at wire.new.buffer (S.left source.new) (served + 1) (side (C.coming clock.new) (held W.objects W.alone W.faults pass.new store.new) (K.holds sink.new))) result }
+{
+    match wire.next(alloc, source) {
+        Ok(
+            Message::Request {
+                head,
+                body,
+                closes,
+                ..
+            },
+        ) => {
+            match serve_request(
+                rt, alloc, hub, server, pass, store, clock, gate, sink, steps, served, &head,
+                &body, closes,
+            ) {
+                Turned::On => None,
+                Turned::Last => Some(SessionEnd::Done { served: served + 1 }),
+                Turned::WriteFault => Some(SessionEnd::WriteFault { served }),
+                Turned::NoMemory => Some(SessionEnd::NoMemory { served }),
+                Turned::BodyCut(sent) => Some(SessionEnd::BodyCut { served, sent }),
+            }
+        }
+        Ok(Message::End) => Some(SessionEnd::Done { served }),
+        Ok(Message::Truncated { at }) => Some(SessionEnd::Truncated { at, served }),
+        Ok(Message::Bad { at, flaw }) => Some(refuse(alloc, clock, sink, at, flaw, served)),
+        Ok(Message::ReadFault) => Some(SessionEnd::ReadFault { served }),
+        Err(_) => Some(SessionEnd::NoMemory { served }),
+    }
+}
+
+/// Serves one connection to its end (RFC 9112, section 9): reads its requests, answers each, and writes the responses in order.
+///
+/// A recipient's request is answered from the recipient's own view at a point of the history that isn't before what the pass had
+/// seen; a link by that view and the store's object; a provider's or the administrator's by a call of the hub. The clock is asked
+/// once for each request, and for a message that is refused, after it was read. `gate.pass` stands between a request's look or call
+/// and its response, `gate.done` behind the response. A response's head tells the length of its body. Of a body one line, one JSON
+/// text or 65,536 bytes of an object are held at a time. After each response the sink is flushed.
+///
+/// The connection is closed behind a request whose sender closes it, behind the 10,000th, and behind the response to a message that
+/// is refused, and the response says so.
+pub fn serve_conn<R: Wait, W: Store, C: Clock, G: Gate, S: Source, K: Sink, L>(
+    rt: &R,
+    alloc: Global,
+    hub: &Hub,
+    server: &Server,
+    pass: &mut HubPass,
+    store: &mut W,
+    clock: &mut C,
+    gate: &G,
+    source: &mut S,
+    sink: &mut K,
+    steps: &mut Steps<L>,
+) -> SessionEnd
+    requires cell { (pass.old.cell ≡ hub.now) × (pass.old.holds ≡ false) }
+    ensures grew { Grew (held W.objects W.alone W.faults pass.old store.old) (held W.objects W.alone W.faults pass.new store.new) }
+    ensures later { (S.faults source.old ≤ S.faults source.new) × (K.faults sink.old ≤ K.faults sink.new) × (C.faults clock.old ≤ C.faults clock.new) }
+    ensures cause { HasCause result (S.faults source.old) (S.faults source.new) (K.faults sink.old) (K.faults sink.new) (W.objects store.old) (W.faults store.old) (W.faults store.new) }
+    ensures session { IsSession server.now (S.left source.old) (side (C.coming clock.old) (held W.objects W.alone W.faults pass.old store.old) (K.holds sink.old)) (side (C.coming clock.new) (held W.objects W.alone W.faults pass.new store.new) (K.holds sink.new)) result }
+{
+    let mut wire = Wire::new(alloc);
+    for served in 0..MOST {
+        match serve_next(
+            rt, alloc, hub, server, pass, store, clock, gate, source, sink, steps, &mut wire,
+            served,
+        ) {
+            None => {}
+            Some(end) => return end,
+        }
+    }
+    unreachable!()
+}
