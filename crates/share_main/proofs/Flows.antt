@@ -2,7 +2,7 @@
 use Rattle.std.proofs.Common.{◌≡◌, ℕ, ◌≤◌, ◌+◌, arith, min, List, [], ◌++◌, length, take, Option, Some, None, refl, sym, ap, ◌∙◌, subst, append_assoc}
 use Rattle.std.specs.Prelude.{Bool, true, false}
 use Rattle.std.specs.Io.KnownBytes.{append_known}
-use Rattle.std.proofs.lemmas.List.{append-nil, take-append-le, take_min}
+use Rattle.std.proofs.lemmas.List.{append-nil, take-append-le, take_all, take_min}
 use Rattle.std.proofs.Math.Seq.{take-append-add}
 use Rattle.edge_core.specs.Faults.{Rose}
 use Rattle.share_main.specs.Steps.{Wrote}
@@ -47,3 +47,9 @@ whole a b before after xs ys all same done w = subst (λ zs. Wrote a b before af
 pub short : (a b : Option (List ℕ)) (before after : ℕ) (xs ys more : List ℕ) (all : Bool) → xs ≡ ys → all ≡ false → Wrote a b before after xs all → Wrote a b before after (ys ++ more) false
 short a b before after xs ys more all same stopped w =
     Wrote-before a b before after ys more (subst (λ zs. Wrote a b before after zs false) same (subst (λ r. Wrote a b before after xs r) stopped w))
+
+-- a text that was written whole and not handed on
+pub kept_back : (a b c : Option (List ℕ)) (before mid after : ℕ) (xs : List ℕ) (all : Bool) → all ≡ true → Wrote a b before mid xs all → c ≡ b → Rose mid after → mid ≤ after → Wrote a c before after xs false
+kept_back a b c before mid after xs all done w same rose later =
+    let written : Wrote a b before mid xs true = subst (λ r. Wrote a b before mid xs r) done w in
+    ((length xs, same ∙ written.0 ∙ ap (append_known a) (sym (take_all (length xs) xs (omega arith)))), Rose-from before mid after written.1 rose, omega (arith, written.1, later))

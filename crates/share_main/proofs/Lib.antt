@@ -4,3 +4,4 @@ mod Runs
 mod Laws
 mod Tables
 pub mod Queries
+pub mod Serving

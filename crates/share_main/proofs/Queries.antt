@@ -58,12 +58,7 @@ pub body_asked : (old new : Option (List ℕ)) (before now : ℕ) (bytes : List 
 body_asked old new before now bytes (Ok query) is end short body = (each_asks old bytes (Some query) is (short_asks bytes short ∙ body), end)
 body_asked old new before now bytes (Err ends.Input) is end short body = each_asks old bytes None is (short_asks bytes short ∙ body)
 body_asked old new before now bytes (Err ends.NoMemory) is end short body = tt
-body_asked old new before now bytes (Err ends.ReadFault) is end short body = absurd body
-body_asked old new before now bytes (Err ends.Done) is end short body = absurd body
-body_asked old new before now bytes (Err ends.Words) is end short body = absurd body
-body_asked old new before now bytes (Err (ends.Table why)) is end short body = absurd body
-body_asked old new before now bytes (Err ends.StoreFault) is end short body = absurd body
-body_asked old new before now bytes (Err ends.WriteFault) is end short body = absurd body
+body_asked old new before now bytes (Err other) is end short body = absurd body
 
 -- too long an input asks nothing
 pub long_asked : (old : Option (List ℕ)) → IfSome old (λ left. input_limit < length left) → IfSome old (λ left. asked_in left ≡ None)
@@ -85,11 +80,7 @@ asks_means : (location : List ℕ) (old new : Outside) (end : End) → IsAsked o
 asks_means location old new ends.Input asked held = (tt, asked, held)
 asks_means location old new ends.ReadFault asked held = (tt, asked, held)
 asks_means location old new ends.NoMemory asked held = held
-asks_means location old new ends.Done asked held = absurd asked
-asks_means location old new ends.Words asked held = absurd asked
-asks_means location old new (ends.Table why) asked held = absurd asked
-asks_means location old new ends.StoreFault asked held = absurd asked
-asks_means location old new ends.WriteFault asked held = absurd asked
+asks_means location old new other asked held = absurd asked
 
 -- a query that ends at its input
 pub asks_runs : (location : List ℕ) (old new : Outside) (end : End) → IsAsked old.left new.left old.read_faults new.read_faults (Err end) → LeavesOthers old new → Runs (Some (command.Query location)) old new end

@@ -1,7 +1,7 @@
 -- From the parts of a run to the whole.
 use Rattle.std.proofs.Common.{◌≡◌, ℕ, List, Option, Some, None, sym, ap, ◌∙◌, subst, Result, Ok, Err, inl, inr}
 use Rattle.std.specs.Prelude.{take}
-use Rattle.std.specs.Bool.{OnTrue}
+use Rattle.std.specs.Bool.{OnFalse, OnTrue}
 use Rattle.std.specs.Io.KnownBytes.{append_known}
 use Rattle.edge_core.specs.Faults.{Rose}
 use Rattle.edge_core.specs.Objects.{Grows, Between}
@@ -10,8 +10,9 @@ use Rattle.share_main.specs.Ends.{note}
 use Rattle.share_main.specs.Table.{lines_in}
 use Rattle.share_main.specs.Outside.{Outside}
 use Rattle.share_main.specs.Query.{IsReadToEnd}
-use Rattle.share_main.specs.Run.{Answers, Means, Notes, IsRun}
+use Rattle.share_main.specs.Run.{Answers, Because, Means, Notes, IsRun, is_stdio}
 use Rattle.share_main.specs.Steps.{LeavesRest, Found, Prints, Runs, Tells}
+use Rattle.share_main.specs.Stdio.{IsStdio}
 use Rattle.share_main.specs.declared.ends.End.{End}
 use Rattle.share_main.specs.declared.ends.End.TheVariants as ends
 use Rattle.share_main.specs.declared.words.Command.{Command}
@@ -20,30 +21,21 @@ use Rattle.share_main.specs.declared.words.Command.TheVariants as command
 prints_rest : (text : List ℕ) (old new : Outside) (end : End) → Prints text old new end → LeavesRest old new
 prints_rest text old new ends.Done p = p.0
 prints_rest text old new ends.WriteFault p = p.0
-prints_rest text old new ends.Words p = absurd p
-prints_rest text old new ends.Input p = absurd p
-prints_rest text old new (ends.Table why) p = absurd p
-prints_rest text old new ends.ReadFault p = absurd p
-prints_rest text old new ends.StoreFault p = absurd p
-prints_rest text old new ends.NoMemory p = absurd p
+prints_rest text old new other p = absurd p
 
 printed_means : (asked : Option Command) (old mid new : Outside) (text : List ℕ) (end : End) → Answers asked old new (Ok text) → mid.held ≡ old.held → mid.write_faults ≡ old.write_faults
     → Prints text mid new end → Means asked old new end
 printed_means asked old mid new text ends.Done answers held faults p = (text, answers, subst (λ h. new.held ≡ append_known h text) held p.1)
 printed_means asked old mid new text ends.WriteFault answers held faults p =
     (subst (λ n. Rose n new.write_faults) faults p.1, (text, answers, (p.2.0, subst (λ h. new.held ≡ append_known h (take p.2.0 text)) held p.2.1)))
-printed_means asked old mid new text ends.Words answers held faults p = absurd p
-printed_means asked old mid new text ends.Input answers held faults p = absurd p
-printed_means asked old mid new text (ends.Table why) answers held faults p = absurd p
-printed_means asked old mid new text ends.ReadFault answers held faults p = absurd p
-printed_means asked old mid new text ends.StoreFault answers held faults p = absurd p
-printed_means asked old mid new text ends.NoMemory answers held faults p = absurd p
+printed_means asked old mid new text other answers held faults p = absurd p
 
 -- an answer speaks of the input and of the objects alone
 answers_rest : (asked : Option Command) (old mid new : Outside) (answer : Result (List ℕ) TableRefusal) → mid.left ≡ new.left → mid.objects ≡ new.objects → Answers asked old mid answer → Answers asked old new answer
 answers_rest None old mid new answer left objects a = absurd a
 answers_rest (Some command.Help) old mid new answer left objects a = a
 answers_rest (Some command.Version) old mid new answer left objects a = a
+answers_rest (Some command.Stdio) old mid new answer left objects a = absurd a
 answers_rest (Some (command.Query location)) old mid new answer left objects (query, asks, end, between) =
     (query, asks, subst (IsReadToEnd old.left) left end, subst (λ o. Between old.objects o (λ os. lines_in location query os ≡ answer)) objects between)
 
@@ -81,6 +73,9 @@ means_then : (asked : Option Command) (old mid new : Outside) (end : End) → Sa
 means_then asked old mid new ends.Words same m = (m.0, subst (λ h. h ≡ old.held) same.held m.1)
 means_then asked old mid new ends.Input same m = (m.0, m.1, subst (λ h. h ≡ old.held) same.held m.2)
 means_then asked old mid new ends.ReadFault same m = (m.0, subst (Rose old.read_faults) same.reads m.1, subst (λ h. h ≡ old.held) same.held m.2)
+means_then asked old mid new ends.Configuration same m = absurd m
+means_then asked old mid new (ends.Record number) same m = absurd m
+means_then asked old mid new ends.BodyCut same m = absurd m
 means_then asked old mid new (ends.Table why) same m = (answers_then asked old mid new (Err why) same m.0, subst (λ h. h ≡ old.held) same.held m.1)
 means_then asked old mid new ends.StoreFault same m = (m.0, m.1, subst (Rose old.store_faults) same.stores m.2, subst (λ h. h ≡ old.held) same.held m.3)
 means_then asked old mid new ends.WriteFault same (rose, (text, answers, (n, part))) =
@@ -88,15 +83,33 @@ means_then asked old mid new ends.WriteFault same (rose, (text, answers, (n, par
 means_then asked old mid new ends.NoMemory same m = subst (λ h. h ≡ old.held) same.held m
 means_then asked old mid new ends.Done same (text, answers, all) = (text, answers_then asked old mid new (Ok text) same answers, subst (λ h. h ≡ append_known old.held text) same.held all)
 
+same_causes : (mid new : Outside) (text : List ℕ) → Tells mid new text → SameCauses mid new
+same_causes mid new text tells =
+    let rest = tells.rest in
+    record { left = sym (ap (λ o. o.left) rest); objects = sym (ap (λ o. o.objects) rest); held = sym (ap (λ o. o.held) rest); reads = sym (ap (λ o. o.read_faults) rest); stores = sym (ap (λ o. o.store_faults) rest); writes = sym (ap (λ o. o.write_faults) rest) }
+
+-- a session speaks of all but the notes
+stdio_noted : (old mid : Outside) (noted : Option (List ℕ)) (faults : ℕ) (end : End) → IsStdio old mid end → IsStdio old (record mid { noted = noted; note_faults = faults }) end
+stdio_noted old mid noted faults end (inl (why, is, u)) = inl (why, is, record { reason = u.reason; left = u.left; held = u.held; coming = u.coming; same = u.same })
+stdio_noted old mid noted faults end (inr (e, is, (config, s))) =
+    inr (e, is, (config, record { pass = s.pass; begun = s.begun; looked = s.looked; configured = s.configured; opened = s.opened; last = s.last; grew = s.grew; session = s.session; cause = s.cause }))
+
+stdio_then : (old mid new : Outside) (text : List ℕ) (end : End) → Tells mid new text → IsStdio old mid end → IsStdio old new end
+stdio_then old mid new text end tells m = subst (λ o. IsStdio old o end) (sym tells.rest) (stdio_noted old mid new.noted new.note_faults end m)
+
+because_then : (asked : Option Command) (old mid new : Outside) (text : List ℕ) (end : End) → Tells mid new text → Because asked old mid end → Because asked old new end
+because_then None old mid new text end tells m = means_then None old mid new end (same_causes mid new text tells) m
+because_then (Some command.Help) old mid new text end tells m = means_then (Some command.Help) old mid new end (same_causes mid new text tells) m
+because_then (Some command.Version) old mid new text end tells m = means_then (Some command.Version) old mid new end (same_causes mid new text tells) m
+because_then (Some (command.Query location)) old mid new text end tells m = means_then (Some (command.Query location)) old mid new end (same_causes mid new text tells) m
+because_then (Some command.Stdio) old mid new text end tells m = stdio_then old mid new text end tells m
+
 pub told_runs : (asked : Option Command) (old mid new : Outside) (end : End) → Runs asked old mid end → Tells mid new (note end) → IsRun asked old new end
 told_runs asked old mid new end runs tells =
-    let rest = tells.rest in
-    let objects : mid.objects ≡ new.objects = sym (ap (λ o. o.objects) rest) in
+    let objects : mid.objects ≡ new.objects = sym (ap (λ o. o.objects) tells.rest) in
     record {
-      means = means_then asked old mid new end
-          (record { left = sym (ap (λ o. o.left) rest); objects = objects; held = sym (ap (λ o. o.held) rest); reads = sym (ap (λ o. o.read_faults) rest); stores = sym (ap (λ o. o.store_faults) rest); writes = sym (ap (λ o. o.write_faults) rest) })
-          runs.means;
+      means = because_then asked old mid new (note end) end tells runs.means;
       notes = notes_then old mid new (note end) runs.notes runs.note_faults tells.notes;
       grows = subst (λ o. Grows old.objects o) objects runs.grows;
-      same = subst (λ o. OnTrue old.alone (o ≡ old.objects)) objects runs.same;
+      same = subst (λ o. OnFalse (is_stdio asked) (OnTrue old.alone (o ≡ old.objects))) objects runs.same;
     }

@@ -1,5 +1,5 @@
 -- The lines of a version under a predicate.
-use Rattle.std.proofs.Common.{◌≡◌, ℕ, ◌+◌, List, [], ◌∷◌, ◌++◌, map, take, Option, Some, None, Result, Ok, Err, Vec, Global, Bool, true, refl, sym, ap, ◌∙◌, subst, flat_map}
+use Rattle.std.proofs.Common.{◌≡◌, ℕ, ◌+◌, List, [], ◌∷◌, ◌++◌, map, take, Option, Some, None, Result, Ok, Err, Vec, Global, Bool, refl, sym, ap, ◌∙◌, subst, flat_map}
 use Rattle.std.specs.Prelude.{IfOk, filter}
 use Rattle.std.specs.Arc.{arc_value}
 use Rattle.std.specs.declared.sync.Arc.{Arc}

@@ -21,10 +21,13 @@ abbrev pub status : End → ℕ
 status ends.Done = 0
 status ends.Words = 2
 status ends.Input = 3
+status ends.Configuration = 3
+status (ends.Record number) = 3
 status (ends.Table why) = table_status why
 status ends.ReadFault = 5
 status ends.StoreFault = 5
 status ends.WriteFault = 5
+status ends.BodyCut = 5
 status ends.NoMemory = 6
 
 abbrev pub table_note : TableRefusal → List ℕ
@@ -41,10 +44,13 @@ abbrev pub note : End → List ℕ
 note ends.Done = []
 note ends.Words = codes "share: words\n"
 note ends.Input = codes "share: input\n"
+note ends.Configuration = codes "share: configuration\n"
+note (ends.Record number) = codes "share: catalog record " ++ (decimal number ++ codes "\n")
 note (ends.Table why) = table_note why
 note ends.ReadFault = codes "share: read fault\n"
 note ends.StoreFault = codes "share: store fault\n"
 note ends.WriteFault = codes "share: write fault\n"
+note ends.BodyCut = codes "share: body cut\n"
 note ends.NoMemory = codes "share: memory\n"
 
 abbrev pub number_text : Option ℕ → List ℕ

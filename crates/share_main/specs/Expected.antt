@@ -1,17 +1,22 @@
--- What a run does, as a plain function of its words, its input and the stored objects.
+-- What a run does, as a plain function of its words, its input and the stored objects, as far as these decide it.
 use Rattle.std.specs.Prelude.{◌≡◌, ℕ, ◌⊎◌, List, [], ◌++◌, Option, Some, None, Result, Ok, Err, String}
 use Rattle.std.specs.declared.alloc.Global.{Global}
 use Rattle.edge_core.specs.Faults.{Rose}
 use Rattle.edge_core.specs.Objects.{Objects, Grows}
+use Rattle.share_config.specs.declared.config.Config.{Config}
 use Rattle.share_main.specs.declared.ends.TableRefusal.{TableRefusal}
+use Rattle.share_main.specs.Configuration.{config_at}
 use Rattle.share_main.specs.Words.{command_in}
 use Rattle.share_main.specs.Ends.{status, note}
 use Rattle.share_main.specs.Query.{asked_in}
+use Rattle.share_main.specs.Stdio.{IsServed, IsUnserved, end_after}
 use Rattle.share_main.specs.Table.{lines_in}
 use Rattle.share_request.specs.declared.query.QueryBody.{QueryBody}
+use Rattle.share_serve.specs.declared.serve.SessionEnd.{SessionEnd}
 use Rattle.share_main.specs.Outside.{Outside}
 use Rattle.share_main.specs.declared.ends.End.{End}
 use Rattle.share_main.specs.declared.ends.End.TheVariants as ends
+use Rattle.share_main.specs.declared.opening.NoServer.TheVariants as no_server
 use Rattle.share_main.specs.declared.words.Command.{Command}
 use Rattle.share_main.specs.declared.words.Command.TheVariants as command
 use Rattle.share_main.specs.declared.words.TheConstants.{HELP, VERSION}
@@ -21,6 +26,11 @@ pub record Deed : Type 0 where
   pub status : ℕ
   pub notes : List ℕ
   pub output : List ℕ
+
+-- A deed, or that a server of this configuration is opened and serves, which rests on the clock and on others too.
+pub data Wanted : Type 0 where
+  deed : Deed → Wanted
+  serve : Config → Wanted
 
 abbrev pub printed : List ℕ → Deed
 printed text = record { status = 0; notes = []; output = text }
@@ -36,13 +46,18 @@ abbrev pub queried : List ℕ → Option QueryBody → Objects → Deed
 queried location (Some query) objects = answered (lines_in location query objects)
 queried location None objects = refused ends.Input
 
-abbrev pub done : Option Command → List ℕ → Objects → Deed
-done None input objects = refused ends.Words
-done (Some command.Help) input objects = printed HELP.now
-done (Some command.Version) input objects = printed VERSION.now
-done (Some (command.Query location)) input objects = queried location (asked_in input) objects
+abbrev pub configured : Option Config → Wanted
+configured (Some config) = serve config
+configured None = deed (refused ends.Configuration)
 
-abbrev pub expected : List (String Global) → List ℕ → Objects → Deed
+abbrev pub done : Option Command → List ℕ → Objects → Wanted
+done None input objects = deed (refused ends.Words)
+done (Some command.Help) input objects = deed (printed HELP.now)
+done (Some command.Version) input objects = deed (printed VERSION.now)
+done (Some (command.Query location)) input objects = deed (queried location (asked_in input) objects)
+done (Some command.Stdio) input objects = configured (config_at objects)
+
+abbrev pub expected : List (String Global) → List ℕ → Objects → Wanted
 expected words input objects = done (command_in words) input objects
 
 -- All is told before the call, and no count of faults rose in it.
@@ -57,17 +72,32 @@ pub record IsCalm (old new : Outside) (input : List ℕ) (objects : Objects) (he
   pub note_writes : Rose old.note_faults new.note_faults → ⊥
 
 -- The status is the deed's, and its texts stand after what was noted and held before.
-pub record Does (new : Outside) (result : ℕ) (held noted : List ℕ) (deed : Deed) : Type 0 where
-  pub status : result ≡ deed.status
-  pub notes : new.noted ≡ Some (noted ++ deed.notes)
-  pub output : new.held ≡ Some (held ++ deed.output)
+pub record Does (new : Outside) (result : ℕ) (held noted : List ℕ) (d : Deed) : Type 0 where
+  pub status : result ≡ d.status
+  pub notes : new.noted ≡ Some (noted ++ d.notes)
+  pub output : new.held ≡ Some (held ++ d.output)
+
+-- a record of the catalogue was refused, or a session was served to its end
+abbrev pub ServesBy : Config → Outside → Outside → End → Type 0
+ServesBy config old new end = ((number : ℕ) × (end ≡ ends.Record number) × IsUnserved (no_server.Record number) old new) ⊎ ((e : SessionEnd) × (end ≡ end_after e) × IsServed config e old new)
+
+-- Status and notes are those of the end, and the end has its cause.
+pub record Serves (config : Config) (old new : Outside) (result : ℕ) (noted : List ℕ) : Type 0 where
+  pub end : End
+  pub cause : ServesBy config old new end
+  pub told : result ≡ status end
+  pub notes : new.noted ≡ Some (noted ++ note end)
+
+abbrev pub Fulfils : Wanted → Outside → Outside → ℕ → (held noted : List ℕ) → Type 0
+Fulfils (deed d) old new result held noted = Does new result held noted d
+Fulfils (serve config) old new result held noted = Serves config old new result noted
 
 -- Where memory sufficed, the run does what is expected over the objects of one moment of the call.
 abbrev pub IsExact : List (String Global) → Outside → Outside → ℕ → Type 0
 IsExact words old new result = (input : List ℕ) (objects : Objects) (held noted : List ℕ) → IsCalm old new input objects held noted
-    → (result ≡ 6) ⊎ ((listed : Objects) × Grows (Some objects) (Some listed) × Grows (Some listed) new.objects × Does new result held noted (expected words input listed))
+    → (result ≡ 6) ⊎ ((listed : Objects) × Grows (Some objects) (Some listed) × Grows (Some listed) new.objects × Fulfils (expected words input listed) old new result held noted)
 
 -- Where nobody added an object meanwhile, that moment is the beginning of the call.
 abbrev pub IsExactAlone : List (String Global) → Outside → Outside → ℕ → Type 0
 IsExactAlone words old new result = (input : List ℕ) (objects : Objects) (held noted : List ℕ) → IsCalm old new input objects held noted → new.objects ≡ old.objects
-    → (result ≡ 6) ⊎ Does new result held noted (expected words input objects)
+    → (result ≡ 6) ⊎ Fulfils (expected words input objects) old new result held noted

@@ -4,6 +4,9 @@ pub mod Query
 pub mod Table
 pub mod TableSteps
 pub mod Outside
+pub mod Configuration
+pub mod Stdio
+pub mod StdioSteps
 pub mod Run
 pub mod Steps
 pub mod Expected

@@ -53,12 +53,7 @@ abbrev pub IsBody : List ℕ → Result QueryBody End → Type 0
 IsBody bytes (Ok query) = if_whole (query_in bytes) ≡ Some query
 IsBody bytes (Err ends.Input) = if_whole (query_in bytes) ≡ None
 IsBody bytes (Err ends.NoMemory) = ⊤
-IsBody bytes (Err ends.ReadFault) = ⊥
-IsBody bytes (Err ends.Done) = ⊥
-IsBody bytes (Err ends.Words) = ⊥
-IsBody bytes (Err (ends.Table why)) = ⊥
-IsBody bytes (Err ends.StoreFault) = ⊥
-IsBody bytes (Err ends.WriteFault) = ⊥
+IsBody bytes (Err other) = ⊥
 
 -- what the query of the input answers
 abbrev pub IsAsked : Option (List ℕ) → Option (List ℕ) → ℕ → ℕ → Result QueryBody End → Type 0
@@ -66,8 +61,4 @@ IsAsked old new before now (Ok query) = IfSome old (λ left. asked_in left ≡ S
 IsAsked old new before now (Err ends.Input) = IfSome old (λ left. asked_in left ≡ None)
 IsAsked old new before now (Err ends.ReadFault) = Rose before now
 IsAsked old new before now (Err ends.NoMemory) = ⊤
-IsAsked old new before now (Err ends.Done) = ⊥
-IsAsked old new before now (Err ends.Words) = ⊥
-IsAsked old new before now (Err (ends.Table why)) = ⊥
-IsAsked old new before now (Err ends.StoreFault) = ⊥
-IsAsked old new before now (Err ends.WriteFault) = ⊥
+IsAsked old new before now (Err other) = ⊥

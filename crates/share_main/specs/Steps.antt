@@ -1,12 +1,12 @@
 -- What the steps of a run do, one after another.
 use Rattle.std.specs.Prelude.{◌≡◌, ℕ, ◌≤◌, List, Bool, true, false, take, Option, Some, Result, Ok, Err, Vec}
-use Rattle.std.specs.Bool.{OnTrue}
+use Rattle.std.specs.Bool.{OnFalse, OnTrue}
 use Rattle.std.specs.Io.KnownBytes.{append_known}
 use Rattle.std.specs.declared.alloc.Global.{Global}
 use Rattle.edge_core.specs.Faults.{Rose}
 use Rattle.edge_core.specs.Objects.{Grows}
 use Rattle.share_main.specs.Outside.{Outside}
-use Rattle.share_main.specs.Run.{Answers, Means, Notes, Writes}
+use Rattle.share_main.specs.Run.{Answers, Because, Notes, Writes, is_stdio}
 use Rattle.share_main.specs.declared.ends.End.{End}
 use Rattle.share_main.specs.declared.ends.End.TheVariants as ends
 use Rattle.share_main.specs.declared.words.Command.{Command}
@@ -20,20 +20,15 @@ LeavesRest old new = new ≡ record old { held = new.held; write_faults = new.wr
 abbrev pub Prints : List ℕ → Outside → Outside → End → Type 0
 Prints text old new ends.Done = LeavesRest old new × Writes old new text
 Prints text old new ends.WriteFault = LeavesRest old new × Rose old.write_faults new.write_faults × ((n : ℕ) × Writes old new (take n text))
-Prints text old new ends.Words = ⊥
-Prints text old new ends.Input = ⊥
-Prints text old new (ends.Table why) = ⊥
-Prints text old new ends.ReadFault = ⊥
-Prints text old new ends.StoreFault = ⊥
-Prints text old new ends.NoMemory = ⊥
+Prints text old new other = ⊥
 
--- One run of the command: why it ended so, and that it stored nothing and noted nothing yet.
+-- One run of the command: why it ended so, that nothing was stored but by a session, and nothing is noted yet.
 pub record Runs (asked : Option Command) (old new : Outside) (end : End) : Type 0 where
-  pub means : Means asked old new end
+  pub means : Because asked old new end
   pub notes : new.noted ≡ old.noted
   pub note_faults : new.note_faults ≡ old.note_faults
   pub grows : Grows old.objects new.objects
-  pub same : OnTrue old.alone (new.objects ≡ old.objects)
+  pub same : OnFalse (is_stdio asked) (OnTrue old.alone (new.objects ≡ old.objects))
 
 -- The lines of a table were found, and nothing is written yet.
 pub record Found (location : List ℕ) (old new : Outside) (text : List ℕ) : Type 0 where

@@ -10,9 +10,9 @@ use Rattle.share_main.specs.declared.words.Command.TheVariants as command
 abbrev pub location_in : List ℕ → Option (List ℕ)
 location_in text = if is_name text && is_location text then Some text else None
 
--- `--help` or `--version`
-abbrev pub option_in : List ℕ → Option Command
-option_in word = if bytes_eq word (codes "--help") then Some command.Help else if bytes_eq word (codes "--version") then Some command.Version else None
+-- a command of one word
+abbrev pub single_in : List ℕ → Option Command
+single_in word = if bytes_eq word (codes "stdio") then Some command.Stdio else if bytes_eq word (codes "--help") then Some command.Help else if bytes_eq word (codes "--version") then Some command.Version else None
 
 -- `query LOCATION`
 abbrev pub query_in : List ℕ → List ℕ → Option Command
@@ -21,6 +21,6 @@ query_in word location = if bytes_eq word (codes "query") then option_map comman
 -- the command of the words, none where they are no row of the table
 abbrev pub command_in : List (String Global) → Option Command
 command_in [] = None
-command_in (word ∷ []) = option_in (string_bytes word)
+command_in (word ∷ []) = single_in (string_bytes word)
 command_in (word ∷ location ∷ []) = query_in (string_bytes word) (string_bytes location)
 command_in (word ∷ location ∷ more ∷ words) = None

@@ -35,6 +35,10 @@ pub enum End {
     Words,
     /// Status 3: the input isn't what the command takes.
     Input,
+    /// Status 3: the server isn't configured.
+    Configuration,
+    /// Status 3: the record of that number in the catalogue is none, or is refused after those before it.
+    Record { number: u64 },
     /// The table isn't answered, and why: status 3 where it hasn't what was asked for, else 4, since
     /// it isn't read.
     Table(TableRefusal),
@@ -44,6 +48,8 @@ pub enum End {
     StoreFault,
     /// Status 5: a write to the output failed.
     WriteFault,
+    /// Status 5: the bytes of an object ended early behind the head of their response.
+    BodyCut,
     /// Status 6: want of memory.
     NoMemory,
 }
@@ -90,9 +96,9 @@ impl End {
         match self {
             End::Done => 0,
             End::Words => 2,
-            End::Input => 3,
+            End::Input | End::Configuration | End::Record { .. } => 3,
             End::Table(why) => why.status(),
-            End::ReadFault | End::StoreFault | End::WriteFault => 5,
+            End::ReadFault | End::StoreFault | End::WriteFault | End::BodyCut => 5,
             End::NoMemory => 6,
         }
     }
@@ -105,10 +111,13 @@ impl End {
             End::Done => None,
             End::Words => Some(Note::plain("share: words")),
             End::Input => Some(Note::plain("share: input")),
+            End::Configuration => Some(Note::plain("share: configuration")),
+            End::Record { number } => Some(Note::with("share: catalog record ", *number)),
             End::Table(why) => Some(why.note()),
             End::ReadFault => Some(Note::plain("share: read fault")),
             End::StoreFault => Some(Note::plain("share: store fault")),
             End::WriteFault => Some(Note::plain("share: write fault")),
+            End::BodyCut => Some(Note::plain("share: body cut")),
             End::NoMemory => Some(Note::plain("share: memory")),
         }
     }

@@ -1,18 +1,25 @@
 //! A data provider's server over live Delta tables: the program.
 #![tactic(auto)]
 
+mod edge;
 mod ends;
 mod input;
+mod opening;
 #[cfg(test)]
 mod query_tests;
 mod run;
+mod stdio;
+#[cfg(test)]
+mod stdio_tests;
 mod table;
 #[cfg(test)]
 mod tests;
 mod words;
 
-use edge_std::{FileStore, StdSink, StdSource};
-use run::{Edge, run, tell_memory};
+use edge::Edge;
+use edge_core::{Gathering, OpenGate};
+use edge_std::{FileStore, StdClock, StdSink, StdSource};
+use run::{run, tell_memory};
 use std::alloc::AllocError;
 use std::io::ErrorKind;
 use std::process::ExitCode;
@@ -45,11 +52,16 @@ fn main(rt: HostRuntime) -> io::Result<ExitCode> {
     let Ok((words, folder)) = given(&rt) else {
         return Ok(ExitCode::from(tell_memory(&mut notes)));
     };
+    let Ok(output) = Gathering::new(rt.alloc(), StdSink::new(rt.stdout())) else {
+        return Ok(ExitCode::from(tell_memory(&mut notes)));
+    };
     let mut edge = Edge {
         input: StdSource::new(rt.stdin()),
-        output: StdSink::new(rt.stdout()),
+        output,
         notes,
         store: FileStore::new(rt.clone()?, folder),
+        clock: StdClock::new(rt.clone()?),
+        gate: OpenGate,
         steps: Steps::<()>::new(),
     };
     Ok(ExitCode::from(run(&rt, rt.alloc(), &words, &mut edge)))

@@ -9,48 +9,17 @@ ghost use Rattle.share_main.specs.declared.ends.End.{End};
 ghost use Rattle.share_main.specs.declared.ends.End.TheVariants as ends;
 ghost use Rattle.share_main.specs.declared.words.Command.TheVariants.{Query};
 
+use crate::edge::Edge;
 use crate::ends::{End, Note};
 use crate::input::asked;
+use crate::stdio::stdio;
 use crate::table::{LinesFault, table_lines};
 use crate::words::{Command, HELP, VERSION, command_of};
-use edge_core::{Name, Sink, Source, Store, write_all};
+use edge_core::{Clock, Flushing, Gate, Name, Sink, Source, Store, write_all};
 use itoa::Buffer;
 use std::alloc::Global;
-use std::marker::Model;
 use std::sync::Wait;
 use std::thread::Threads;
-use step_count::Steps;
-
-/// The outside of the program: its input, its output, the notes on what went wrong, the store
-/// of tables, and the steps that were counted. Contracts see what these tell.
-#[derive(Drop)]
-pub struct Edge<S: Source, K: Sink, M: Sink, W: Store, L> {
-    pub input: S,
-    pub output: K,
-    pub notes: M,
-    pub store: W,
-    pub steps: Steps<L>,
-}
-
-impl<S: Source, K: Sink, M: Sink, W: Store, L> Model for Edge<S, K, M, W, L> {
-    ghost use Rattle.share_main.specs.Outside.{Outside, outside_code};
-
-    ghost Value = { Outside };
-
-    ghost coded = { outside_code };
-
-    ghost view = { λ e. record {
-      left = S.left e.input;
-      read_faults = S.faults e.input;
-      objects = W.objects e.store;
-      alone = W.alone e.store;
-      store_faults = W.faults e.store;
-      held = K.holds e.output;
-      write_faults = K.faults e.output;
-      noted = M.holds e.notes;
-      note_faults = M.faults e.notes;
-    } };
-}
 
 // Whether all was written.
 fn write_text<K: Sink>(sink: &mut K, bytes: &[u8]) -> bool
@@ -102,14 +71,27 @@ fn write_note<K: Sink>(sink: &mut K, note: &Note) -> bool
     }
 }
 
+// Whether all was written, and handed on as far as the sink can.
+fn write_through<K: Sink>(sink: &mut K, bytes: &[u8]) -> bool
+    ensures { Wrote (K.holds sink.old) (K.holds sink.new) (K.faults sink.old) (K.faults sink.new) bytes.now result }
+{
+    if !write_text(sink, bytes) {
+        return false;
+    }
+    match sink.flush() {
+        Flushing::Flushed => true,
+        Flushing::Failed => false,
+    }
+}
+
 // Writes bytes to the output.
-fn print<S: Source, K: Sink, M: Sink, W: Store, L>(
-    edge: &mut Edge<S, K, M, W, L>,
+fn print<S: Source, K: Sink, M: Sink, W: Store, C: Clock, G: Gate, L>(
+    edge: &mut Edge<S, K, M, W, C, G, L>,
     text: &[u8],
 ) -> End
     ensures prints { Prints text.now edge.old edge.new result }
 {
-    if write_text(&mut edge.output, text) {
+    if write_through(&mut edge.output, text) {
         End::Done
     } else {
         End::WriteFault
@@ -117,10 +99,10 @@ fn print<S: Source, K: Sink, M: Sink, W: Store, L>(
 }
 
 // The lines of the table there, or how the query ends without them.
-fn find_lines<S: Source, K: Sink, M: Sink, W: Store, L>(
+fn find_lines<S: Source, K: Sink, M: Sink, W: Store, C: Clock, G: Gate, L>(
     alloc: Global,
     location: &Name,
-    edge: &mut Edge<S, K, M, W, L>,
+    edge: &mut Edge<S, K, M, W, C, G, L>,
 ) -> Result<Vec<u8>, End>
     requires { length location.now ≤ 256 }
     ensures { Finds location.now edge.old edge.new result }
@@ -135,10 +117,10 @@ fn find_lines<S: Source, K: Sink, M: Sink, W: Store, L>(
 }
 
 // Answers a query of the table there.
-fn query<S: Source, K: Sink, M: Sink, W: Store, L>(
+fn query<S: Source, K: Sink, M: Sink, W: Store, C: Clock, G: Gate, L>(
     alloc: Global,
     location: &Name,
-    edge: &mut Edge<S, K, M, W, L>,
+    edge: &mut Edge<S, K, M, W, C, G, L>,
 ) -> End
     requires { length location.now ≤ 256 }
     ensures { Runs (Some (Query location.now)) edge.old edge.new result }
@@ -150,10 +132,11 @@ fn query<S: Source, K: Sink, M: Sink, W: Store, L>(
 }
 
 // Runs a command, up to the notes.
-fn answer<S: Source, K: Sink, M: Sink, W: Store, L>(
+fn answer<R: Wait, S: Source, K: Sink, M: Sink, W: Store, C: Clock, G: Gate, L>(
+    rt: &R,
     alloc: Global,
     command: Option<Command>,
-    edge: &mut Edge<S, K, M, W, L>,
+    edge: &mut Edge<S, K, M, W, C, G, L>,
 ) -> End
     ensures { Runs command edge.old edge.new result }
 {
@@ -161,12 +144,16 @@ fn answer<S: Source, K: Sink, M: Sink, W: Store, L>(
         Some(Command::Help) => print(edge, HELP.as_bytes()),
         Some(Command::Version) => print(edge, VERSION.as_bytes()),
         Some(Command::Query(location)) => query(alloc, location.name(), edge),
+        Some(Command::Stdio) => stdio(rt, alloc, edge),
         None => End::Words,
     }
 }
 
 // Writes the line of an end to the notes. A fault in writing it changes no status.
-fn tell<S: Source, K: Sink, M: Sink, W: Store, L>(edge: &mut Edge<S, K, M, W, L>, end: &End)
+fn tell<S: Source, K: Sink, M: Sink, W: Store, C: Clock, G: Gate, L>(
+    edge: &mut Edge<S, K, M, W, C, G, L>,
+    end: &End,
+)
     ensures { Tells edge.old edge.new (note end.now) }
 {
     if let Some(note) = end.note() {
@@ -185,50 +172,58 @@ pub fn tell_memory<M: Sink>(notes: &mut M) -> u8
 }
 
 // Does what the words ask, up to the notes.
-fn perform<S: Source, K: Sink, M: Sink, W: Store, L>(
+fn perform<R: Wait, S: Source, K: Sink, M: Sink, W: Store, C: Clock, G: Gate, L>(
+    rt: &R,
     alloc: Global,
     words: &[String],
-    edge: &mut Edge<S, K, M, W, L>,
+    edge: &mut Edge<S, K, M, W, C, G, L>,
 ) -> End
     ensures { Runs (command_in words.now) edge.old edge.new result }
 {
     match command_of(alloc, words) {
-        Ok(command) => answer(alloc, command, edge),
+        Ok(command) => answer(rt, alloc, command, edge),
         Err(_) => End::NoMemory,
     }
 }
 
 // Does what the words ask, and writes to the notes how it ended.
-fn perform_and_tell<S: Source, K: Sink, M: Sink, W: Store, L>(
+fn perform_and_tell<R: Wait, S: Source, K: Sink, M: Sink, W: Store, C: Clock, G: Gate, L>(
+    rt: &R,
     alloc: Global,
     words: &[String],
-    edge: &mut Edge<S, K, M, W, L>,
+    edge: &mut Edge<S, K, M, W, C, G, L>,
 ) -> End
     ensures { IsRun (command_in words.now) edge.old edge.new result }
 {
-    let end = perform(alloc, words, edge);
+    let end = perform(rt, alloc, words, edge);
     tell(edge, &end);
     end
 }
 
 /// Does what the words ask, and answers the program's status.
 ///
-/// The answer comes by one of the ends in `ends.rt`, each with its status, its line on the notes
-/// and its cause. The words are tested first, then the input, then the table. On every status
-/// but 0 and a write fault the output is as it was. Nothing is stored. Where the outside tells
-/// what it holds, no count of faults rose and memory sufficed, the run did what one function of
-/// the words, the input and the stored objects says. `rt` makes threads and waits for them: no
-/// command here does.
-pub fn run<R: Threads + Wait + Sync, S: Source, K: Sink, M: Sink, W: Store, L>(
-    _rt: &R,
+/// The answer comes by one of the ends in `ends.rt`, each with its status, its line on the notes and its cause.
+///
+/// `query`, `--help` and `--version`: the words are tested first, then the input, then the table. On every status but 0 and a write
+/// fault the output is as it was. Nothing is stored.
+///
+/// `stdio`: the configuration is read first, then the catalogue's records; where both are good, one session is served over the input
+/// and the output, as `serve_conn` says, by one caller of a hub that is opened over the store. Before that nothing is read, written
+/// or stored.
+///
+/// Where the outside tells what it holds, no count of faults rose and memory sufficed, the run did what one function of the words,
+/// the input and the stored objects says; of a session it says the configuration. `rt` makes threads and waits for them: no command
+/// here makes any, and `stdio` waits for its turn at a hub that no other caller has.
+pub fn run<R: Threads + Wait + Sync, S: Source, K: Sink, M: Sink, W: Store, C: Clock, G: Gate, L>(
+    rt: &R,
     alloc: Global,
     words: &[String],
-    edge: &mut Edge<S, K, M, W, L>,
+    edge: &mut Edge<S, K, M, W, C, G, L>,
 ) -> u8
     ensures cause { (end : End) × (result ≡ status end)
         × IsRun (command_in words.now) edge.old edge.new end }
     ensures exact { IsExact words.now edge.old edge.new result }
     ensures alone { IsExactAlone words.now edge.old edge.new result }
 {
-    perform_and_tell(alloc, words, edge).status()
+    perform_and_tell(rt, alloc, words, edge).status()
 }

@@ -1,14 +1,15 @@
 // From stored bytes to printed lines, over an outside in memory.
-use crate::run::{Edge, run};
+use crate::edge::Edge;
+use crate::run::run;
 use crate::words::{HELP, VERSION};
-use edge_core::{MemSink, MemSource, MemStore, Name, Stored};
+use edge_core::{MemClock, MemSink, MemSource, MemStore, Name, OpenGate, Stored};
 use std::alloc::{AllocError, Global};
 use std::process::Abort;
 use std::sync::Wait;
 use std::thread::Threads;
 use step_count::Steps;
 
-type Memory = Edge<MemSource, MemSink, MemSink, MemStore, ()>;
+type Memory = Edge<MemSource, MemSink, MemSink, MemStore, MemClock, OpenGate, ()>;
 
 pub(crate) const OPENING: &str =
     "{\"protocol\":{\"minReaderVersion\":1,\"minWriterVersion\":2}}\n{\"metaData\":{\"id\":\"m1\",\"format\":{\"provider\":\"parquet\",\"options\":{}},\"schemaString\":\"{\\\"type\\\":\\\"struct\\\",\\\"fields\\\":[]}\",\"partitionColumns\":[],\"configuration\":{},\"createdTime\":1}}\n";
@@ -28,17 +29,17 @@ pub(crate) const PRINTED_OPENING: &str =
 pub(crate) const PRINTED_FILE: &str =
     "{\"file\":{\"id\":\"a\",\"partitionValues\":{},\"size\":2,\"url\":\"a\"}}\n";
 
-// What fails at its first call.
+// What fails: at its first call, or the store at a call of that number, counted from 0.
 #[derive(Clone, Copy, PartialEq, Eq)]
 pub(crate) enum Failing {
     Nothing,
     Input,
-    Store,
+    Store(u64),
     Output,
     Notes,
 }
 
-// A run over table t, and what it is to do.
+// A run over table t and other objects, and what it is to do. The clock stands at moment 0.
 #[derive(Clone, Copy)]
 pub(crate) struct Case<'a> {
     pub(crate) words: &'a [&'a str],
@@ -47,6 +48,8 @@ pub(crate) struct Case<'a> {
     pub(crate) commits: &'a [&'a [&'a str]],
     // the name of one more object, without bytes
     pub(crate) other: &'a str,
+    // names and bytes of more objects
+    pub(crate) objects: &'a [(&'a str, &'a str)],
     pub(crate) failing: Failing,
     pub(crate) status: u8,
     pub(crate) output: &'a [&'a str],
@@ -58,6 +61,7 @@ pub(crate) const QUERY: Case<'static> = Case {
     input: "",
     commits: &[],
     other: "",
+    objects: &[],
     failing: Failing::Nothing,
     status: 0,
     output: &[],
@@ -88,6 +92,14 @@ fn first_call(alloc: Global, fails: bool) -> Result<Vec<u64>, AllocError> {
     Ok(calls)
 }
 
+fn store_call(alloc: Global, failing: Failing) -> Result<Vec<u64>, AllocError> {
+    let mut calls = Vec::new(alloc);
+    if let Failing::Store(number) = failing {
+        calls.push(number)?;
+    }
+    Ok(calls)
+}
+
 fn stock(store: &mut MemStore, name: String, bytes: Vec<u8>) {
     if let Some(name) = Name::of(name) {
         store.stock(Stored { name, bytes });
@@ -107,8 +119,11 @@ fn store_of(alloc: Global, case: &Case<'_>) -> Result<MemStore, AllocError> {
             Vec::new(alloc),
         );
     }
-    let fails = first_call(alloc, case.failing == Failing::Store)?;
-    Ok(store.with_fails(fails, Vec::new(alloc)))
+    for (name, text) in case.objects {
+        let bytes = Vec::from_slice(alloc, text.as_bytes())?;
+        stock(&mut store, String::from_str(alloc, name)?, bytes);
+    }
+    Ok(store.with_fails(store_call(alloc, case.failing)?, Vec::new(alloc)))
 }
 
 // Room for what the cases write, which goes out in pieces of at most 7 bytes at first.
@@ -132,6 +147,8 @@ fn edge_of(alloc: Global, case: &Case<'_>) -> Result<Memory, AllocError> {
         output: sink(alloc, case.failing == Failing::Output)?,
         notes: sink(alloc, case.failing == Failing::Notes)?,
         store: store_of(alloc, case)?,
+        clock: MemClock::new(Vec::new(alloc)),
+        gate: OpenGate,
         steps: Steps::new(),
     })
 }
@@ -162,9 +179,11 @@ pub(crate) fn expect_all<R: Abort + Threads + Wait + Sync>(
     Ok(())
 }
 
-const WRONG_WORDS: [&[&str]; 8] = [
+const WRONG_WORDS: [&[&str]; 10] = [
     &[],
     &["query"],
+    &["Stdio"],
+    &["stdio", "t"],
     &["query", "t", "t"],
     &["Query", "t"],
     &["query", "/t"],
@@ -340,7 +359,7 @@ fn tells_which_part_failed(rt: HostRuntime) -> Result<(), AllocError> {
         ..opened
     };
     let store = Case {
-        failing: Failing::Store,
+        failing: Failing::Store(0),
         notes: "share: store fault\n",
         ..opened
     };
