@@ -13,7 +13,7 @@ use Rattle.share_serve.proofs.Basics.{append_known-nil}
 use Rattle.share_serve.proofs.Same.{OneReading, asked_of, length_map, same, same_head, ticked, writes_same}
 
 -- what stands where a whole session ends that goes on
-abbrev reading_of : SessionEnd → Reading
+abbrev pub reading_of : SessionEnd → Reading
 reading_of (end.Done served) = ended
 reading_of (end.Truncated at served) = truncated
 reading_of (end.BadMessage at flaw served) = bad flaw
@@ -33,7 +33,7 @@ known : (o : Option (List ℕ)) (xs : List ℕ) (P : List ℕ → Type 0) → o 
 known None xs P e p = absurd cc
 known (Some ys) xs P e p = let same : ys ≡ xs = cc in subst P same p
 
-reads_there : (server : Server) (v : State) (e : SessionEnd) (new : Side) (xs : List ℕ) → Ends server v e new → IsComplete e → v.goes ≡ true → v.stream ≡ Some xs → ReadsMessage xs (reading_of e)
+pub reads_there : (server : Server) (v : State) (e : SessionEnd) (new : Side) (xs : List ℕ) → Ends server v e new → IsComplete e → v.goes ≡ true → v.stream ≡ Some xs → ReadsMessage xs (reading_of e)
 reads_there server v (end.Done served) new xs is c g told = known v.stream xs (λ z. ReadsMessage z ended) told (subst (λ (b : Bool). MatchBool b (IfSome v.stream (λ z. ReadsMessage z ended)) (Unit {0})) g is.1)
 reads_there server v (end.Truncated at served) new xs is c g told = (known v.stream xs (λ z. (at ≡ v.place) × ReadsMessage z truncated) told is.2).1
 reads_there server v (end.BadMessage at flaw served) new xs is c g told = (known v.stream xs (λ z. (at ≡ v.place) × ReadsMessage z (bad flaw)) told is.1).1

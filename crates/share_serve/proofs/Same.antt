@@ -17,7 +17,7 @@ OneReading = (stream : List ℕ) (x y : Reading) → ReadsMessage stream x → R
 abbrev pub asked_of : Turn → Head × (List ℕ × (Bool × ℕ))
 asked_of t = (t.message.head, (t.message.body, (t.message.closes, t.moment)))
 
-same_request : (a a' : Head) (b b' : List ℕ) (c c' : Bool) (d d' : List ℕ) → request a b c d ≡ request a' b' c' d' → (a ≡ a') × (b ≡ b') × (c ≡ c') × (d ≡ d')
+pub same_request : (a a' : Head) (b b' : List ℕ) (c c' : Bool) (d d' : List ℕ) → request a b c d ≡ request a' b' c' d' → (a ≡ a') × (b ≡ b') × (c ≡ c') × (d ≡ d')
 same_request a a' b b' c c' d d' e = (cc, cc, cc, cc)
 
 pub same_head : {A : Type 0} (x y : A) (xs ys : List A) → x ∷ xs ≡ y ∷ ys → (x ≡ y) × (xs ≡ ys)

@@ -33,7 +33,7 @@ tells server old new (t ∷ turns) r =
       served = rest.served ∙ (let a = s.served in omega arith);
     }
 
-place_small : (p : ℕ) (text : List ℕ) → place_behind p text < 2 ^ 64
+pub place_small : (p : ℕ) (text : List ℕ) → place_behind p text < 2 ^ 64
 place_small p text = omega arith
 
 -- the requests are the first messages of the stream

@@ -17,7 +17,7 @@ use Rattle.share_serve.specs.declared.server.Server.{Server}
 use Rattle.share_serve.proofs.Ended.{ends_same}
 use Rattle.share_serve.proofs.Same.{OneReading, asked_of, same, same_head}
 
-same_some : {A : Type 0} (x y : A) → Some x ≡ Some y → x ≡ y
+pub same_some : {A : Type 0} (x y : A) → Some x ≡ Some y → x ≡ y
 same_some x y e = cc
 
 -- one answer has one response, but for an object's
@@ -35,7 +35,7 @@ view_reply : (server : Server) (asked : Request) (moment : ℕ) (r : Response) (
 view_reply server asked moment r old new is a = (subst (λ (b : By). AnswersBy server asked b moment r old new) is a).reply
 
 -- the turn's
-turn_reply : (server : Server) (v : State) (t : Turn) (w : State) → by_request server (request_of t) ≡ by.view → t.point ≡ w.side.hold.pass.seen → Answers server (request_of t) t.moment t.response v.side.hold w.side.hold
+pub turn_reply : (server : Server) (v : State) (t : Turn) (w : State) → by_request server (request_of t) ≡ by.view → t.point ≡ w.side.hold.pass.seen → Answers server (request_of t) t.moment t.response v.side.hold w.side.hold
     → ReplyIs (reply_of server.keys (answer_at server t)) t.response v.side.hold.shelf w.side.hold.shelf
 turn_reply server v t w is at a =
     subst (λ z. ReplyIs (reply_of server.keys (answered_at server.keys z t.moment (request_of t))) t.response v.side.hold.shelf w.side.hold.shelf) (sym at)

@@ -1,10 +1,13 @@
 pub mod CallerViews
 pub mod Callers
+pub mod Entitled
 pub mod Laws
 pub mod Providers
+pub mod RefusalCauses
 pub mod Responses
 pub mod Sends
 pub mod Sessions
 pub mod Sides
 pub mod Turned
 pub mod Turns
+pub mod WholeSessions

@@ -1,5 +1,8 @@
 // Laws of sessions. None of these functions does anything when it is called.
+ghost use Rattle.share_serve.specs.Entitled.{ChangesAreGiven, FilesAreGiven, LinksAreGiven, MetadataIsGiven, NamesAreGiven, ObjectsAreGiven, TurnsAreGiven, TurnsGiveTheDefined, VersionsAreGiven};
 ghost use Rattle.share_serve.specs.Laws.{EndsTheSame, EqualViewsWriteTheSame, ReadsItsRequests, WritesItsResponses};
+ghost use Rattle.share_serve.specs.RefusalCauses.{ChangesHaveCauses, FaultsAreTold, FilesHaveCauses, LinksHaveCauses, NamesHaveCauses, StrangersAreRefused, VersionsHaveCauses};
+ghost use Rattle.share_serve.specs.WholeSessions.{WholeRequestsAreAnswered};
 
 use http_message::law::one_reading;
 
@@ -28,3 +31,48 @@ pub fn equal_views_write_the_same()
 {
     one_reading();
 }
+
+/// A law: where the bytes are whole requests and nothing failed, all of them are answered, each once and in order, up to the first
+/// behind which the connection is closed; or the session ends for want of memory, and those before were answered.
+pub fn whole_requests_are_answered()
+    ensures { WholeRequestsAreAnswered }
+{
+    one_reading();
+}
+
+/// Laws of what a recipient is entitled to: where it has the token and its time isn't over, what is granted to it and is there is
+/// answered with 200.
+pub fn what_is_granted_is_given()
+    // Shares, schemas and tables.
+    ensures names { NamesAreGiven }
+    // The version and the metadata of a table.
+    ensures versions { VersionsAreGiven }
+    ensures metadata { MetadataIsGiven }
+    // The files of a version, and the changes of a range, on first and on later pages.
+    ensures files { FilesAreGiven }
+    ensures changes { ChangesAreGiven }
+    // The object that a link is answered with.
+    ensures links { LinksAreGiven }
+{}
+
+/// Laws: the responses of a session's turns are the defined ones, so that what is granted is given with 200, and a link's object
+/// comes whole where the store has it.
+pub fn turns_give_the_defined()
+    ensures turns { TurnsGiveTheDefined }
+    ensures granted { TurnsAreGiven }
+    ensures objects { ObjectsAreGiven }
+{}
+
+/// Laws of refusals: each has its cause in what the history says.
+pub fn refusals_have_causes()
+    // Who isn't a recipient, or whose time is over, is refused, whatever is asked.
+    ensures strangers { StrangersAreRefused }
+    // Of a recipient's request that is at fault the fault is told.
+    ensures faults { FaultsAreTold }
+    // Listings, versions and metadata, files and changes on first and on later pages, and links.
+    ensures names { NamesHaveCauses }
+    ensures versions { VersionsHaveCauses }
+    ensures files { FilesHaveCauses }
+    ensures changes { ChangesHaveCauses }
+    ensures links { LinksHaveCauses }
+{}
