@@ -1,0 +1,9 @@
+//! Tests of the client. They stand in a crate of their own since a crate with tests is proved twice, with them and without.
+#![tactic(auto)]
+
+#[cfg(test)]
+mod calls;
+#[cfg(test)]
+mod files;
+#[cfg(test)]
+mod lists;

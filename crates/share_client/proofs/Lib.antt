@@ -1,0 +1,7 @@
+mod Chaining
+mod Counts
+mod Escapes
+mod Items
+mod Knowing
+mod Lines
+mod Listed

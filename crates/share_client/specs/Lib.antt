@@ -1,0 +1,15 @@
+pub mod Asking
+pub mod Chains
+pub mod Clients
+pub mod Escape
+pub mod Exchanges
+pub mod Files
+pub mod Listings
+pub mod Lists
+pub mod Reads
+pub mod Requests
+pub mod Routes
+pub mod Servers
+pub mod Sides
+pub mod Steps
+pub mod Targets

@@ -1,0 +1,37 @@
+-- The requests that a client sends (RFC 9112, sections 3 and 5; RFC 6750, section 2.1).
+use Rattle.std.specs.Prelude.{ℕ, List, [], ◌∷◌, ◌++◌, Option, Some, None, length, codes, decimal}
+
+-- a line and its end, CR LF
+abbrev pub line : List ℕ → List ℕ
+line text = text ++ 13 ∷ 10 ∷ []
+
+abbrev pub field_line : List ℕ → List ℕ → List ℕ
+field_line name value = line (name ++ codes ": " ++ value)
+
+abbrev pub first_line : List ℕ → List ℕ → List ℕ
+first_line method target = line (method ++ codes " " ++ target ++ codes " HTTP/1.1")
+
+-- the token of who asks; a link says by itself what may be read
+abbrev pub bearer_line : Option (List ℕ) → List ℕ
+bearer_line None = []
+bearer_line (Some token) = field_line (codes "Authorization") (codes "Bearer " ++ token)
+
+-- the fields that each request begins with
+abbrev pub front : (method target host : List ℕ) → Option (List ℕ) → List ℕ
+front method target host bearer = first_line method target ++ field_line (codes "Host") host ++ bearer_line bearer
+
+-- the last field, and the empty line
+abbrev pub close_lines : List ℕ
+close_lines = field_line (codes "Connection") (codes "close") ++ line []
+
+-- a request without a body
+abbrev pub get_text : (target host : List ℕ) → Option (List ℕ) → List ℕ
+get_text target host bearer = front (codes "GET") target host bearer ++ close_lines
+
+-- the fields that say what a body of JSON is, and how long
+abbrev pub content_lines : List ℕ → List ℕ
+content_lines body = field_line (codes "Content-Type") (codes "application/json") ++ field_line (codes "Content-Length") (decimal (length body))
+
+-- a request with a body of JSON
+abbrev pub post_text : (target host : List ℕ) → Option (List ℕ) → (body : List ℕ) → List ℕ
+post_text target host bearer body = front (codes "POST") target host bearer ++ content_lines body ++ close_lines ++ body
