@@ -3,7 +3,8 @@ ghost use Rattle.std.specs.Prelude.{◌≡◌, None, IfOk, nat_lt};
 ghost use Rattle.std.specs.Io.{ReadsAtMost, WritesAtMost};
 ghost use Rattle.edge_core.specs.Handles.{fault_count};
 
-use edge_core::{FaultCount, Flushing, Gave, Sink, Source, Took};
+use edge_core::{FaultCount, Flushing, Gathering, Gave, Sink, Source, Took};
+use std::alloc::AllocError;
 use std::io;
 use std::io::{ErrorKind, Read, Write};
 use std::net::{Shutdown, TcpStream};
@@ -102,37 +103,14 @@ impl Source for TcpSource {
     }
 }
 
-/// What goes to a peer. It tells nothing of the bytes, keeps none back, and counts the writes that failed, also for want of
-/// room in time. When it is let go, the connection lingers: the writing side is shut, and what the peer still sends is read
-/// for at most one second and 64 KiB, so that what was just written isn't cut off by a reset.
-pub struct TcpSink {
-    rt: HostRuntime,
+// What goes to a peer at once.
+#[derive(Drop)]
+struct TcpOut {
     stream: TcpStream,
     faults: FaultCount,
 }
 
-impl TcpSink {
-    // Whether a write has failed.
-    pub(crate) fn has_failed(&self) -> bool
-        ensures { result ≡ nat_lt 0 (fault_count self.now.faults) }
-    {
-        self.faults.count() > 0
-    }
-}
-
-impl Drop for TcpSink {
-    fn drop(self) {
-        // A fault of a connection that is done with has nobody to tell.
-        let _ = linger(&self.rt, &self.stream);
-        let TcpSink {
-            rt: _,
-            stream: _,
-            faults: _,
-        } = self;
-    }
-}
-
-impl Sink for TcpSink {
+impl Sink for TcpOut {
     ghost holds = { λ _. None };
 
     ghost faults = { λ s. fault_count s.faults };
@@ -149,6 +127,59 @@ impl Sink for TcpSink {
 
     fn flush(&mut self) -> Flushing {
         Flushing::Flushed
+    }
+}
+
+/// What goes to a peer. It tells nothing of the bytes, and counts the writes that failed, also for want of room in time. It gathers
+/// up to 65,536 bytes: what is written goes out at a `flush`, or as more comes. When it is let go, what it keeps goes out where no
+/// write has failed, and the connection lingers: the writing side is shut, and what the peer still sends is read for at most one
+/// second and 64 KiB, so that what was just written isn't cut off by a reset.
+pub struct TcpSink {
+    rt: HostRuntime,
+    out: Gathering<TcpOut>,
+    faults: FaultCount,
+}
+
+impl TcpSink {
+    // Whether a write has failed.
+    pub(crate) fn has_failed(&self) -> bool
+        ensures { result ≡ nat_lt 0 (fault_count self.now.faults) }
+    {
+        self.faults.count() > 0
+    }
+}
+
+impl Drop for TcpSink {
+    fn drop(self) {
+        let TcpSink {
+            rt,
+            mut out,
+            faults,
+        } = self;
+        // A fault of a connection that is done with has nobody to tell.
+        if faults.count() == 0 {
+            out.flush();
+        }
+        let TcpOut { stream, faults: _ } = out.into_inner();
+        let _ = linger(&rt, &stream);
+    }
+}
+
+impl Sink for TcpSink {
+    ghost holds = { λ _. None };
+
+    ghost faults = { λ s. fault_count s.faults };
+
+    fn write(&mut self, bytes: &[u8]) -> Gave {
+        let gave = self.out.write(bytes);
+        self.faults.note(matches!(gave, Gave::Failed));
+        gave
+    }
+
+    fn flush(&mut self) -> Flushing {
+        let flushing = self.out.flush();
+        self.faults.note(matches!(flushing, Flushing::Failed));
+        flushing
     }
 }
 
@@ -178,7 +209,19 @@ fn linger(rt: &HostRuntime, stream: &TcpStream) -> io::Result<()> {
     Ok(())
 }
 
-/// Makes a source and a sink of a connection. What is small goes out at once.
+// A sink that gathers for a connection.
+fn gathered(rt: &HostRuntime, stream: TcpStream) -> Result<Gathering<TcpOut>, AllocError> {
+    let out = TcpOut {
+        stream,
+        faults: FaultCount::new(),
+    };
+    match Gathering::new(rt.alloc(), out) {
+        Ok(out) => Ok(out),
+        Err(_) => Err(AllocError),
+    }
+}
+
+/// Makes a source and a sink of a connection. What is flushed goes out at once.
 pub(crate) fn line_of(
     rt: &HostRuntime,
     stream: TcpStream,
@@ -189,7 +232,7 @@ pub(crate) fn line_of(
     stream.set_read_timeout(Some(timeouts.read))?;
     stream.set_write_timeout(Some(timeouts.write))?;
     stream.set_nodelay(true)?;
-    let other = stream.try_clone()?;
+    let out = gathered(rt, stream.try_clone()?)?;
     let rt = rt.clone()?;
     Ok((
         TcpSource {
@@ -198,7 +241,7 @@ pub(crate) fn line_of(
         },
         TcpSink {
             rt,
-            stream: other,
+            out,
             faults: FaultCount::new(),
         },
     ))

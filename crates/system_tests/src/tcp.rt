@@ -2,8 +2,8 @@
 ghost use Rattle.std.specs.Prelude.{◌≡◌, IfOk, true};
 
 use edge_core::{
-    Clock, Gave, LAST_MOMENT, Limited, Link, Listener, Listening, LockedDoor, Opened, SharedDoor,
-    Sink, Source, Taken, Took, write_all,
+    Clock, Flushing, Gave, LAST_MOMENT, Limited, Link, Listener, Listening, LockedDoor, Opened,
+    SharedDoor, Sink, Source, Taken, Took, write_all,
 };
 use edge_std::{StdClock, TcpDoor, TcpSink, TcpSource, TcpWay, Timeouts};
 use std::alloc::Global;
@@ -64,11 +64,16 @@ fn read<S: Source>(source: &mut S) -> Took {
     source.read(&mut [0u8; 4])
 }
 
+// Writes, and hands on what is written.
 fn write<K: Sink>(sink: &mut K, bytes: &[u8]) -> Gave {
     if bytes.is_empty() {
         return Gave::Failed;
     }
-    sink.write(bytes)
+    let gave = sink.write(bytes);
+    match sink.flush() {
+        Flushing::Flushed => gave,
+        Flushing::Failed => Gave::Failed,
+    }
 }
 
 #[test]
@@ -119,7 +124,7 @@ fn send_and_drain(rt: &HostRuntime, port: u16, size: usize) -> Result<usize, Fai
     Err(Fail::from("no end"))
 }
 
-// Reads ten bytes of a body, and refuses it.
+// Reads ten bytes of a body, and refuses it. The refusal goes out as the line is closed.
 fn refuse<N: Listener>(door: &mut N) -> bool {
     match door.accept() {
         Taken::Line(mut input, mut output) => {
