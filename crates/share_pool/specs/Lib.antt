@@ -1,0 +1,6 @@
+pub mod Posts
+pub mod Refreshing
+pub mod Visits
+pub mod Nexts
+pub mod Desks
+pub mod Laws

@@ -1,0 +1,119 @@
+// One worker.
+ghost use Rattle.std.specs.Prelude.{◌≡◌, ◌≤◌, false, if◌then◌else◌};
+ghost use Rattle.share_hub.specs.Calls.{IsIdle};
+ghost use Rattle.share_serve.specs.Sides.{held};
+ghost use Rattle.share_pool.specs.Desks.{DeskWorks, HasPass};
+ghost use Rattle.share_pool.specs.Posts.{post};
+ghost use Rattle.share_pool.specs.Visits.{Works};
+ghost use Rattle.share_pool.specs.declared.desk.ServeEnd.TheVariants.{NoMemory};
+
+use crate::line::{Next, serve_line};
+use edge_core::{Clock, Gate, Listener, Store};
+use share_hub::{Hub, HubPass};
+use share_serve::Server;
+use std::alloc::Global;
+use std::sync::Wait;
+use step_count::Steps;
+
+/// Why a worker ended, or all of them did.
+#[derive(Clone, Copy, Debug, PartialEq, Eq)]
+pub enum ServeEnd {
+    /// No further line comes, and memory was never wanting; so many lines were closed, or 2^64 - 1 where there are more.
+    Closed {
+        /// The number of lines.
+        served: u64,
+    },
+    /// The door failed: its count of faults rose in this call.
+    ListenerFault,
+    /// Memory was wanting in a session. The lines after it were served all the same.
+    NoMemory,
+}
+
+/// What a worker works with, and its answer.
+#[derive(Drop)]
+pub struct Desk<N, W, C, L> {
+    /// Its place at the hub.
+    pub pass: Option<HubPass>,
+    /// Where its lines come from.
+    pub door: N,
+    /// The store that it reads and adds to.
+    pub store: W,
+    /// What its requests are dated by.
+    pub clock: C,
+    /// The steps of its replays.
+    pub steps: Steps<L>,
+    /// Why it ended, none before that.
+    pub end: Option<ServeEnd>,
+}
+
+fn closing(lacking: bool, end: ServeEnd) -> ServeEnd
+    ensures { result ≡ (if lacking then NoMemory else end) }
+{
+    if lacking { ServeEnd::NoMemory } else { end }
+}
+
+// Serves the lines of a door.
+fn serve_lines<R: Wait, N: Listener, W: Store, C: Clock, G: Gate, L>(
+    rt: &R,
+    alloc: Global,
+    hub: &Hub,
+    server: &Server,
+    pass: &mut HubPass,
+    door: &mut N,
+    store: &mut W,
+    clock: &mut C,
+    steps: &mut Steps<L>,
+    gate: &G,
+) -> ServeEnd
+    requires cell { (pass.old.cell ≡ hub.now) × (pass.old.holds ≡ false) }
+    ensures same { IsIdle pass.old pass.new }
+    ensures works { Works server.now (post (N.coming door.old) (N.closed door.old) (C.coming clock.old) (held W.objects W.alone W.faults pass.old store.old)) (post (N.coming door.new) (N.closed door.new) (C.coming clock.new) (held W.objects W.alone W.faults pass.new store.new)) (N.faults door.old) (N.faults door.new) result }
+{
+    let mut served: u64 = 0;
+    let mut lacking = false;
+    for _ in rt.forever() {
+        match serve_line(
+            rt, alloc, hub, server, pass, door, store, clock, steps, gate,
+        ) {
+            Next::Line(lacks) => {
+                served = served.saturating_add(1);
+                lacking |= lacks;
+            }
+            Next::End => return closing(lacking, ServeEnd::Closed { served }),
+            Next::Failed => return closing(lacking, ServeEnd::ListenerFault),
+        }
+    }
+    unreachable!()
+}
+
+/// One worker: it serves the lines of its desk's door one after another, until no further line comes or the door fails, and leaves
+/// its answer in `end`.
+///
+/// For each line that it accepts it refreshes the catalogue, and then each log that is loaded, so that a connection sees what other
+/// servers had stored before it; it serves the connection; and it closes the line. A refusal of a refresh, and want of memory for
+/// the logs' locations, is dropped. A session that ends in want of memory ends neither the others nor the worker, and the answer is
+/// then `NoMemory`.
+pub fn serve_desk<R: Wait, N: Listener, W: Store, C: Clock, G: Gate, L>(
+    rt: &R,
+    alloc: Global,
+    hub: &Hub,
+    server: &Server,
+    desk: &mut Desk<N, W, C, L>,
+    gate: &G,
+)
+    requires pass { HasPass hub.now desk.old.pass }
+    ensures works { DeskWorks N.coming N.closed N.faults C.coming W.objects W.alone W.faults hub.now server.now desk.old desk.new }
+{
+    let Desk {
+        pass,
+        door,
+        store,
+        clock,
+        steps,
+        end,
+    } = desk;
+    let Some(pass) = pass else { unreachable!() };
+    *end = Some(serve_lines(
+        rt, alloc, hub, server, pass, door, store, clock, steps, gate,
+    ));
+}

@@ -1,0 +1,12 @@
+//! Workers: each serves the connections of a door over its own pass, store and clock, all over one hub.
+#![tactic(auto)]
+
+mod desk;
+mod law;
+mod line;
+mod pool;
+mod refresh;
+
+pub use desk::{Desk, ServeEnd, serve_desk};
+pub use law::works_in_order;
+pub use pool::serve_all;
