@@ -1,0 +1,88 @@
+// A hub with two callers, and its workers. What their calls need is kept in the type, so that the tests' functions have no clauses.
+ghost use Rattle.std.specs.Prelude.{◌≡◌, All, false};
+ghost use Rattle.std.proofs.Props.{props};
+ghost use Rattle.share_pool.specs.Desks.{HasPass};
+
+use crate::outside::{Door, clock};
+use edge_core::{Gate, MemClock, MemStore};
+use share_config::config_of;
+use share_hub::{Hub, HubPass};
+use share_pool::{Desk, ServeEnd, serve_all};
+use share_serve::Server;
+use std::alloc::Global;
+use std::sync::Wait;
+use std::thread::Threads;
+use step_count::Steps;
+
+/// The work of a replay.
+pub(crate) struct Work;
+
+// Keys of 32 bytes each, and the digests of the tokens `admin` and `provider`.
+const CONFIG: &str =
+    "{\"tokenKey\":\"0101010101010101010101010101010101010101010101010101010101010101\",\
+    \"linkKey\":\"0202020202020202020202020202020202020202020202020202020202020202\",\
+    \"adminDigest\":\"8c6976e5b5410415bde908bd4dee15dfb167a9c873fc4bb8a81f6f2ab448a918\",\
+    \"providerDigests\":[\"5c4c1964340aca5b65393bbe9d3249cdd71be26665b3320ad694f034f2743283\"],\
+    \"linkTtlSeconds\":3600,\
+    \"endpoint\":\"http://127.0.0.1:8080/delta-sharing\"}";
+
+/// What a worker works with.
+pub(crate) type Place = Desk<Door, MemStore, MemClock, Work>;
+
+#[derive(Drop)]
+pub(crate) struct Pool {
+    hub: Hub,
+    server: Server,
+    passes: Vec<HubPass>,
+    desks: Vec<Place>,
+    ghost idle: { All (λ p. (p.cell ≡ hub) × (p.holds ≡ false)) passes.items },
+    ghost ready: { All (λ d. HasPass hub d.pass) desks.items } by { Prim.hlevel props },
+}
+
+impl Pool {
+    /// A server of two callers over what the store has, and no worker.
+    pub(crate) fn open(alloc: Global, store: &mut MemStore) -> Option<Pool> {
+        let config = config_of(alloc, CONFIG.as_bytes()).ok()?;
+        let (hub, passes) = Hub::open(alloc, store, 2).ok()?;
+        Some(Pool {
+            hub,
+            server: Server::of(config),
+            passes,
+            desks: Vec::new(alloc),
+        })
+    }
+
+    /// Adds a worker at that door, over that store; at most two.
+    pub(crate) fn add(&mut self, alloc: Global, door: Door, store: MemStore) -> Option<()> {
+        let pass = self.passes.pop()?;
+        let desk = Desk {
+            pass: Some(pass),
+            door,
+            store,
+            clock: clock(alloc),
+            steps: Steps::new(),
+            end: None,
+        };
+        self.desks.push(desk).ok()
+    }
+
+    /// How the workers end, and what they worked with.
+    pub(crate) fn serve<R: Threads + Wait + Sync, G: Gate + Sync>(
+        self,
+        rt: &R,
+        alloc: Global,
+        gate: &G,
+    ) -> Option<(ServeEnd, Vec<Place>)> {
+        let Pool {
+            hub,
+            server,
+            mut desks,
+            ..
+        } = self;
+        if desks.is_empty() {
+            return None;
+        }
+        let end = serve_all(rt, alloc, &hub, &server, desks.as_mut_slice(), gate);
+        Some((end, desks))
+    }
+}
