@@ -17,8 +17,9 @@ use Rattle.share_main.specs.Table.{lines_in}
 use Rattle.share_main.specs.Outside.{Outside}
 use Rattle.share_main.specs.Query.{asked_in}
 use Rattle.share_main.specs.Run.{Because, IsQuery, Answers, Means, Notes, IsRun}
+use Rattle.share_main.specs.Serve.{IsServe}
 use Rattle.share_main.specs.Stdio.{Configures, IsServed, IsStdio, IsUnserved, end_after, end_without}
-use Rattle.share_main.specs.Expected.{Deed, Wanted, deed, answered, configured, refused, queried, done, IsCalm, Fulfils, IsExact, IsExactAlone}
+use Rattle.share_main.specs.Expected.{Deed, Wanted, deed, serve, host, answered, configured, refused, queried, done, IsCalm, Fulfils, IsExact, IsExactAlone}
 use Rattle.share_main.specs.declared.ends.End.{End}
 use Rattle.share_main.specs.declared.ends.End.TheVariants as ends
 use Rattle.share_main.specs.declared.opening.NoServer.{NoServer}
@@ -57,6 +58,7 @@ by_answer : (asked : Option Command) (old new : Outside) (input : List ℕ) (obj
     → Answers asked old new answer → result ≡ (answered answer).status → Notes old new (answered answer).notes → new.held ≡ Some (held ++ (answered answer).output) → DoesAt asked old new input objects held noted result
 by_answer None old new input objects held noted result answer calm grows a st n o = absurd a
 by_answer (Some command.Stdio) old new input objects held noted result answer calm grows a st n o = absurd a
+by_answer (Some (command.Serve port workers)) old new input objects held noted result answer calm grows a st n o = absurd a
 by_answer (Some command.Help) old new input objects held noted result answer calm grows a st n o =
     at_beginning (Some command.Help) old new input objects held noted result calm grows (deed_then old new input objects held noted result (answered answer) _ calm st n o (ap (λ r. deed (answered r)) a))
 by_answer (Some command.Version) old new input objects held noted result answer calm grows a st n o =
@@ -71,6 +73,7 @@ nothing_asked None input objects query none = absurd query
 nothing_asked (Some command.Help) input objects query none = absurd query
 nothing_asked (Some command.Version) input objects query none = absurd query
 nothing_asked (Some command.Stdio) input objects query none = absurd query
+nothing_asked (Some (command.Serve port workers)) input objects query none = absurd query
 nothing_asked (Some (command.Query location)) input objects query none = sym (ap (λ q. deed (queried location q objects)) none)
 
 text_law : (asked : Option Command) (old new : Outside) (end : End) (result : ℕ) (input : List ℕ) (objects : Objects) (held noted : List ℕ) → result ≡ status end → Means asked old new end → Notes old new (note end) → Grows old.objects new.objects
@@ -85,6 +88,7 @@ text_law asked old new (ends.Record number) result input objects held noted st m
 text_law asked old new ends.ReadFault result input objects held noted st m n g calm = absurd (calm.reads m.1)
 text_law asked old new ends.StoreFault result input objects held noted st m n g calm = absurd (calm.stores m.2)
 text_law asked old new ends.WriteFault result input objects held noted st m n g calm = absurd (calm.writes m.0)
+text_law asked old new ends.ListenerFault result input objects held noted st m n g calm = absurd m
 text_law asked old new ends.BodyCut result input objects held noted st m n g calm = absurd m
 text_law asked old new ends.NoMemory result input objects held noted st m n g calm = inl st
 text_law asked old new (ends.Table why) result input objects held noted st m n g calm =
@@ -92,31 +96,48 @@ text_law asked old new (ends.Table why) result input objects held noted st m n g
 text_law asked old new ends.Done result input objects held noted st (text, answers, written) n g calm =
     inr (by_answer asked old new input objects held noted result (Ok text) calm g answers st n (written ∙ ap (λ known. append_known known text) calm.tells_held))
 
--- ---- sessions
+-- ---- servers
+
+-- what is wanted of a server of the configuration that the store has
+abbrev pub WantsServer : Option Command → (Config → Wanted) → Type 0
+WantsServer asked wanted = (input : List ℕ) (objects : Objects) → done asked input objects ≡ configured wanted (config_at objects)
 
 -- what the configuration was at one moment is what is wanted there
-wanted_at : (old new : Outside) (input : List ℕ) (objects : Objects) (held noted : List ℕ) (result : ℕ) (config : Option Config) → IsCalm old new input objects held noted
-    → Configures config old.objects new.objects → Fulfils (configured config) old new result held noted → DoesAt (Some command.Stdio) old new input objects held noted result
-wanted_at old new input objects held noted result config calm found does =
+wanted_at : (asked : Option Command) (wanted : Config → Wanted) (old new : Outside) (input : List ℕ) (objects : Objects) (held noted : List ℕ) (result : ℕ) (config : Option Config) → WantsServer asked wanted → IsCalm old new input objects held noted
+    → Configures config old.objects new.objects → Fulfils (configured wanted config) old new result held noted → DoesAt asked old new input objects held noted result
+wanted_at asked wanted old new input objects held noted result config wants calm found does =
     let (listed, begun, ended, is) = listed_at objects new.objects (λ os. config_at os ≡ config) (subst (λ o. Between o new.objects (λ os. config_at os ≡ config)) calm.tells_objects found) in
-    (listed, begun, ended, subst (λ c. Fulfils (configured c) old new result held noted) (sym is) does)
+    (listed, begun, ended, subst (λ w. Fulfils w old new result held noted) (sym (wants input listed)) (subst (λ c. Fulfils (configured wanted c) old new result held noted) (sym is) does))
 
-unserved_law : (why : NoServer) (old new : Outside) (end : End) (result : ℕ) (input : List ℕ) (objects : Objects) (held noted : List ℕ) → end ≡ end_without why → result ≡ status end → IsUnserved why old new → Notes old new (note end)
-    → IsCalm old new input objects held noted → (result ≡ 6) ⊎ DoesAt (Some command.Stdio) old new input objects held noted result
-unserved_law no_server.Configuration old new end result input objects held noted is st u n calm =
-    inr (wanted_at old new input objects held noted result None calm u.reason
-    (deed_then old new input objects held noted result (refused ends.Configuration) (configured None) calm (st ∙ ap status is) (subst (λ e. Notes old new (note e)) is n) (kept_then old new held calm.tells_held u.held) refl))
-unserved_law (no_server.Record number) old new end result input objects held noted is st u n calm =
-    inr (wanted_at old new input objects held noted result (Some u.reason.0.0) calm u.reason.0.1
-    (record { end = end; cause = inl (number, is, u); told = st; notes = noted_then old new (note end) noted calm.tells_noted calm.note_writes n }))
-unserved_law no_server.StoreFault old new end result input objects held noted is st u n calm = absurd (calm.stores u.reason)
-unserved_law no_server.NoMemory old new end result input objects held noted is st u n calm = inl (st ∙ ap status is)
+-- a record that is refused fulfils what is wanted of a server
+abbrev pub TakesRefusal : (Config → Wanted) → Type 0
+TakesRefusal wanted = (config : Config) (old new : Outside) (result : ℕ) (held noted : List ℕ) (end : End) (number : ℕ) → end ≡ ends.Record number → IsUnserved (no_server.Record number) old new → result ≡ status end → new.noted ≡ Some (noted ++ note end)
+    → Fulfils (wanted config) old new result held noted
+
+unserved_law : (asked : Option Command) (wanted : Config → Wanted) (why : NoServer) (old new : Outside) (end : End) (result : ℕ) (input : List ℕ) (objects : Objects) (held noted : List ℕ) → WantsServer asked wanted → TakesRefusal wanted → end ≡ end_without why → result ≡ status end
+    → IsUnserved why old new → Notes old new (note end) → IsCalm old new input objects held noted → (result ≡ 6) ⊎ DoesAt asked old new input objects held noted result
+unserved_law asked wanted no_server.Configuration old new end result input objects held noted wants takes is st u n calm =
+    inr (wanted_at asked wanted old new input objects held noted result None wants calm u.reason
+    (deed_then old new input objects held noted result (refused ends.Configuration) (configured wanted None) calm (st ∙ ap status is) (subst (λ e. Notes old new (note e)) is n) (kept_then old new held calm.tells_held u.held) refl))
+unserved_law asked wanted (no_server.Record number) old new end result input objects held noted wants takes is st u n calm =
+    inr (wanted_at asked wanted old new input objects held noted result (Some u.reason.0.0) wants calm u.reason.0.1
+    (takes u.reason.0.0 old new result held noted end number is u st (noted_then old new (note end) noted calm.tells_noted calm.note_writes n)))
+unserved_law asked wanted no_server.StoreFault old new end result input objects held noted wants takes is st u n calm = absurd (calm.stores u.reason)
+unserved_law asked wanted no_server.NoMemory old new end result input objects held noted wants takes is st u n calm = inl (st ∙ ap status is)
+
+-- ---- sessions
+
+one_wanted : WantsServer (Some command.Stdio) serve
+one_wanted = λ input objects. refl
+
+one_refused : TakesRefusal serve
+one_refused = λ config old new result held noted end number is u st n. record { end = end; cause = inl (number, is, u); told = st; notes = n }
 
 -- a session that ended without a fault
 served_well : (config : Config) (e : SessionEnd) (old new : Outside) (end : End) (result : ℕ) (input : List ℕ) (objects : Objects) (held noted : List ℕ) → end ≡ end_after e → result ≡ status end → IsServed config e old new → Notes old new (note end)
     → IsCalm old new input objects held noted → DoesAt (Some command.Stdio) old new input objects held noted result
 served_well config e old new end result input objects held noted is st s n calm =
-    wanted_at old new input objects held noted result (Some config) calm (s.configured.0, s.configured.1, Grows-on s.configured.0 s.begun.objects new.objects s.configured.2 s.grew.objects, s.configured.3)
+    wanted_at (Some command.Stdio) serve old new input objects held noted result (Some config) one_wanted calm (s.configured.0, s.configured.1, Grows-on s.configured.0 s.begun.objects new.objects s.configured.2 s.grew.objects, s.configured.3)
     (record { end = end; cause = inr (e, is, s); told = st; notes = noted_then old new (note end) noted calm.tells_noted calm.note_writes n })
 
 cut_never : (old new : Outside) (input : List ℕ) (objects : Objects) (held noted : List ℕ) → IsCalm old new input objects held noted → IfSome old.objects (λ _. Rose old.store_faults new.store_faults) → ⊥
@@ -132,8 +153,24 @@ served_law config e old new end result input objects held noted is st s n calm =
 
 stdio_law : (old new : Outside) (end : End) (result : ℕ) (input : List ℕ) (objects : Objects) (held noted : List ℕ) → result ≡ status end → IsStdio old new end → Notes old new (note end)
     → IsCalm old new input objects held noted → (result ≡ 6) ⊎ DoesAt (Some command.Stdio) old new input objects held noted result
-stdio_law old new end result input objects held noted st (inl (why, is, u)) n calm = unserved_law why old new end result input objects held noted is st u n calm
+stdio_law old new end result input objects held noted st (inl (why, is, u)) n calm = unserved_law (Some command.Stdio) serve why old new end result input objects held noted one_wanted one_refused is st u n calm
 stdio_law old new end result input objects held noted st (inr (e, is, (config, s))) n calm = served_law config e old new end result input objects held noted is st s n calm
+
+-- ---- workers
+
+many_wanted : (port workers : ℕ) → WantsServer (Some (command.Serve port workers)) host
+many_wanted port workers = λ input objects. refl
+
+many_refused : TakesRefusal host
+many_refused = λ config old new result held noted end number is u st n. record { end = end; cause = inl (number, is, u); told = st; notes = n }
+
+serve_law : (port workers : ℕ) (old new : Outside) (end : End) (result : ℕ) (input : List ℕ) (objects : Objects) (held noted : List ℕ) → result ≡ status end → IsServe old new end → Notes old new (note end)
+    → IsCalm old new input objects held noted → (result ≡ 6) ⊎ DoesAt (Some (command.Serve port workers)) old new input objects held noted result
+serve_law port workers old new end result input objects held noted st (inl (why, is, u)) n calm =
+    unserved_law (Some (command.Serve port workers)) host why old new end result input objects held noted (many_wanted port workers) many_refused is st u n calm
+serve_law port workers old new end result input objects held noted st (inr (e, is, (config, found, o))) n calm =
+    inr (wanted_at (Some (command.Serve port workers)) host old new input objects held noted result (Some config) (many_wanted port workers) calm o.configured
+    (record { end = end; cause = inr (e, is, (found, o)); told = st; notes = noted_then old new (note end) noted calm.tells_noted calm.note_writes n }))
 
 -- ---- every command
 
@@ -144,6 +181,7 @@ law_at (Some command.Help) old new end result input objects held noted st m n g 
 law_at (Some command.Version) old new end result input objects held noted st m n g calm = text_law (Some command.Version) old new end result input objects held noted st m n g calm
 law_at (Some (command.Query location)) old new end result input objects held noted st m n g calm = text_law (Some (command.Query location)) old new end result input objects held noted st m n g calm
 law_at (Some command.Stdio) old new end result input objects held noted st m n g calm = stdio_law old new end result input objects held noted st m n calm
+law_at (Some (command.Serve port workers)) old new end result input objects held noted st m n g calm = serve_law port workers old new end result input objects held noted st m n calm
 
 pub exact_law : (words : List (String Global)) (old new : Outside) (end : End) (result : ℕ) → result ≡ status end → IsRun (command_in words) old new end → IsExact words old new result
 exact_law words old new end result st run = λ input objects held noted calm. law_at (command_in words) old new end result input objects held noted st run.means run.notes run.grows calm

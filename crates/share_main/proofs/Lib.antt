@@ -5,3 +5,6 @@ mod Laws
 mod Tables
 pub mod Queries
 pub mod Serving
+pub mod Numbers
+pub mod Seating
+mod Hosting

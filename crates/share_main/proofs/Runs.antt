@@ -1,10 +1,11 @@
 -- From the parts of a run to the whole.
-use Rattle.std.proofs.Common.{◌≡◌, ℕ, List, Option, Some, None, sym, ap, ◌∙◌, subst, Result, Ok, Err, inl, inr}
+use Rattle.std.proofs.Common.{◌≡◌, ℕ, List, Option, Some, None, Bool, true, false, refl, sym, ap, ◌∙◌, subst, Result, Ok, Err, inl, inr}
 use Rattle.std.specs.Prelude.{take}
 use Rattle.std.specs.Bool.{OnFalse, OnTrue}
 use Rattle.std.specs.Io.KnownBytes.{append_known}
 use Rattle.edge_core.specs.Faults.{Rose}
 use Rattle.edge_core.specs.Objects.{Grows, Between}
+use Rattle.edge_core.proofs.Growth.{Grows-itself}
 use Rattle.share_main.specs.declared.ends.TableRefusal.{TableRefusal}
 use Rattle.share_main.specs.Ends.{note}
 use Rattle.share_main.specs.Table.{lines_in}
@@ -12,7 +13,12 @@ use Rattle.share_main.specs.Outside.{Outside}
 use Rattle.share_main.specs.Query.{IsReadToEnd}
 use Rattle.share_main.specs.Run.{Answers, Because, Means, Notes, IsRun, is_stdio}
 use Rattle.share_main.specs.Steps.{LeavesRest, Found, Prints, Runs, Tells}
-use Rattle.share_main.specs.Stdio.{IsStdio}
+use Rattle.share_config.specs.declared.config.Config.{Config}
+use Rattle.share_hub.specs.CatalogCalls.{Step}
+use Rattle.share_main.specs.Serve.{IsServe, OpensServer}
+use Rattle.share_main.specs.Stdio.{IsStdio, IsUnserved}
+use Rattle.share_main.specs.declared.opening.NoServer.{NoServer}
+use Rattle.share_main.specs.declared.opening.NoServer.TheVariants as no_server
 use Rattle.share_main.specs.declared.ends.End.{End}
 use Rattle.share_main.specs.declared.ends.End.TheVariants as ends
 use Rattle.share_main.specs.declared.words.Command.{Command}
@@ -36,6 +42,7 @@ answers_rest None old mid new answer left objects a = absurd a
 answers_rest (Some command.Help) old mid new answer left objects a = a
 answers_rest (Some command.Version) old mid new answer left objects a = a
 answers_rest (Some command.Stdio) old mid new answer left objects a = absurd a
+answers_rest (Some (command.Serve port workers)) old mid new answer left objects a = absurd a
 answers_rest (Some (command.Query location)) old mid new answer left objects (query, asks, end, between) =
     (query, asks, subst (IsReadToEnd old.left) left end, subst (λ o. Between old.objects o (λ os. lines_in location query os ≡ answer)) objects between)
 
@@ -75,6 +82,7 @@ means_then asked old mid new ends.Input same m = (m.0, m.1, subst (λ h. h ≡ o
 means_then asked old mid new ends.ReadFault same m = (m.0, subst (Rose old.read_faults) same.reads m.1, subst (λ h. h ≡ old.held) same.held m.2)
 means_then asked old mid new ends.Configuration same m = absurd m
 means_then asked old mid new (ends.Record number) same m = absurd m
+means_then asked old mid new ends.ListenerFault same m = absurd m
 means_then asked old mid new ends.BodyCut same m = absurd m
 means_then asked old mid new (ends.Table why) same m = (answers_then asked old mid new (Err why) same m.0, subst (λ h. h ≡ old.held) same.held m.1)
 means_then asked old mid new ends.StoreFault same m = (m.0, m.1, subst (Rose old.store_faults) same.stores m.2, subst (λ h. h ≡ old.held) same.held m.3)
@@ -97,12 +105,30 @@ stdio_noted old mid noted faults end (inr (e, is, (config, s))) =
 stdio_then : (old mid new : Outside) (text : List ℕ) (end : End) → Tells mid new text → IsStdio old mid end → IsStdio old new end
 stdio_then old mid new text end tells m = subst (λ o. IsStdio old o end) (sym tells.rest) (stdio_noted old mid new.noted new.note_faults end m)
 
+-- and so does the opening of a server
+unserved_noted : (why : NoServer) (old mid : Outside) (noted : Option (List ℕ)) (faults : ℕ) → IsUnserved why old mid → IsUnserved why old (record mid { noted = noted; note_faults = faults })
+unserved_noted why old mid noted faults u = record { reason = u.reason; left = u.left; held = u.held; coming = u.coming; same = u.same }
+
+opens_noted : (config : Config) (found : List Step) (old mid : Outside) (noted : Option (List ℕ)) (faults : ℕ) → OpensServer config found old mid → OpensServer config found old (record mid { noted = noted; note_faults = faults })
+opens_noted config found old mid noted faults o = record { looked = o.looked; configured = o.configured; steps = o.steps; last = o.last; left = o.left; held = o.held; coming = o.coming }
+
+pub unserved_told : (why : NoServer) (old mid new : Outside) (text : List ℕ) → Tells mid new text → IsUnserved why old mid → IsUnserved why old new
+unserved_told why old mid new text tells u = subst (λ o. IsUnserved why old o) (sym tells.rest) (unserved_noted why old mid new.noted new.note_faults u)
+
+pub opens_told : (config : Config) (found : List Step) (old mid new : Outside) (text : List ℕ) → Tells mid new text → OpensServer config found old mid → OpensServer config found old new
+opens_told config found old mid new text tells o = subst (λ z. OpensServer config found old z) (sym tells.rest) (opens_noted config found old mid new.noted new.note_faults o)
+
+serve_then : (old mid new : Outside) (text : List ℕ) (end : End) → Tells mid new text → IsServe old mid end → IsServe old new end
+serve_then old mid new text end tells (inl (why, is, u)) = inl (why, is, unserved_told why old mid new text tells u)
+serve_then old mid new text end tells (inr (e, is, (config, found, o))) = inr (e, is, (config, found, opens_told config found old mid new text tells o))
+
 because_then : (asked : Option Command) (old mid new : Outside) (text : List ℕ) (end : End) → Tells mid new text → Because asked old mid end → Because asked old new end
 because_then None old mid new text end tells m = means_then None old mid new end (same_causes mid new text tells) m
 because_then (Some command.Help) old mid new text end tells m = means_then (Some command.Help) old mid new end (same_causes mid new text tells) m
 because_then (Some command.Version) old mid new text end tells m = means_then (Some command.Version) old mid new end (same_causes mid new text tells) m
 because_then (Some (command.Query location)) old mid new text end tells m = means_then (Some (command.Query location)) old mid new end (same_causes mid new text tells) m
 because_then (Some command.Stdio) old mid new text end tells m = stdio_then old mid new text end tells m
+because_then (Some (command.Serve port workers)) old mid new text end tells m = serve_then old mid new text end tells m
 
 pub told_runs : (asked : Option Command) (old mid new : Outside) (end : End) → Runs asked old mid end → Tells mid new (note end) → IsRun asked old new end
 told_runs asked old mid new end runs tells =
@@ -113,3 +139,33 @@ told_runs asked old mid new end runs tells =
       grows = subst (λ o. Grows old.objects o) objects runs.grows;
       same = subst (λ o. OnFalse (is_stdio asked) (OnTrue old.alone (o ≡ old.objects))) objects runs.same;
     }
+
+-- ---- want of memory before anything was done
+
+on_true : {X : Type 0} (b : Bool) (x : X) → OnTrue b (x ≡ x)
+on_true true x = refl
+on_true false x = tt
+
+on_false : (b : Bool) (A : Type 0) → A → OnFalse b A
+on_false true A a = tt
+on_false false A a = a
+
+pub unserved_still : (o : Outside) → IsUnserved no_server.NoMemory o o
+unserved_still o = record { reason = tt; left = refl; held = refl; coming = refl; same = on_true o.alone o.objects }
+
+because_still : (asked : Option Command) (o : Outside) → Because asked o o ends.NoMemory
+because_still None o = refl
+because_still (Some command.Help) o = refl
+because_still (Some command.Version) o = refl
+because_still (Some (command.Query location)) o = refl
+because_still (Some command.Stdio) o = inl (no_server.NoMemory, refl, unserved_still o)
+because_still (Some (command.Serve port workers)) o = inl (no_server.NoMemory, refl, unserved_still o)
+
+pub runs_still : (asked : Option Command) (o : Outside) → Runs asked o o ends.NoMemory
+runs_still asked o = record {
+  means = because_still asked o;
+  notes = refl;
+  note_faults = refl;
+  grows = Grows-itself o.objects;
+  same = on_false (is_stdio asked) (OnTrue o.alone (o.objects ≡ o.objects)) (on_true o.alone o.objects);
+}

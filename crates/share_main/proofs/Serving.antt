@@ -17,6 +17,7 @@ use Rattle.log_store.specs.declared.refusal.LoadRefusal.TheVariants as load
 use Rattle.catalog_log.specs.RecordNames.{record_name_of}
 use Rattle.share_config.specs.Configuration.{config_in}
 use Rattle.share_config.specs.declared.config.Config.{Config}
+use Rattle.share_book.specs.declared.entry.Entry.{Entry}
 use Rattle.share_hub.specs.Calls.{P}
 use Rattle.share_hub.specs.CatalogCalls.{Step}
 use Rattle.share_hub.specs.Edits.{AreSteps}
@@ -34,7 +35,7 @@ use Rattle.share_main.specs.Configuration.{config_at, config_name, config_of, if
 use Rattle.share_main.specs.Outside.{Outside}
 use Rattle.share_main.specs.Steps.{Runs}
 use Rattle.share_main.specs.Stdio.{Configures, HasReason, Opens, RefusesRecord, end_after, end_without, record_in, shelf_of}
-use Rattle.share_main.specs.StdioSteps.{LooksOnly, ServesOne, without_hub, without_load}
+use Rattle.share_main.specs.StdioSteps.{LooksOnly, OpensFor, ServesOne, without_hub, without_load}
 use Rattle.share_main.specs.declared.opening.NoServer.{NoServer}
 use Rattle.share_main.specs.declared.words.Command.TheVariants as command
 
@@ -106,16 +107,26 @@ hub_reason (refusal.Edit number fault) config old mid new before between now fir
 hub_reason refusal.StoreFault config old mid new before between now first last found le cause opens = later_rose before between now le cause.rose
 hub_reason refusal.NoMemory config old mid new before between now first last found le cause opens = tt
 
--- the one pass of a hub that was opened is new
-pub opens_one : (cell : TableId) (found : List Step) (passes : List P) (pass : P) (old mid new : Option Objects) → passes ≡ pass ∷ [] → AllFresh cell (first_history found) 0 passes → Grows old mid → AreSteps mid new 0 found → Lacks (record_name_of (length found)) new
-    → Opens pass old new
-opens_one cell found passes pass old mid new one all grows steps lacks =
-    let is : pass ≡ fresh cell 0 (first_history found) = (subst (AllFresh cell (first_history found) 0) one all).0 in
-    record { found = found; begins = subst (λ c. pass ≡ fresh c 0 (first_history found)) (sym (ap (λ p. p.cell) is)) is; steps = steps_wider old mid new new 0 found grows (Grows-itself new) steps; last = lacks }
+-- the passes of a hub that was opened are new
+pub opens_for : (cell : TableId) (found : List Step) (passes : List P) (callers : ℕ) (old mid new : Option Objects) → length passes ≡ callers → AllFresh cell (first_history found) 0 passes → Grows old mid → AreSteps mid new 0 found → Lacks (record_name_of (length found)) new
+    → OpensFor callers cell passes old new
+opens_for cell found passes callers old mid new count all grows steps lacks =
+    record { count = count; found = found; begin = all; steps = steps_wider old mid new new 0 found grows (Grows-itself new) steps; last = lacks }
 
-pub idle_one : (cell : TableId) (found : List Step) (passes : List P) (pass : P) → passes ≡ pass ∷ [] → AllFresh cell (first_history found) 0 passes → (pass.cell ≡ cell) × (pass.holds ≡ false)
-idle_one cell found passes pass one all =
-    let is : pass ≡ fresh cell 0 (first_history found) = (subst (AllFresh cell (first_history found) 0) one all).0 in
+-- one caller's pass is
+pub opens_one : (cell : TableId) (passes : List P) (pass : P) (old new : Option Objects) → passes ≡ pass ∷ [] → OpensFor 1 cell passes old new → Opens pass old new
+opens_one cell passes pass old new one opens =
+    let is : pass ≡ fresh cell 0 (first_history opens.found) = (subst (AllFresh cell (first_history opens.found) 0) one opens.begin).0 in
+    record { found = opens.found; begins = subst (λ c. pass ≡ fresh c 0 (first_history opens.found)) (sym (ap (λ p. p.cell) is)) is; steps = opens.steps; last = opens.last }
+
+pub one_of : (passes : List P) → length passes ≡ 1 → (pass : P) × (passes ≡ pass ∷ [])
+one_of [] count = absurd cc
+one_of (p ∷ []) count = (p, refl)
+one_of (p ∷ q ∷ ps) count = absurd (omega (arith, count))
+
+pub idle_one : (cell : TableId) (history : List Entry) (passes : List P) (pass : P) → passes ≡ pass ∷ [] → AllFresh cell history 0 passes → (pass.cell ≡ cell) × (pass.holds ≡ false)
+idle_one cell history passes pass one all =
+    let is : pass ≡ fresh cell 0 history = (subst (AllFresh cell history 0) one all).0 in
     (ap (λ p. p.cell) is, ap (λ p. p.holds) is)
 
 -- ---- a session

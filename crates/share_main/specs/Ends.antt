@@ -27,6 +27,7 @@ status (ends.Table why) = table_status why
 status ends.ReadFault = 5
 status ends.StoreFault = 5
 status ends.WriteFault = 5
+status ends.ListenerFault = 5
 status ends.BodyCut = 5
 status ends.NoMemory = 6
 
@@ -50,6 +51,7 @@ note (ends.Table why) = table_note why
 note ends.ReadFault = codes "share: read fault\n"
 note ends.StoreFault = codes "share: store fault\n"
 note ends.WriteFault = codes "share: write fault\n"
+note ends.ListenerFault = codes "share: listener fault\n"
 note ends.BodyCut = codes "share: body cut\n"
 note ends.NoMemory = codes "share: memory\n"
 

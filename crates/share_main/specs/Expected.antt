@@ -9,7 +9,10 @@ use Rattle.share_main.specs.Configuration.{config_at}
 use Rattle.share_main.specs.Words.{command_in}
 use Rattle.share_main.specs.Ends.{status, note}
 use Rattle.share_main.specs.Query.{asked_in}
+use Rattle.share_hub.specs.CatalogCalls.{Step}
+use Rattle.share_main.specs.Serve.{OpensServer, end_of}
 use Rattle.share_main.specs.Stdio.{IsServed, IsUnserved, end_after}
+use Rattle.share_pool.specs.declared.desk.ServeEnd.{ServeEnd}
 use Rattle.share_main.specs.Table.{lines_in}
 use Rattle.share_request.specs.declared.query.QueryBody.{QueryBody}
 use Rattle.share_serve.specs.declared.serve.SessionEnd.{SessionEnd}
@@ -27,10 +30,11 @@ pub record Deed : Type 0 where
   pub notes : List ℕ
   pub output : List ℕ
 
--- A deed, or that a server of this configuration is opened and serves, which rests on the clock and on others too.
+-- A deed; or that a server of this configuration is opened, and serves one connection, or has workers serve. These rest on the clock and on others too.
 pub data Wanted : Type 0 where
   deed : Deed → Wanted
   serve : Config → Wanted
+  host : Config → Wanted
 
 abbrev pub printed : List ℕ → Deed
 printed text = record { status = 0; notes = []; output = text }
@@ -46,16 +50,17 @@ abbrev pub queried : List ℕ → Option QueryBody → Objects → Deed
 queried location (Some query) objects = answered (lines_in location query objects)
 queried location None objects = refused ends.Input
 
-abbrev pub configured : Option Config → Wanted
-configured (Some config) = serve config
-configured None = deed (refused ends.Configuration)
+abbrev pub configured : (Config → Wanted) → Option Config → Wanted
+configured wanted (Some config) = wanted config
+configured wanted None = deed (refused ends.Configuration)
 
 abbrev pub done : Option Command → List ℕ → Objects → Wanted
 done None input objects = deed (refused ends.Words)
 done (Some command.Help) input objects = deed (printed HELP.now)
 done (Some command.Version) input objects = deed (printed VERSION.now)
 done (Some (command.Query location)) input objects = deed (queried location (asked_in input) objects)
-done (Some command.Stdio) input objects = configured (config_at objects)
+done (Some command.Stdio) input objects = configured serve (config_at objects)
+done (Some (command.Serve port workers)) input objects = configured host (config_at objects)
 
 abbrev pub expected : List (String Global) → List ℕ → Objects → Wanted
 expected words input objects = done (command_in words) input objects
@@ -77,20 +82,26 @@ pub record Does (new : Outside) (result : ℕ) (held noted : List ℕ) (d : Deed
   pub notes : new.noted ≡ Some (noted ++ d.notes)
   pub output : new.held ≡ Some (held ++ d.output)
 
+-- a record of the catalogue was refused, or a server was opened whose workers ended
+abbrev pub HostsBy : Config → Outside → Outside → End → Type 0
+HostsBy config old new end =
+    ((number : ℕ) × (end ≡ ends.Record number) × IsUnserved (no_server.Record number) old new) ⊎ ((e : ServeEnd) × (end ≡ end_of e) × ((found : List Step) × OpensServer config found old new))
+
 -- a record of the catalogue was refused, or a session was served to its end
 abbrev pub ServesBy : Config → Outside → Outside → End → Type 0
 ServesBy config old new end = ((number : ℕ) × (end ≡ ends.Record number) × IsUnserved (no_server.Record number) old new) ⊎ ((e : SessionEnd) × (end ≡ end_after e) × IsServed config e old new)
 
 -- Status and notes are those of the end, and the end has its cause.
-pub record Serves (config : Config) (old new : Outside) (result : ℕ) (noted : List ℕ) : Type 0 where
+pub record EndsBy (Cause : Outside → Outside → End → Type 0) (old new : Outside) (result : ℕ) (noted : List ℕ) : Type 0 where
   pub end : End
-  pub cause : ServesBy config old new end
+  pub cause : Cause old new end
   pub told : result ≡ status end
   pub notes : new.noted ≡ Some (noted ++ note end)
 
 abbrev pub Fulfils : Wanted → Outside → Outside → ℕ → (held noted : List ℕ) → Type 0
 Fulfils (deed d) old new result held noted = Does new result held noted d
-Fulfils (serve config) old new result held noted = Serves config old new result noted
+Fulfils (serve config) old new result held noted = EndsBy (ServesBy config) old new result noted
+Fulfils (host config) old new result held noted = EndsBy (HostsBy config) old new result noted
 
 -- Where memory sufficed, the run does what is expected over the objects of one moment of the call.
 abbrev pub IsExact : List (String Global) → Outside → Outside → ℕ → Type 0

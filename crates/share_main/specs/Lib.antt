@@ -7,6 +7,7 @@ pub mod Outside
 pub mod Configuration
 pub mod Stdio
 pub mod StdioSteps
+pub mod Serve
 pub mod Run
 pub mod Steps
 pub mod Expected

@@ -8,6 +8,7 @@ use Rattle.share_main.specs.declared.ends.TableRefusal.{TableRefusal}
 use Rattle.share_main.specs.Ends.{note}
 use Rattle.share_main.specs.Outside.{Outside}
 use Rattle.share_main.specs.Query.{IsReadToEnd, asked_in}
+use Rattle.share_main.specs.Serve.{IsServe}
 use Rattle.share_main.specs.Stdio.{IsStdio}
 use Rattle.share_main.specs.Table.{lines_in}
 use Rattle.share_request.specs.declared.query.QueryBody.{QueryBody}
@@ -41,6 +42,7 @@ IsQuery (Some command.Help) = ⊥
 IsQuery (Some command.Version) = ⊥
 IsQuery (Some (command.Query location)) = ⊤
 IsQuery (Some command.Stdio) = ⊥
+IsQuery (Some (command.Serve port workers)) = ⊥
 
 -- What the command is answered, which is one text. A query, whose input is then read to its end, is answered the lines of the table as the store was at one moment of the call, or why there are none.
 abbrev pub Answers : Option Command → Outside → Outside → Result (List ℕ) TableRefusal → Type 0
@@ -49,6 +51,7 @@ Answers (Some command.Help) old new answer = answer ≡ Ok HELP.now
 Answers (Some command.Version) old new answer = answer ≡ Ok VERSION.now
 Answers (Some (command.Query location)) old new answer = (query : QueryBody) × Asks old query × IsReadToEnd old.left new.left × Between old.objects new.objects (λ objects. lines_in location query objects ≡ answer)
 Answers (Some command.Stdio) old new answer = ⊥
+Answers (Some (command.Serve port workers)) old new answer = ⊥
 
 -- Why a run of a command that is answered one text ends so, and what it has written to the output then. Want of memory needs no cause.
 abbrev pub Means : Option Command → Outside → Outside → End → Type 0
@@ -60,6 +63,7 @@ Means asked old new (ends.Record number) = ⊥
 Means asked old new (ends.Table why) = Answers asked old new (Err why) × WritesNothing old new
 Means asked old new ends.StoreFault = IsQuery asked × ((query : QueryBody) × Asks old query) × Rose old.store_faults new.store_faults × WritesNothing old new
 Means asked old new ends.WriteFault = Rose old.write_faults new.write_faults × ((text : List ℕ) × Answers asked old new (Ok text) × ((n : ℕ) × Writes old new (take n text)))
+Means asked old new ends.ListenerFault = ⊥
 Means asked old new ends.BodyCut = ⊥
 Means asked old new ends.NoMemory = WritesNothing old new
 Means asked old new ends.Done = (text : List ℕ) × Answers asked old new (Ok text) × Writes old new text
@@ -70,12 +74,21 @@ is_stdio (Some command.Help) = false
 is_stdio (Some command.Version) = false
 is_stdio (Some (command.Query location)) = false
 is_stdio (Some command.Stdio) = true
+is_stdio (Some (command.Serve port workers)) = false
+
+abbrev pub is_serve : Option Command → Bool
+is_serve None = false
+is_serve (Some command.Help) = false
+is_serve (Some command.Version) = false
+is_serve (Some (command.Query location)) = false
+is_serve (Some command.Stdio) = false
+is_serve (Some (command.Serve port workers)) = true
 
 -- why a run of the command ends so, and what it did
 abbrev pub Because : Option Command → Outside → Outside → End → Type 0
-Because asked old new end = MatchBool (is_stdio asked) (IsStdio old new end) (Means asked old new end)
+Because asked old new end = MatchBool (is_stdio asked) (IsStdio old new end) (MatchBool (is_serve asked) (IsServe old new end) (Means asked old new end))
 
--- One run of the command: why it ended so, what it noted, and that nothing was stored but by a session.
+-- One run of the command: why it ended so, what it noted, and that nothing was stored but by a session. What workers store they store by their desks' stores.
 pub record IsRun (asked : Option Command) (old new : Outside) (end : End) : Type 0 where
   pub means : Because asked old new end
   pub notes : Notes old new (note end)

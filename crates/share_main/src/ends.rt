@@ -48,6 +48,8 @@ pub enum End {
     StoreFault,
     /// Status 5: a write to the output failed.
     WriteFault,
+    /// Status 5: the port can't be opened, or the listener at it failed.
+    ListenerFault,
     /// Status 5: the bytes of an object ended early behind the head of their response.
     BodyCut,
     /// Status 6: want of memory.
@@ -98,7 +100,11 @@ impl End {
             End::Words => 2,
             End::Input | End::Configuration | End::Record { .. } => 3,
             End::Table(why) => why.status(),
-            End::ReadFault | End::StoreFault | End::WriteFault | End::BodyCut => 5,
+            End::ReadFault
+            | End::StoreFault
+            | End::WriteFault
+            | End::ListenerFault
+            | End::BodyCut => 5,
             End::NoMemory => 6,
         }
     }
@@ -117,6 +123,7 @@ impl End {
             End::ReadFault => Some(Note::plain("share: read fault")),
             End::StoreFault => Some(Note::plain("share: store fault")),
             End::WriteFault => Some(Note::plain("share: write fault")),
+            End::ListenerFault => Some(Note::plain("share: listener fault")),
             End::BodyCut => Some(Note::plain("share: body cut")),
             End::NoMemory => Some(Note::plain("share: memory")),
         }

@@ -1,5 +1,5 @@
 // What a server begins with, read from the store: its configuration, and the hub over the catalogue's records.
-ghost use Rattle.std.specs.Prelude.{◌≡◌, ◌∷◌, [], ◌≤◌, ◌^◌, List, ℕ, Option, Ok, false, IfOk, IfSome, length, option_and_then};
+ghost use Rattle.std.specs.Prelude.{◌≡◌, ◌≤◌, ◌^◌, List, ℕ, Option, Ok, false, IfOk, IfSome, option_and_then};
 ghost use Rattle.edge_core.specs.Faults.{Cause};
 ghost use Rattle.log_store.specs.Loads.{IsFetched, Looked};
 ghost use Rattle.log_store.specs.Refusals.{failed_load};
@@ -58,12 +58,12 @@ impl From<OpenRefusal> for NoServer {
     }
 }
 
-/// A server that is opened: what it answers by, its hub, and the place of its one caller there.
+/// A server that is opened: what it answers by, its hub, and the places of its callers there.
 #[derive(Drop)]
 pub struct Opened {
     pub server: Server,
     pub hub: Hub,
-    pub pass: HubPass,
+    pub passes: Vec<HubPass>,
 }
 
 // The name of the configuration's object.
@@ -112,31 +112,20 @@ fn stored_config<W: Store>(alloc: Global, store: &mut W) -> Result<Option<Config
     }
 }
 
-// The one pass of a hub with one caller.
-fn only(mut passes: Vec<HubPass>) -> HubPass
-    requires { length passes.items ≡ 1 }
-    ensures { passes.items ≡ result ∷ [] }
-{
-    match passes.pop() {
-        Some(pass) => pass,
-        None => unreachable!(),
-    }
-}
-
-/// Opens a server over a store: the configuration is read first, then the records. Nothing is stored.
-pub fn open_server<W: Store>(alloc: Global, store: &mut W) -> Result<Opened, NoServer>
-    ensures idle { IfOk result (λ o. (o.pass.cell ≡ o.hub) × (o.pass.holds ≡ false)) }
-    ensures opened { IsOpened result (W.objects store.old) (W.objects store.new) (W.faults store.old) (W.faults store.new) }
+/// Opens a server for so many callers over a store: the configuration is read first, then the records. Nothing is stored.
+pub fn open_server<W: Store>(alloc: Global, store: &mut W, callers: u32) -> Result<Opened, NoServer>
+    requires callers { (1 ≤ callers) × (callers ≤ 65) }
+    ensures opened { IsOpened result callers (W.objects store.old) (W.objects store.new) (W.faults store.old) (W.faults store.new) }
     ensures looked { Looked (W.objects store.old) (W.objects store.new) (W.alone store.old) (W.alone store.new) }
     ensures later { W.faults store.old ≤ W.faults store.new }
 {
     let Some(config) = stored_config(alloc, store)? else {
         return Err(NoServer::Configuration);
     };
-    let (hub, passes) = Hub::open(alloc, store, 1)?;
+    let (hub, passes) = Hub::open(alloc, store, callers)?;
     Ok(Opened {
         server: Server::of(config),
         hub,
-        pass: only(passes),
+        passes,
     })
 }

@@ -1,22 +1,25 @@
 // The commands.
-ghost use Rattle.std.specs.Prelude.{◌≡◌, ◌≤◌, ◌++◌, length, codes, decimal, Some};
+ghost use Rattle.std.specs.Prelude.{◌≡◌, ◌≤◌, ◌++◌, ℕ, length, codes, decimal, Some};
 ghost use Rattle.share_main.specs.Ends.{note, note_line, status};
 ghost use Rattle.share_main.specs.Expected.{IsExact, IsExactAlone};
 ghost use Rattle.share_main.specs.Run.{IsRun};
+ghost use Rattle.share_main.specs.Serve.{UsesDesks};
 ghost use Rattle.share_main.specs.Steps.{Finds, Prints, Runs, Tells, Wrote};
 ghost use Rattle.share_main.specs.Words.{command_in};
 ghost use Rattle.share_main.specs.declared.ends.End.{End};
 ghost use Rattle.share_main.specs.declared.ends.End.TheVariants as ends;
-ghost use Rattle.share_main.specs.declared.words.Command.TheVariants.{Query};
+ghost use Rattle.share_main.specs.declared.words.Command.TheVariants.{Query, Serve};
 
 use crate::edge::Edge;
 use crate::ends::{End, Note};
 use crate::input::asked;
+use crate::serve::serve;
 use crate::stdio::stdio;
 use crate::table::{LinesFault, table_lines};
 use crate::words::{Command, HELP, VERSION, command_of};
-use edge_core::{Clock, Flushing, Gate, Name, Sink, Source, Store, write_all};
+use edge_core::{Clock, Flushing, Gate, Listener, Name, Sink, Source, Store, write_all};
 use itoa::Buffer;
+use share_pool::Desk;
 use std::alloc::Global;
 use std::sync::Wait;
 use std::thread::Threads;
@@ -132,19 +135,33 @@ fn query<S: Source, K: Sink, M: Sink, W: Store, C: Clock, G: Gate, L>(
 }
 
 // Runs a command, up to the notes.
-fn answer<R: Wait, S: Source, K: Sink, M: Sink, W: Store, C: Clock, G: Gate, L>(
+fn answer<
+    R: Threads + Wait + Sync,
+    S: Source,
+    K: Sink,
+    M: Sink,
+    W: Store + Send,
+    C: Clock + Send,
+    N: Listener + Send,
+    G: Gate + Sync,
+    L: Send,
+>(
     rt: &R,
     alloc: Global,
     command: Option<Command>,
     edge: &mut Edge<S, K, M, W, C, G, L>,
+    desks: &mut [Desk<N, W, C, L>],
 ) -> End
-    ensures { Runs command edge.old edge.new result }
+    requires workers { (port workers : ℕ) → command ≡ Some (Serve port workers) → (1 ≤ workers) × (workers ≤ 64) }
+    ensures runs { Runs command edge.old edge.new result }
+    ensures desks { UsesDesks N.coming N.closed N.faults C.coming W.objects W.alone W.faults command edge.old edge.new result desks.old desks.new }
 {
     match command {
         Some(Command::Help) => print(edge, HELP.as_bytes()),
         Some(Command::Version) => print(edge, VERSION.as_bytes()),
         Some(Command::Query(location)) => query(alloc, location.name(), edge),
         Some(Command::Stdio) => stdio(rt, alloc, edge),
+        Some(Command::Serve { port, workers }) => serve(rt, alloc, port, workers, edge, desks),
         None => End::Words,
     }
 }
@@ -172,30 +189,54 @@ pub fn tell_memory<M: Sink>(notes: &mut M) -> u8
 }
 
 // Does what the words ask, up to the notes.
-fn perform<R: Wait, S: Source, K: Sink, M: Sink, W: Store, C: Clock, G: Gate, L>(
+fn perform<
+    R: Threads + Wait + Sync,
+    S: Source,
+    K: Sink,
+    M: Sink,
+    W: Store + Send,
+    C: Clock + Send,
+    N: Listener + Send,
+    G: Gate + Sync,
+    L: Send,
+>(
     rt: &R,
     alloc: Global,
     words: &[String],
     edge: &mut Edge<S, K, M, W, C, G, L>,
+    desks: &mut [Desk<N, W, C, L>],
 ) -> End
-    ensures { Runs (command_in words.now) edge.old edge.new result }
+    ensures runs { Runs (command_in words.now) edge.old edge.new result }
+    ensures desks { UsesDesks N.coming N.closed N.faults C.coming W.objects W.alone W.faults (command_in words.now) edge.old edge.new result desks.old desks.new }
 {
     match command_of(alloc, words) {
-        Ok(command) => answer(rt, alloc, command, edge),
+        Ok(command) => answer(rt, alloc, command, edge, desks),
         Err(_) => End::NoMemory,
     }
 }
 
 // Does what the words ask, and writes to the notes how it ended.
-fn perform_and_tell<R: Wait, S: Source, K: Sink, M: Sink, W: Store, C: Clock, G: Gate, L>(
+fn perform_and_tell<
+    R: Threads + Wait + Sync,
+    S: Source,
+    K: Sink,
+    M: Sink,
+    W: Store + Send,
+    C: Clock + Send,
+    N: Listener + Send,
+    G: Gate + Sync,
+    L: Send,
+>(
     rt: &R,
     alloc: Global,
     words: &[String],
     edge: &mut Edge<S, K, M, W, C, G, L>,
+    desks: &mut [Desk<N, W, C, L>],
 ) -> End
-    ensures { IsRun (command_in words.now) edge.old edge.new result }
+    ensures run { IsRun (command_in words.now) edge.old edge.new result }
+    ensures desks { UsesDesks N.coming N.closed N.faults C.coming W.objects W.alone W.faults (command_in words.now) edge.old edge.new result desks.old desks.new }
 {
-    let end = perform(rt, alloc, words, edge);
+    let end = perform(rt, alloc, words, edge, desks);
     tell(edge, &end);
     end
 }
@@ -211,19 +252,35 @@ fn perform_and_tell<R: Wait, S: Source, K: Sink, M: Sink, W: Store, C: Clock, G:
 /// and the output, as `serve_conn` says, by one caller of a hub that is opened over the store. Before that nothing is read, written
 /// or stored.
 ///
+/// `serve`: the configuration and the records are read likewise; then the doors of as many desks as there are workers listen at the
+/// port, and each worker serves the lines of its desk's door as `serve_desk` says, over its desk's store and clock, all over one hub,
+/// until no further line comes or its door fails. The other desks are left as they are, and so are all by the other commands.
+///
 /// Where the outside tells what it holds, no count of faults rose and memory sufficed, the run did what one function of the words,
-/// the input and the stored objects says; of a session it says the configuration. `rt` makes threads and waits for them: no command
-/// here makes any, and `stdio` waits for its turn at a hub that no other caller has.
-pub fn run<R: Threads + Wait + Sync, S: Source, K: Sink, M: Sink, W: Store, C: Clock, G: Gate, L>(
+/// the input and the stored objects says; of a session and of workers it says the configuration. `rt` makes the workers' threads and
+/// waits for them and for turns at the hub.
+pub fn run<
+    R: Threads + Wait + Sync,
+    S: Source,
+    K: Sink,
+    M: Sink,
+    W: Store + Send,
+    C: Clock + Send,
+    N: Listener + Send,
+    G: Gate + Sync,
+    L: Send,
+>(
     rt: &R,
     alloc: Global,
     words: &[String],
     edge: &mut Edge<S, K, M, W, C, G, L>,
+    desks: &mut [Desk<N, W, C, L>],
 ) -> u8
     ensures cause { (end : End) × (result ≡ status end)
-        × IsRun (command_in words.now) edge.old edge.new end }
+        × IsRun (command_in words.now) edge.old edge.new end
+        × UsesDesks N.coming N.closed N.faults C.coming W.objects W.alone W.faults (command_in words.now) edge.old edge.new end desks.old desks.new }
     ensures exact { IsExact words.now edge.old edge.new result }
     ensures alone { IsExactAlone words.now edge.old edge.new result }
 {
-    perform_and_tell(rt, alloc, words, edge).status()
+    perform_and_tell(rt, alloc, words, edge, desks).status()
 }

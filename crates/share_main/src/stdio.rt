@@ -1,5 +1,8 @@
 // The command `stdio`.
-ghost use Rattle.std.specs.Prelude.{◌≡◌, false, IfOk, Some};
+ghost use Rattle.std.specs.Prelude.{◌≡◌, ◌∷◌, [], ◌≤◌, List, length, Some};
+ghost use Rattle.share_book.specs.declared.entry.Entry.{Entry};
+ghost use Rattle.share_hub.specs.Calls.{P};
+ghost use Rattle.turn_cell.specs.Passes.{AllFresh};
 ghost use Rattle.share_main.specs.Steps.{Runs};
 ghost use Rattle.share_main.specs.Stdio.{end_after as end_is, end_without as end_with_none};
 ghost use Rattle.share_main.specs.StdioSteps.{IsOpened, LooksOnly, ServesOne};
@@ -9,12 +12,13 @@ use crate::edge::Edge;
 use crate::ends::End;
 use crate::opening::{NoServer, Opened, open_server};
 use edge_core::{Clock, Gate, Sink, Source, Store};
+use share_hub::HubPass;
 use share_serve::{SessionEnd, serve_conn};
 use std::alloc::Global;
 use std::sync::Wait;
 
 // How a run ends for want of a server.
-fn end_without(why: NoServer) -> End
+pub(crate) fn end_without(why: NoServer) -> End
     ensures { result ≡ end_with_none why }
 {
     match why {
@@ -39,16 +43,28 @@ fn end_after(end: SessionEnd) -> End
     }
 }
 
-// Opens a server over the store.
-fn open_over<S: Source, K: Sink, M: Sink, W: Store, C: Clock, G: Gate, L>(
+// Opens a server for so many callers over the store.
+pub(crate) fn open_over<S: Source, K: Sink, M: Sink, W: Store, C: Clock, G: Gate, L>(
     alloc: Global,
+    callers: u32,
     edge: &mut Edge<S, K, M, W, C, G, L>,
 ) -> Result<Opened, NoServer>
-    ensures idle { IfOk result (λ o. (o.pass.cell ≡ o.hub) × (o.pass.holds ≡ false)) }
-    ensures opened { IsOpened result edge.old.objects edge.new.objects edge.old.store_faults edge.new.store_faults }
+    requires callers { (1 ≤ callers) × (callers ≤ 65) }
+    ensures opened { IsOpened result callers edge.old.objects edge.new.objects edge.old.store_faults edge.new.store_faults }
     ensures looks { LooksOnly edge.old edge.new }
 {
-    open_server(alloc, &mut edge.store)
+    open_server(alloc, &mut edge.store, callers)
+}
+
+// The one pass of a hub with one caller.
+fn only(mut passes: Vec<HubPass>) -> HubPass
+    requires { length passes.items ≡ 1 }
+    ensures { passes.items ≡ result ∷ [] }
+{
+    match passes.pop() {
+        Some(pass) => pass,
+        None => unreachable!(),
+    }
 }
 
 // Serves the one connection. What the output keeps back of a response that was cut is handed on too.
@@ -58,14 +74,16 @@ fn serve<R: Wait, S: Source, K: Sink, M: Sink, W: Store, C: Clock, G: Gate, L>(
     opened: Opened,
     edge: &mut Edge<S, K, M, W, C, G, L>,
 ) -> SessionEnd
-    requires { (opened.pass.cell ≡ opened.hub) × (opened.pass.holds ≡ false) }
-    ensures { ServesOne opened.server opened.pass result edge.old edge.new }
+    requires one { length opened.passes.items ≡ 1 }
+    requires fresh { (h : List Entry) × AllFresh opened.hub h 0 opened.passes.items }
+    ensures { (pass : P) → opened.passes.items ≡ pass ∷ [] → ServesOne opened.server pass result edge.old edge.new }
 {
     let Opened {
         server,
         hub,
-        mut pass,
+        passes,
     } = opened;
+    let mut pass = only(passes);
     let end = serve_conn(
         rt,
         alloc,
@@ -91,7 +109,7 @@ pub fn stdio<R: Wait, S: Source, K: Sink, M: Sink, W: Store, C: Clock, G: Gate, 
 ) -> End
     ensures { Runs (Some Stdio) edge.old edge.new result }
 {
-    match open_over(alloc, edge) {
+    match open_over(alloc, 1, edge) {
         Ok(opened) => end_after(serve(rt, alloc, opened, edge)),
         Err(why) => end_without(why),
     }

@@ -35,7 +35,7 @@ const STDIO: Case<'static> = Case {
 };
 
 // A share with one table, which a recipient is granted, and a file.
-const SERVED: Case<'static> = Case {
+pub(crate) const SERVED: Case<'static> = Case {
     commits: &[&[OPENING]],
     objects: &[
         CONFIGURED,
@@ -48,7 +48,7 @@ const SERVED: Case<'static> = Case {
     ..STDIO
 };
 
-const SHARES: &str =
+pub(crate) const SHARES: &str =
     "HTTP/1.1 200 OK\r\nDate: Thu, 01 Jan 1970 00:00:00 GMT\r\nContent-Type: application/json; charset=utf-8\r\nContent-Length: 25\r\n\r\n{\"items\":[{\"name\":\"s1\"}]}";
 
 const RECORD: &str =
@@ -87,7 +87,7 @@ fn answers_requests(rt: HostRuntime) -> Result<(), AllocError> {
     expect_all(&rt, rt.alloc(), &ANSWERED)
 }
 
-const UNCONFIGURED: Case<'static> = Case {
+pub(crate) const UNCONFIGURED: Case<'static> = Case {
     input: "x",
     status: 3,
     notes: "share: configuration\n",

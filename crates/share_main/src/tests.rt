@@ -2,7 +2,8 @@
 use crate::edge::Edge;
 use crate::run::run;
 use crate::words::{HELP, VERSION};
-use edge_core::{MemClock, MemSink, MemSource, MemStore, Name, OpenGate, Stored};
+use edge_core::{MemClock, MemListener, MemSink, MemSource, MemStore, Name, OpenGate, Stored};
+use share_pool::Desk;
 use std::alloc::{AllocError, Global};
 use std::process::Abort;
 use std::sync::Wait;
@@ -10,6 +11,8 @@ use std::thread::Threads;
 use step_count::Steps;
 
 type Memory = Edge<MemSource, MemSink, MemSink, MemStore, MemClock, OpenGate, ()>;
+
+pub(crate) type MemDesk = Desk<MemListener, MemStore, MemClock, ()>;
 
 pub(crate) const OPENING: &str =
     "{\"protocol\":{\"minReaderVersion\":1,\"minWriterVersion\":2}}\n{\"metaData\":{\"id\":\"m1\",\"format\":{\"provider\":\"parquet\",\"options\":{}},\"schemaString\":\"{\\\"type\\\":\\\"struct\\\",\\\"fields\\\":[]}\",\"partitionColumns\":[],\"configuration\":{},\"createdTime\":1}}\n";
@@ -68,7 +71,7 @@ pub(crate) const QUERY: Case<'static> = Case {
     notes: "",
 };
 
-fn words_of(alloc: Global, texts: &[&str]) -> Result<Vec<String>, AllocError> {
+pub(crate) fn words_of(alloc: Global, texts: &[&str]) -> Result<Vec<String>, AllocError> {
     let mut words = Vec::new(alloc);
     for text in texts {
         words.push(String::from_str(alloc, text)?)?;
@@ -106,7 +109,7 @@ fn stock(store: &mut MemStore, name: String, bytes: Vec<u8>) {
     }
 }
 
-fn store_of(alloc: Global, case: &Case<'_>) -> Result<MemStore, AllocError> {
+pub(crate) fn store_of(alloc: Global, case: &Case<'_>) -> Result<MemStore, AllocError> {
     let mut store = MemStore::new(alloc, 8, 4_096, Vec::new(alloc))?;
     for (version, lines) in case.commits.iter().enumerate() {
         let name = format!(in alloc; "t/_delta_log/{version:020}.json")?;
@@ -141,7 +144,7 @@ fn source(alloc: Global, case: &Case<'_>) -> Result<MemSource, AllocError> {
     Ok(MemSource::new(alloc, bytes).with_fails(fails))
 }
 
-fn edge_of(alloc: Global, case: &Case<'_>) -> Result<Memory, AllocError> {
+pub(crate) fn edge_of(alloc: Global, case: &Case<'_>) -> Result<Memory, AllocError> {
     Ok(Edge {
         input: source(alloc, case)?,
         output: sink(alloc, case.failing == Failing::Output)?,
@@ -162,7 +165,8 @@ fn expect<R: Abort + Threads + Wait + Sync>(
     let words = words_of(alloc, case.words)?;
     let output = joined(alloc, case.output)?;
     let mut edge = edge_of(alloc, case)?;
-    assert_eq!(rt; run(rt, alloc, &words, &mut edge), case.status);
+    let mut desks: Vec<MemDesk> = Vec::new(alloc);
+    assert_eq!(rt; run(rt, alloc, &words, &mut edge, &mut desks), case.status);
     assert_eq!(rt; edge.output.bytes(), output.as_slice());
     assert_eq!(rt; edge.notes.bytes(), case.notes.as_bytes());
     Ok(())
@@ -179,7 +183,7 @@ pub(crate) fn expect_all<R: Abort + Threads + Wait + Sync>(
     Ok(())
 }
 
-const WRONG_WORDS: [&[&str]; 10] = [
+const WRONG_WORDS: [&[&str]; 18] = [
     &[],
     &["query"],
     &["Stdio"],
@@ -190,6 +194,14 @@ const WRONG_WORDS: [&[&str]; 10] = [
     &["query", "_share_log"],
     &["query", "_share_log/t"],
     &["--help", "t"],
+    &["serve"],
+    &["serve", "8080"],
+    &["serve", "0", "1"],
+    &["serve", "65536", "1"],
+    &["serve", "08080", "1"],
+    &["serve", "+8080", "1"],
+    &["serve", "8080", "0"],
+    &["serve", "8080", "65"],
 ];
 
 #[test]

@@ -3,7 +3,7 @@ use Rattle.std.specs.Prelude.{IfSome}
 use Rattle.std.proofs.lemmas.Result.{err_from_is_err_and}
 use Rattle.log_store.proofs.Growing.{looked_more}
 use Rattle.share_main.specs.Configuration.{config_at}
-use Rattle.share_main.proofs.Serving.{configures, hub_reason, opens_one}
+use Rattle.share_main.proofs.Serving.{configures, hub_reason, opens_for}
 use Rattle.share_main.proofs.opening.open_server.Goals as goal
 
 pub returns-in_err-hub-clause-opened : goal.returns-in_err-hub-clause-opened
@@ -23,8 +23,8 @@ returns-clause-opened g c =
     let first = c.in_ok-config.ensures.looked.grows in
     let last = c.in_ok-hub.ensures.looked.grows in (
       (c.in-Some.config, c.of.ensures, configures (Some c.in-Some.config) (g.W.Store.objects c.args.store.now) (g.W.Store.objects c.stored_config.new.store) (g.W.Store.objects c.open.new.store) first last found),
-      opens_one c.in_ok-hub.hub c.in_ok-hub.ensures.opened.1.0 c.in_ok-hub.passes.items c.only.result (g.W.Store.objects c.args.store.now) (g.W.Store.objects c.stored_config.new.store) (g.W.Store.objects c.open.new.store)
-          c.only.ensures c.in_ok-hub.ensures.opened.1.1 first c.in_ok-hub.ensures.opened.1.2 c.in_ok-hub.ensures.opened.1.3,
+      opens_for c.in_ok-hub.hub c.in_ok-hub.ensures.opened.1.0 c.in_ok-hub.passes.items c.args.callers (g.W.Store.objects c.args.store.now) (g.W.Store.objects c.stored_config.new.store) (g.W.Store.objects c.open.new.store)
+          c.in_ok-hub.ensures.opened.0 c.in_ok-hub.ensures.opened.1.1 first c.in_ok-hub.ensures.opened.1.2 c.in_ok-hub.ensures.opened.1.3,
     )
 
 pub returns-clause-looked : goal.returns-clause-looked

@@ -1,5 +1,12 @@
+use Rattle.share_main.specs.Ends.{note}
+use Rattle.share_main.specs.Words.{command_in}
+use Rattle.share_main.proofs.Hosting.{desks_told}
 use Rattle.share_main.proofs.Runs.{told_runs}
 use Rattle.share_main.proofs.run.perform_and_tell.Goals as goal
 
-pub returns : goal.returns
-returns g c = told_runs _ _ _ _ _ c.perform-end.ensures c.tell.ensures
+pub returns-clause-run : goal.returns-clause-run
+returns-clause-run g c = told_runs _ _ _ _ _ c.perform-end.ensures.runs c.tell.ensures
+
+pub returns-clause-desks : goal.returns-clause-desks
+returns-clause-desks g c =
+    desks_told g.N.Listener.coming g.N.Listener.closed g.N.Listener.faults g.C.Clock.coming g.W.Store.objects g.W.Store.alone g.W.Store.faults (command_in c.args.words.now) c.args.edge.now c.perform-end.new.edge c.tell.new.edge (note c.perform-end.result) c.perform-end.result c.args.desks.now c.perform-end.new.desks c.tell.ensures c.perform-end.ensures.desks
