@@ -1,9 +1,8 @@
 -- From new passes to workers that served, and from the desks that were used to all of them.
 use Rattle.std.proofs.Common.{◌≡◌, ℕ, zero, suc, ◌+◌, ◌<◌, ◌≤◌, Bool, List, [], ◌∷◌, ◌++◌, length, drop, take, map, min, Option, Some, None, refl, sym, ap, ◌∙◌, subst, arith, slice_index_or, inl, inr}
-use Rattle.std.specs.Prelude.{◌⊎◌}
-use Rattle.std.proofs.lemmas.List.{get_or-take, get_or_append_left, take_all, length-take}
-use Rattle.std.proofs.Math.Seq.{drop-append_seam, take-length}
-use Rattle.std.proofs.lemmas.List.{drop-append-le, take-append-le}
+use Rattle.std.proofs.lemmas.List.{get_or-take, get_or_append_left, take_all}
+use Rattle.std.proofs.Math.Seq.{drop-append_seam}
+use Rattle.std.proofs.lemmas.List.{take-append-le}
 use Rattle.atomic_table.specs.Seated.{TableId}
 use Rattle.edge_core.specs.Faults.{Rose}
 use Rattle.edge_core.specs.Lines.{ClosedLine}

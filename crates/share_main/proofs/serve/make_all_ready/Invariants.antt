@@ -1,4 +1,4 @@
-use Rattle.std.proofs.Common.{◌≡◌, ◌<◌, ◌≤◌, ℕ, length, Some, slice_index_or, drop}
+use Rattle.std.proofs.Common.{◌≡◌, ◌<◌, ℕ, length, Some, slice_index_or, drop}
 use Rattle.share_main.specs.Serve.{AllWait}
 use Rattle.share_main.proofs.serve.make_all_ready.Given as goal
 

@@ -1,4 +1,4 @@
-use Rattle.std.proofs.Common.{◌≡◌, ◌≤◌, ℕ, ◌++◌, ◌∙◌, sym, length, min, take, drop, refl, arith, Some}
+use Rattle.std.proofs.Common.{◌≡◌, ◌≤◌, ◌++◌, ◌∙◌, length, min, take, drop, refl, arith}
 use Rattle.std.proofs.lemmas.List.{length-take}
 use Rattle.share_pool.specs.declared.desk.ServeEnd.{ServeEnd}
 use Rattle.share_pool.specs.declared.desk.ServeEnd.TheVariants as serve_end

@@ -1,4 +1,4 @@
-use Rattle.std.proofs.Common.{◌<◌, ◌≤◌, length, arith}
+use Rattle.std.proofs.Common.{◌≤◌, length, arith}
 use Rattle.share_main.proofs.Hosting.{all_serve, has_pass}
 use Rattle.share_main.proofs.serve.serve_at.Goals as goal
 
