@@ -19,7 +19,7 @@ use Rattle.log_actions.specs.declared.actions.Txn.{Txn}
 use Rattle.log_replay.specs.declared.refusal.ReplayRefusal.{ReplayRefusal}
 use Rattle.log_replay.specs.Reconciliation.{actions_in, as_meta, as_protocol, as_txn, at_keys, has_app, last_meta, last_protocol, last_txns, latest_txns, live, live_adds, live_files}
 use Rattle.log_replay.specs.Support.{refusal_of}
-use Rattle.log_replay.specs.Standing.{IsSupported, refusal_at}
+use Rattle.log_replay.specs.Standing.{IsSupported, refusal_at, standing_of}
 use Rattle.log_replay.specs.State.{State, state_from, state_of}
 use Rattle.log_replay.specs.Snapshots.{checkpoint_of, next_state}
 use Rattle.log_replay.specs.Applied.{after, txns_of}
@@ -162,3 +162,14 @@ state_push log s own is =
     (ap live_files push ∙ files_same s (actions_in log) own of.files)
     p m
     (ap last_txns push ∙ txns_same s (actions_in log) own of.txns)
+
+-- how a log stands, by its state
+pub state_stands : (log : List (List Action)) (s : State) (v : ℕ) (p : Protocol) (m : MetaData) → v ≡ s.version + 1 → p ≡ s.protocol → m ≡ s.meta → state_of log ≡ Ok s
+    → record { versions = v; protocol = Some p; meta = Some m } ≡ standing_of log
+state_stands log s v p m ev ep em is =
+    let some = not_empty log s is in
+    let of = made_of (refusal_of log) (length log - 1) (live_files (actions_in log)) (last_protocol (actions_in log)) (last_meta (actions_in log)) (last_txns (actions_in log)) s is in
+    let at : v ≡ length log = omega (arith, of.version, some, ev) in
+    let protocol : Some p ≡ last_protocol (actions_in log) = ap (λ (x : Protocol). Some x) ep ∙ sym of.protocol in
+    let meta : Some m ≡ last_meta (actions_in log) = ap (λ (x : MetaData). Some x) em ∙ sym of.meta in
+    λ i. record { versions = at i; protocol = protocol i; meta = meta i }

@@ -1,5 +1,6 @@
 -- What is found of a view is what is found of the edits and the logs that it is made of.
-use Rattle.std.proofs.Common.{◌≡◌, ℕ, List, Bool, Option, Some, None, option_map, option_and_then, unwrap_or, refl, sym, ap, ◌∙◌}
+use Rattle.std.proofs.Common.{◌≡◌, ℕ, List, Bool, Option, Some, None, option_map, option_and_then, unwrap_or, refl, sym, ap, ◌∙◌, subst}
+use Rattle.std.specs.Prelude.{IfSome}
 use Rattle.std.specs.FinMap as maps
 use Rattle.std.specs.Ordering.{eq_by_cmp}
 use Rattle.log_actions.specs.declared.actions.Action.{Action}
@@ -16,8 +17,11 @@ use Rattle.share_catalog.proofs.Silent.{unbound}
 use Rattle.share_catalog.proofs.ViewLemmas.{get-keyed, tables_are_shown}
 use Rattle.share_catalog.proofs.Words.{any_same}
 use Rattle.share_book.specs.History.{edits}
-use Rattle.share_book.specs.Looked.{commits_by, found_by, log_by, table_by}
-use Rattle.share_book.specs.Looks.{GlancesBecomeLooks, commits_in, commits_of, found_in, found_with, glance_of, table_commits, table_found, part_with}
+use Rattle.share_book.specs.Looked.{commits_by, found_by, log_by}
+use Rattle.share_book.specs.Bases.{FilesStand, MakesFound}
+use Rattle.share_book.specs.Looks.{GlancesBecomeLooks, commits_in, commits_of, found_in, found_with, glance_of, look_of, table_commits, table_found, part_with}
+use Rattle.share_book.specs.declared.replay.Replay.{Replay}
+use Rattle.share_book.proofs.FilesStanding.{found_stands}
 use Rattle.share_book.specs.Parts as parts
 use Rattle.share_book.specs.Parts.{commits_for, found_of, version_of, with_files}
 use Rattle.share_book.specs.Views.{Log, View, log_at, log_of, log_of_spot, logs_of, seen_log, view_by, view_with}
@@ -28,7 +32,6 @@ use Rattle.share_book.specs.declared.look.Part.{Part}
 use Rattle.share_book.specs.declared.look.Part.TheVariants as part
 use Rattle.share_book.specs.declared.look.PartFound.{PartFound}
 use Rattle.share_book.specs.declared.look.PartFound.TheVariants as part_found
-use Rattle.share_book.specs.declared.look.Seen.{Seen}
 use Rattle.share_book.specs.declared.look.Want.{Want}
 use Rattle.share_book.specs.declared.look.Want.TheVariants as want
 
@@ -97,10 +100,10 @@ glance_is h who r c w f named there is =
     let e : f ≡ found_in version_of (view_at h r c) w = is ∙ sym (found_is version_of h r c w) in
     (λ i. Some (record { recipient = r; expires = c.expires; found = e i })) ∙ sym (ap (λ (v : Option View). glance_of v w) (view_found h who r c named there))
 
-pub commits_is : (h : List Entry) (who : Who) (r : List ℕ) (c : Credential) (w : Want) (cs : Option (List (List Action))) → name_of (edits h) who ≡ Some r → credential (edits h) r ≡ Some c
-    → cs ≡ commits_by h r w → cs ≡ commits_of (view_by h who) w
-commits_is h who r c w cs named there is =
-    is ∙ sym (commits_are h r c w) ∙ sym (ap (λ (v : Option View). commits_of v w) (view_found h who r c named there))
+pub makes_is : (h : List Entry) (who : Who) (r : List ℕ) (c : Credential) (w : Want) (made : Option Replay) → name_of (edits h) who ≡ Some r → credential (edits h) r ≡ Some c
+    → MakesFound (commits_by h r w) made → MakesFound (commits_of (view_by h who) w) made
+makes_is h who r c w made named there m =
+    subst (λ (cs : Option (List (List Action))). MakesFound cs made) (sym (commits_are h r c w) ∙ sym (ap (λ (v : Option View). commits_of v w) (view_found h who r c named there))) m
 
 -- ---- files
 
@@ -132,3 +135,15 @@ glances_become_looks None w = refl
 glances_become_looks (Some view) w =
     let e = found_whole w view in
     λ i. Some (record { recipient = view.catalog.recipient; expires = view.catalog.credential.expires; found = e i })
+
+-- ---- what was looked at stands
+
+seen_stands : (h : List Entry) (who : Who) (w : Want) (o : Option (List ℕ)) (q : Option Credential) → name_of (edits h) who ≡ o → option_and_then (credential (edits h)) o ≡ q → IfSome (look_of (view_by h who) w) (λ s. FilesStand h s.found)
+seen_stands h who w None q named there = subst (λ (v : Option View). IfSome (look_of v w) (λ s. FilesStand h s.found)) (sym (nobody_named h who named)) tt
+seen_stands h who w (Some r) None named there = subst (λ (v : Option View). IfSome (look_of v w) (λ s. FilesStand h s.found)) (sym (nobody_there h who r named there)) tt
+seen_stands h who w (Some r) (Some c) named there =
+    subst (λ (v : Option View). IfSome (look_of v w) (λ s. FilesStand h s.found)) (sym (view_found h who r c named there)) (subst (FilesStand h) (sym (found_is found_of h r c w)) (found_stands h r w))
+
+-- the files that are found by a look are states of their logs
+pub look_stands : (h : List Entry) (who : Who) (w : Want) → IfSome (look_of (view_by h who) w) (λ s. FilesStand h s.found)
+look_stands h who w = seen_stands h who w (name_of (edits h) who) (option_and_then (credential (edits h)) (name_of (edits h) who)) refl refl

@@ -12,3 +12,6 @@ pub mod Tables
 pub mod Views
 pub mod BookView
 pub mod Books
+pub mod Bases
+pub mod Making
+pub mod Pinning

@@ -1,10 +1,8 @@
 -- What is taken out of a book in one turn for one request: a plain function of the recipient's view and of what is asked (Delta Sharing PROTOCOL.md, "REST APIs"). No number of a log is in it.
-use Rattle.std.specs.Prelude.{◌≡◌, ℕ, ◌+◌, ◌≤◌, List, [], ◌∷◌, Bool, Option, Some, None, Result, Ok, Err, length, map, option_and_then, option_map, unwrap_or}
+use Rattle.std.specs.Prelude.{◌≡◌, ℕ, List, [], ◌∷◌, Bool, Option, Some, None, map, option_and_then, option_map, unwrap_or}
 use Rattle.std.specs.FinMap as maps
 use Rattle.log_actions.specs.declared.actions.Action.{Action}
-use Rattle.log_replay.specs.Reconciliation.{actions_in}
-use Rattle.log_replay.specs.State.{State, state_of}
-use Rattle.log_replay.specs.declared.refusal.ReplayRefusal.{ReplayRefusal}
+use Rattle.log_replay.specs.State.{state_of}
 use Rattle.share_catalog.specs.TableNames.{parts_of}
 use Rattle.share_catalog.specs.Views as catalog
 use Rattle.share_catalog.specs.declared.table_name.TableName.{TableName}
@@ -105,27 +103,3 @@ seen_with commits seen = record { recipient = seen.recipient; expires = seen.exp
 -- a glance with the files that its commits make is the look
 abbrev pub GlancesBecomeLooks : Type 0
 GlancesBecomeLooks = (view : Option View) (w : Want) → option_map (seen_with (commits_of view w)) (glance_of view w) ≡ look_of view w
-
--- how many actions are replayed: those of the commits, and at most so many where their state can't be made
-abbrev pub CountsTo : List (List Action) → Result State ReplayRefusal → ℕ → ℕ → Type 0
-CountsTo commits (Ok state) before after = after ≡ before + length (actions_in commits)
-CountsTo commits (Err why) before after = (before ≤ after) × (after ≤ before + length (actions_in commits))
-
--- none where no version waits for its files
-abbrev pub CountsPart : Option (List (List Action)) → PartFound → ℕ → ℕ → Type 0
-CountsPart None p before after = after ≡ before
-CountsPart (Some commits) (part_found.Version version) before after = CountsTo commits (state_of commits) before after
-CountsPart (Some commits) part_found.Nothing before after = after ≡ before
-CountsPart (Some commits) (part_found.Files version state) before after = after ≡ before
-CountsPart (Some commits) (part_found.Feed feed) before after = after ≡ before
-CountsPart (Some commits) (part_found.Refused why) before after = after ≡ before
-
-abbrev pub CountsFound : Option (List (List Action)) → Found → ℕ → ℕ → Type 0
-CountsFound commits (found.Names names) before after = after ≡ before
-CountsFound commits found.NoTable before after = after ≡ before
-CountsFound commits (found.Table spot p) before after = CountsPart commits p before after
-
--- what is replayed for a glance with such commits
-abbrev pub Counts : Option (List (List Action)) → Option Seen → ℕ → ℕ → Type 0
-Counts commits None before after = after ≡ before
-Counts commits (Some seen) before after = CountsFound commits seen.found before after

@@ -6,15 +6,18 @@ use Rattle.log_replay.specs.Times.{marks_in}
 use Rattle.log_replay.specs.declared.times.Mark.{Mark}
 use Rattle.share_book.specs.declared.table.LogState.{LogState}
 use Rattle.share_book.specs.declared.entry.LogStart.{LogStart}
+use Rattle.log_replay.specs.State.{State}
+use Rattle.share_book.specs.Bases.{AllStatesIn}
 use Rattle.share_book.specs.Legal.{IsKeptLog}
 use Rattle.share_book.specs.TableView.{TableLog, TableView}
 
-pub record IsTable (commits : List (List Action)) (marks : List Mark) (bytes len capacity marks_len marks_capacity room : ℕ) : Type 0 where
+pub record IsTable (commits : List (List Action)) (marks : List Mark) (bytes len capacity marks_len marks_capacity room : ℕ) (snapshots : List (ℕ × State)) : Type 0 where
   pub kept : IsKeptLog commits
   pub counted : bytes ≡ printed_bytes commits
   pub marked : marks ≡ marks_in commits
   pub fits : len + room ≤ capacity
   pub marks_fit : marks_len + room ≤ marks_capacity
+  pub states : AllStatesIn commits snapshots
 
 -- the log as it begins
 abbrev pub log_from : LogStart → TableLog

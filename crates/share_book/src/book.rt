@@ -1,5 +1,5 @@
 // What the turn is taken for.
-ghost use Rattle.std.specs.Prelude.{◌≡◌, ℕ, ◌<◌, ◌≤◌, ◌+◌, ◌-◌, ◌++◌, ◌∷◌, [], length, slice_index, None, Some, IfOk, IfSome, OnOk, OnErr, IsSome, MatchBool, true, map, position};
+ghost use Rattle.std.specs.Prelude.{◌≡◌, ℕ, ◌<◌, ◌≤◌, ◌+◌, ◌-◌, ◌++◌, ◌∷◌, [], length, slice_get, slice_index, None, Some, IfOk, IfSome, OnOk, OnErr, IsSome, MatchBool, true, map, position};
 ghost use Rattle.std.specs.List.{list_any};
 ghost use Rattle.share_catalog.specs.Catalogue.{bound_location, refusal_of};
 ghost use Rattle.share_catalog.specs.CatalogState.{unless};
@@ -9,6 +9,7 @@ ghost use Rattle.share_book.specs.History.{caller_of, entry, open_on, pending, s
 ghost use Rattle.share_book.specs.Legal.{Follows, IsKeptLog, IsLegal, TakesCommit, There, TakesLog, has_log, locations_of, log_at};
 ghost use Rattle.log_replay.specs.Times.{marks_in};
 ghost use Rattle.share_book.specs.Looked.{commits_by, found_by, log_by, table_by};
+ghost use Rattle.share_book.specs.Bases.{CanReplay, FilesStand, IsBase, IsStateIn, MakesFound, MakesHead};
 ghost use Rattle.share_book.specs.Looks.{commits_of, glance_of, table_commits, who_of};
 ghost use Rattle.share_book.specs.Parts.{version_of};
 ghost use Rattle.share_book.specs.Tables.{IsState};
@@ -22,15 +23,16 @@ ghost use Rattle.share_book.specs.declared.entry.Act.TheVariants as act;
 
 use crate::entry::{Act, Entry, SharedCommit, SharedEdit};
 use crate::log_part::{SeenLog, part_found};
-use crate::look::{Ask, Found, Look, Part, Pinned, Seen, Want};
+use crate::look::{Ask, Found, Look, Part, PartFound, Pinned, Seen, SharedSnapshot, Want};
 use crate::past::Past;
+use crate::replay::Replay;
+use crate::snapshots::MOST;
 use crate::spots::{names_of, recipient_of, spot_of};
 use crate::table::{LogState, ReadyLog, Table};
 use edge_core::Name;
 use json_tree::Text;
 use log_actions::Commit;
 use log_replay::Mark;
-use log_store::Commits;
 use share_catalog::{Catalog, Edit, EditRefusal, TableName};
 use std::alloc::{AllocError, Global};
 use std::marker::Model;
@@ -103,12 +105,49 @@ fn is_table_at(table: &Table, location: &str) -> bool
 
 // What is found where no recipient is.
 fn nobody(at: u64) -> Pinned
-    ensures { result ≡ record { look = record { at = at; seen = None }; commits = None } }
+    ensures { result ≡ record { look = record { at = at; seen = None }; replay = None } }
 {
     Pinned {
         look: Look { at, seen: None },
-        commits: None,
+        replay: None,
     }
+}
+
+// The table with the most states that are kept, where all have as many as may be.
+fn fullest(tables: &[Table]) -> Option<usize>
+    ensures { IfSome result (λ place. place < length tables.now) }
+{
+    let mut all = 0usize;
+    let mut most = 0;
+    let mut fullest = None;
+    for place in 0..tables.len() {
+        let count = tables[place].snapshots().len();
+        all = all.saturating_add(count);
+        if count > most {
+            most = count;
+            fullest = Some(place);
+        }
+    }
+    if all < MOST { None } else { fullest }
+}
+
+// Where all tables have as many states as may be, the one with the most lets go of one.
+fn make_room(tables: &mut [Table])
+    ensures { tables.new ≡ tables.old }
+{
+    if let Some(place) = fullest(tables) {
+        tables[place].drop_last();
+    }
+}
+
+// Keeps a state of the table at that place. The error is want of memory.
+fn keep_at(tables: &mut [Table], place: usize, state: SharedSnapshot) -> Result<(), AllocError>
+    requires there { place < length tables.old }
+    requires state { IfSome (slice_get tables.old place) (λ t. IsStateIn t.log.commits state) }
+    ensures { tables.new ≡ tables.old }
+{
+    make_room(tables);
+    tables[place].keep(state)
 }
 
 // The act of a commit.
@@ -382,13 +421,13 @@ impl Book {
         self.past.push_load(caller, start);
     }
 
-    /// What is found for one request at this point of the history: a plain function of the recipient's view and of what is asked. The
-    /// error is want of memory.
+    /// What is found for one request at this point of the history: a plain function of the recipient's view and of what is asked. Files
+    /// are begun with the latest state of their table that is kept, up to their version. The error is want of memory.
     pub fn pin(&self, alloc: Global, ask: &Ask) -> Result<Pinned, AllocError>
         ensures at { IfOk result (λ p. p.look.at ≡ length self.now.past.history) }
         ensures seen { IfOk result (λ p. p.look.seen ≡ glance_of (view_by self.now.past.history (who_of ask.now.who)) ask.now.want) }
-        ensures commits { IfOk result (λ p. p.commits ≡ commits_of (view_by self.now.past.history (who_of ask.now.who)) ask.now.want) }
-        ensures some { IfOk result (λ p. IfSome p.commits (λ cs. 0 < length cs)) }
+        ensures makes { IfOk result (λ p. MakesFound (commits_of (view_by self.now.past.history (who_of ask.now.who)) ask.now.want) p.replay) }
+        ensures fits { IfOk result (λ p. IfSome p.replay CanReplay) }
     {
         let at = self.past.len();
         let Some(recipient) = recipient_of(&self.catalog, &ask.who) else {
@@ -397,7 +436,7 @@ impl Book {
         let Some(credential) = self.catalog.credential(recipient) else {
             return Ok(nobody(at));
         };
-        let (found, commits) = self.found(alloc, recipient, &ask.want)?;
+        let (found, replay) = self.found(alloc, recipient, &ask.want)?;
         let seen = Seen {
             recipient: Text::of(String::from_str(alloc, recipient)?),
             expires: credential.expires,
@@ -408,20 +447,90 @@ impl Book {
                 at,
                 seen: Some(seen),
             },
-            commits,
+            replay,
         })
     }
 
-    // What a recipient that is there finds, and the commits of its files.
+    /// The state with which a look began is the one used last.
+    pub fn touch(&mut self, pinned: &Pinned)
+        ensures { self.new ≡ self.old }
+    {
+        let (Some(seen), Some(replay)) = (&pinned.look.seen, &pinned.replay) else {
+            return;
+        };
+        let (Found::Table(spot, _), Some(base)) = (&seen.found, &replay.base) else {
+            return;
+        };
+        if let Some(place) = place_of(&self.tables, spot.location().as_str()) {
+            self.tables[place].touch(base.version());
+        }
+    }
+
+    /// Keeps the state of the files that a look found, for later ones to begin with. Of all tables 64 are kept: then the table with the
+    /// most lets go of the one that was used least recently. The error is want of memory; nothing is kept then.
+    pub fn keep(&mut self, look: &Look) -> Result<(), AllocError>
+        requires { IfSome look.now.seen (λ s. FilesStand self.old.past.history s.found) }
+        ensures { self.new ≡ self.old }
+    {
+        let Some(seen) = &look.seen else {
+            return Ok(());
+        };
+        let Found::Table(spot, part) = &seen.found else {
+            return Ok(());
+        };
+        let PartFound::Files(_, state) = part else {
+            return Ok(());
+        };
+        match place_of(&self.tables, spot.location().as_str()) {
+            Some(place) => keep_at(&mut self.tables, place, state.share()?),
+            None => Ok(()),
+        }
+    }
+
+    /// Keeps a state of a table's log in the same way.
+    pub fn keep_state(&mut self, log: u32, state: SharedSnapshot) -> Result<(), AllocError>
+        requires there { log < length self.old.past.rooms }
+        requires table { 0 < log }
+        requires state { There (table_on log self.old.past.history) (λ t. IsStateIn t.commits state) }
+        ensures { self.new ≡ self.old }
+    {
+        self.past.len();
+        keep_at(&mut self.tables, log as usize - 1, state)
+    }
+
+    /// The latest state of a table's log that is kept, none where none is. The error is want of memory.
+    pub fn base(&self, log: u32) -> Result<Option<SharedSnapshot>, AllocError>
+        requires there { log < length self.now.past.rooms }
+        requires table { 0 < log }
+        ensures { IfOk result (λ b. There (table_on log self.now.past.history) (λ t. IsBase t.commits b)) }
+    {
+        self.past.len();
+        let table = &self.tables[log as usize - 1];
+        table.base()
+    }
+
+    /// What makes the state after all commits of a table's log, none where it has none. The error is want of memory.
+    pub fn head(&self, alloc: Global, log: u32) -> Result<Option<Replay>, AllocError>
+        requires there { log < length self.now.past.rooms }
+        requires table { 0 < log }
+        ensures makes { IfOk result (λ r. There (table_on log self.now.past.history) (λ t. MakesHead t.commits r)) }
+        ensures fits { IfOk result (λ r. IfSome r CanReplay) }
+    {
+        self.past.len();
+        let table = &self.tables[log as usize - 1];
+        SeenLog::of(table).head(alloc)
+    }
+
+    // What a recipient that is there finds, and what makes its files.
     fn found(
         &self,
         alloc: Global,
         recipient: &str,
         want: &Want,
-    ) -> Result<(Found, Option<Commits>), AllocError>
+    ) -> Result<(Found, Option<Replay>), AllocError>
         ensures found { IfOk result (λ f. f.0 ≡ found_by version_of self.now.past.history recipient.now want.now) }
-        ensures commits { IfOk result (λ f. f.1 ≡ commits_by self.now.past.history recipient.now want.now) }
-        ensures some { IfOk result (λ f. IfSome f.1 (λ cs. 0 < length cs)) }
+        ensures makes { IfOk result (λ f. MakesFound (commits_by self.now.past.history recipient.now want.now) f.1) }
+        ensures fits { IfOk result (λ f. IfSome f.1 CanReplay) }
     {
         match want {
             Want::Names => {
@@ -439,17 +548,17 @@ impl Book {
         recipient: &str,
         table: &TableName,
         part: &Part,
-    ) -> Result<(Found, Option<Commits>), AllocError>
+    ) -> Result<(Found, Option<Replay>), AllocError>
         ensures found { IfOk result (λ f. f.0 ≡ table_by version_of self.now.past.history part.now (shared (history.edits self.now.past.history) recipient.now table.now)) }
-        ensures commits { IfOk result (λ f. f.1 ≡ table_commits (log_by self.now.past.history (shared (history.edits self.now.past.history) recipient.now table.now)) part.now (shared (history.edits self.now.past.history) recipient.now table.now)) }
-        ensures some { IfOk result (λ f. IfSome f.1 (λ cs. 0 < length cs)) }
+        ensures makes { IfOk result (λ f. MakesFound (table_commits (log_by self.now.past.history (shared (history.edits self.now.past.history) recipient.now table.now)) part.now (shared (history.edits self.now.past.history) recipient.now table.now)) f.1) }
+        ensures fits { IfOk result (λ f. IfSome f.1 CanReplay) }
     {
         let Some(spot) = spot_of(alloc, &self.catalog, recipient, table)? else {
             return Ok((Found::NoTable, None));
         };
         let log = self.seen_log(spot.location().as_str());
-        let (found, commits) = part_found(alloc, spot.has_history(), &log, part)?;
-        Ok((Found::Table(spot, found), commits))
+        let (found, replay) = part_found(alloc, spot.has_history(), &log, part)?;
+        Ok((Found::Table(spot, found), replay))
     }
 
     // The log of a location.

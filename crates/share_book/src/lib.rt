@@ -8,6 +8,8 @@ mod laws;
 mod log_part;
 mod look;
 mod past;
+mod replay;
+mod snapshots;
 mod spots;
 mod table;
 
@@ -20,4 +22,5 @@ pub use look::{
     Ask, FeedPart, Found, Look, Marks, Names, Part, PartFound, Pinned, Seen, SharedSnapshot, Spot,
     TableRefusal, Want, Who,
 };
+pub use replay::{Replay, head_state};
 pub use table::{LogState, ReadyLog, ready};

@@ -1,13 +1,17 @@
 // What is found of a table's log.
-ghost use Rattle.std.specs.Prelude.{◌≡◌, ◌+◌, ◌<◌, ◌≤◌, Bool, IfOk, IfSome, None, Some, length, map, slice_get, take};
+ghost use Rattle.std.specs.Prelude.{◌≡◌, ◌+◌, ◌<◌, ◌≤◌, ◌^◌, Bool, IfOk, IfSome, None, Some, length, map, slice_get, take};
 ghost use Rattle.std.specs.Arc.{arc_value};
 ghost use Rattle.log_replay.specs.Times.{marks_in};
+ghost use Rattle.share_book.specs.Bases as bases;
+ghost use Rattle.share_book.specs.Bases.{CanReplay, IsBase, MakesFound, MakesHead};
 ghost use Rattle.share_book.specs.Looked.{IsKept};
 ghost use Rattle.share_book.specs.Parts as parts;
 ghost use Rattle.share_book.specs.Views.{seen_log};
 
 use crate::entry::SharedCommit;
-use crate::look::{FeedPart, Marks, Part, PartFound, TableRefusal};
+use crate::look::{FeedPart, Marks, Part, PartFound, SharedSnapshot, TableRefusal};
+use crate::replay::Replay;
+use crate::snapshots::Snapshots;
 use crate::table::{Table, shared};
 use log_actions::Commit;
 use log_replay::{Bound, Mark, Unresolved, resolve};
@@ -22,19 +26,32 @@ pub(crate) struct SeenLog<'a> {
     commits: &'a [Arc<Commit>],
     marks: &'a [Mark],
     blocked: bool,
+    snapshots: Option<&'a Snapshots>,
 }
 
 impl<'a> Model for SeenLog<'a> {
-    ghost use Rattle.std.specs.Prelude.{◌≡◌, map};
+    ghost use Rattle.std.specs.Prelude.{map, option_map};
     ghost use Rattle.std.specs.Arc.{arc_value};
-    ghost use Rattle.log_replay.specs.Times.{marks_in};
     ghost use Rattle.share_book.specs.Views.{Log};
 
     ghost Value = { Log };
 
     ghost view = { λ l. record { commits = map arc_value l.commits.now; blocked = l.blocked } };
 
-    ghost invariant = { λ l. l.marks.now ≡ marks_in (map arc_value l.commits.now) };
+    ghost use Rattle.share_book.specs.Pinning.{IsSeenLog};
+
+    ghost invariant = { λ l. IsSeenLog (map arc_value l.commits.now) l.marks.now (option_map (λ s. s.now) l.snapshots) };
+}
+
+// The first version after a base.
+fn first_left(base: &Option<SharedSnapshot>) -> usize
+    requires { bases.first_left base.now < 2 ^ 64 }
+    ensures { result ≡ bases.first_left base.now }
+{
+    match base {
+        Some(state) => state.version() as usize + 1,
+        None => 0,
+    }
 }
 
 impl<'a> SeenLog<'a> {
@@ -46,6 +63,7 @@ impl<'a> SeenLog<'a> {
             commits: table.held(),
             marks: table.marks(),
             blocked: table.is_blocked(),
+            snapshots: Some(table.snapshots()),
         }
     }
 
@@ -57,6 +75,7 @@ impl<'a> SeenLog<'a> {
             commits: &[],
             marks: &[],
             blocked: false,
+            snapshots: None,
         }
     }
 
@@ -74,15 +93,46 @@ impl<'a> SeenLog<'a> {
     {
         resolve(self.marks, self.blocked, bound)
     }
-}
 
-// The commits up to a version.
-fn up_to(alloc: Global, commits: &[Arc<Commit>], version: u64) -> Result<Commits, AllocError>
-    requires { version < length commits.now }
-    ensures commits { IfOk result (λ c. c ≡ take (version + 1) (map arc_value commits.now)) }
-    ensures some { IfOk result (λ c. 0 < length c) }
-{
-    Ok(Commits::of(shared(alloc, &commits[..version as usize + 1])?))
+    // The latest state that is kept of the versions up to that one, none where none is.
+    fn base(&self, version: u64) -> Result<Option<SharedSnapshot>, AllocError>
+        ensures { IfOk result (IsBase (take (version + 1) self.now.commits)) }
+    {
+        let Some(snapshots) = self.snapshots else {
+            return Ok(None);
+        };
+        match snapshots.latest(version) {
+            Some(state) => Ok(Some(state.share()?)),
+            None => Ok(None),
+        }
+    }
+
+    // What makes the state of a version.
+    fn replay(&self, alloc: Global, version: u64) -> Result<Replay, AllocError>
+        requires { version < length self.now.commits }
+        ensures makes { IfOk result (λ r. MakesFound (Some (take (version + 1) self.now.commits)) (Some r)) }
+        ensures fits { IfOk result CanReplay }
+    {
+        let front: &[Arc<Commit>] = &self.commits[..version as usize + 1];
+        let base = self.base(version)?;
+        let first = first_left(&base);
+        let after = shared(alloc, &front[first..])?;
+        Ok(Replay {
+            base,
+            commits: Commits::of(after),
+        })
+    }
+
+    /// What makes the state after all commits, none where there are none. The error is want of memory.
+    pub(crate) fn head(&self, alloc: Global) -> Result<Option<Replay>, AllocError>
+        ensures makes { IfOk result (MakesHead self.now.commits) }
+        ensures fits { IfOk result (λ r. IfSome r CanReplay) }
+    {
+        match self.len().checked_sub(1) {
+            Some(last) => Ok(Some(self.replay(alloc, last)?)),
+            None => Ok(None),
+        }
+    }
 }
 
 // The commit of a version.
@@ -231,39 +281,37 @@ fn version_of(
     }
 }
 
-// The commits of which the files of a part are made, none where none are asked or no version is
-// found.
-fn commits_for(
+// What makes the files of a part, nothing where none are asked or no version is found.
+fn replay_for(
     alloc: Global,
     log: &SeenLog<'_>,
     part: &Part,
     found: &PartFound,
-) -> Result<Option<Commits>, AllocError>
+) -> Result<Option<Replay>, AllocError>
     requires { IsKept log.now found.now }
-    ensures commits { IfOk result (λ c. c ≡ parts.commits_for log.now part.now found.now) }
-    ensures some { IfOk result (λ c. IfSome c (λ cs. 0 < length cs)) }
+    ensures makes { IfOk result (MakesFound (parts.commits_for log.now part.now found.now)) }
+    ensures fits { IfOk result (λ r. IfSome r CanReplay) }
 {
     match (part, found) {
         (Part::Files(_) | Part::PinnedFiles(_), PartFound::Version(version)) => {
-            Ok(Some(up_to(alloc, log.commits, *version)?))
+            Ok(Some(log.replay(alloc, *version)?))
         }
         _ => Ok(None),
     }
 }
 
-/// What is found of a log, with a version in place of its files, and the commits of which these are
-/// made. The error is want of memory.
+/// What is found of a log, with a version in place of its files, and what makes these. The error is want of memory.
 pub(crate) fn part_found(
     alloc: Global,
     history: bool,
     log: &SeenLog<'_>,
     part: &Part,
-) -> Result<(PartFound, Option<Commits>), AllocError>
+) -> Result<(PartFound, Option<Replay>), AllocError>
     ensures found { IfOk result (λ p. p.0 ≡ parts.version_of history log.now part.now) }
-    ensures commits { IfOk result (λ p. p.1 ≡ parts.commits_for log.now part.now (parts.version_of history log.now part.now)) }
-    ensures some { IfOk result (λ p. IfSome p.1 (λ cs. 0 < length cs)) }
+    ensures makes { IfOk result (λ p. MakesFound (parts.commits_for log.now part.now (parts.version_of history log.now part.now)) p.1) }
+    ensures fits { IfOk result (λ p. IfSome p.1 CanReplay) }
 {
     let found = version_of(alloc, history, log, part)?;
-    let commits = commits_for(alloc, log, part, &found)?;
-    Ok((found, commits))
+    let replay = replay_for(alloc, log, part, &found)?;
+    Ok((found, replay))
 }

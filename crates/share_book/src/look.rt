@@ -1,10 +1,12 @@
 // What is asked of a book for one request, and what is found.
 use crate::entry::SharedCommit;
+use crate::replay::Replay;
 use edge_core::Name;
 use json_tree::{Edition, Millis, Text, Version};
 use log_replay::{Bound, Mark, Snapshot};
 use log_store::Commits;
 use share_catalog::{CatalogName, TableName};
+use std::alloc::AllocError;
 use std::marker::Model;
 use std::sync::Arc;
 
@@ -217,7 +219,7 @@ impl Model for SharedSnapshot {
 }
 
 impl SharedSnapshot {
-    ghost use Rattle.std.specs.Prelude.{◌≡◌};
+    ghost use Rattle.std.specs.Prelude.{◌≡◌, IfOk};
 
     /// The same snapshot, seen as its state alone.
     pub fn of(held: Arc<Snapshot>) -> SharedSnapshot
@@ -231,6 +233,21 @@ impl SharedSnapshot {
         ensures { result.now ≡ self.now }
     {
         &self.held
+    }
+
+    /// Its version.
+    pub fn version(&self) -> u64
+        ensures { result ≡ self.now.version }
+    {
+        self.held.version()
+    }
+
+    /// The same snapshot again, for another holder. The error is want of memory.
+    pub fn share(&self) -> Result<SharedSnapshot, AllocError>
+        ensures { IfOk result (λ s. s ≡ self.now) }
+    {
+        let held = Arc::try_clone(&self.held)?;
+        Ok(SharedSnapshot { held })
     }
 }
 
@@ -297,12 +314,22 @@ pub struct Look {
     pub seen: Option<Seen>,
 }
 
-/// What a turn gives of a look: all of it where no files are asked. Where they are, the version stands in their place, with the
-/// commits of which they are made, so that nothing is replayed while others wait.
+/// What a turn gives of a look: all of it where no files are asked. Where they are, the version stands in their place, with what
+/// makes their state, so that nothing is replayed while others wait.
 #[derive(Drop)]
 pub struct Pinned {
     /// The look, with a version in place of its files.
     pub look: Look,
-    /// The commits up to that version, none where no files are asked or no version is found.
-    pub commits: Option<Commits>,
+    /// What makes the state of that version, none where no files are asked or no version is found.
+    pub replay: Option<Replay>,
+}
+
+impl Pinned {
+    /// Whether commits are left to replay.
+    pub fn is_behind(&self) -> bool {
+        match &self.replay {
+            Some(replay) => !replay.commits.items().is_empty(),
+            None => false,
+        }
+    }
 }

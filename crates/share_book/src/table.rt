@@ -5,9 +5,12 @@ ghost use Rattle.log_actions.specs.CommitTexts.{printed_bytes};
 ghost use Rattle.log_actions.specs.CommitTexts.{commit_text};
 ghost use Rattle.log_replay.specs.Times.{marks_in};
 ghost use Rattle.share_book.specs.Legal.{IsKeptLog};
+ghost use Rattle.share_book.specs.Bases.{AllStatesIn, IsBase, IsStateIn};
 ghost use Rattle.share_book.specs.Tables.{IsState, with_block, with_commit};
 
 use crate::entry::LogStart;
+use crate::look::SharedSnapshot;
+use crate::snapshots::Snapshots;
 use edge_core::Name;
 use log_actions::Commit;
 use log_replay::{Mark, mark_of, marks_of};
@@ -27,7 +30,7 @@ pub struct LogState {
     pub block: Option<u64>,
 }
 
-/// The commits of a table's log, with their marks and the sum of their printed bytes.
+/// The commits of a table's log, with their marks, the sum of their printed bytes and the states of some versions.
 #[derive(Drop)]
 pub(crate) struct Table {
     location: Name,
@@ -37,6 +40,7 @@ pub(crate) struct Table {
     block: Option<u64>,
     // For how many more commits there is room.
     room: usize,
+    snapshots: Snapshots,
 }
 
 impl Model for Table {
@@ -51,7 +55,7 @@ impl Model for Table {
 
     ghost view = { λ t. record { log = record { location = t.location; commits = map arc_value t.commits.items; block = t.block }; room = t.room } };
 
-    ghost invariant = { λ t. IsTable (map arc_value t.commits.items) t.marks.items t.bytes (vec_len t.commits) (vec_capacity t.commits) (vec_len t.marks) (vec_capacity t.marks) t.room };
+    ghost invariant = { λ t. IsTable (map arc_value t.commits.items) t.marks.items t.bytes (vec_len t.commits) (vec_capacity t.commits) (vec_len t.marks) (vec_capacity t.marks) t.room t.snapshots };
 }
 
 impl Table {
@@ -71,9 +75,49 @@ impl Table {
 
     /// The commits as they are held, in order.
     pub(crate) fn held(&self) -> &[Arc<Commit>]
-        ensures { map arc_value result.now ≡ self.now.log.commits }
+        ensures commits { map arc_value result.now ≡ self.now.log.commits }
+        ensures kept { IsKeptLog self.now.log.commits }
     {
         &self.commits
+    }
+
+    /// The states that are kept.
+    pub(crate) fn snapshots(&self) -> &Snapshots
+        ensures { AllStatesIn self.now.log.commits result.now }
+    {
+        &self.snapshots
+    }
+
+    /// The latest state that is kept, none where none is. The error is want of memory.
+    pub(crate) fn base(&self) -> Result<Option<SharedSnapshot>, AllocError>
+        ensures { IfOk result (IsBase self.now.log.commits) }
+    {
+        match self.snapshots().latest(u64::MAX) {
+            Some(state) => Ok(Some(state.share()?)),
+            None => Ok(None),
+        }
+    }
+
+    /// The state of that version, if it is kept, is the one used last.
+    pub(crate) fn touch(&mut self, version: u64)
+        ensures { self.new ≡ self.old }
+    {
+        self.snapshots.touch(version);
+    }
+
+    /// Keeps a state of the log. The error is want of memory; nothing is kept then.
+    pub(crate) fn keep(&mut self, state: SharedSnapshot) -> Result<(), AllocError>
+        requires { IsStateIn self.old.log.commits state }
+        ensures { self.new ≡ self.old }
+    {
+        self.snapshots.keep(state)
+    }
+
+    /// Lets go of the state that was used least recently.
+    pub(crate) fn drop_last(&mut self)
+        ensures { self.new ≡ self.old }
+    {
+        self.snapshots.drop_last();
     }
 
     /// Whether a further version isn't kept.
@@ -193,6 +237,7 @@ pub fn ready(
         bytes,
         block,
         room: 0,
+        snapshots: Snapshots::new(alloc)?,
     };
     Ok(ReadyLog {
         table,

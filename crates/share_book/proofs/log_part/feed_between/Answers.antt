@@ -9,7 +9,7 @@ use Rattle.share_book.proofs.MarkBounds.{marks_counted}
 use Rattle.share_book.proofs.log_part.feed_between.Goals as goal
 
 pub feed_of-requires-clause-counted : goal.feed_of-requires-clause-counted
-feed_of-requires-clause-counted c = marks_counted (map arc_value c.log.inside.commits.now) c.log.inside.marks.now c.log.invariant ∙ length-map c.log.inside.commits.now arc_value
+feed_of-requires-clause-counted c = marks_counted (map arc_value c.log.inside.commits.now) c.log.inside.marks.now c.log.invariant.marked ∙ length-map c.log.inside.commits.now arc_value
 
 pub returns-clause-found : goal.returns-clause-found
 returns-clause-found c =

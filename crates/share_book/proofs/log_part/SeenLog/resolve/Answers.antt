@@ -7,6 +7,6 @@ use Rattle.share_book.proofs.log_part.SeenLog.resolve.Goals as goal
 
 pub returns-clause-kept : goal.returns-clause-kept
 returns-clause-kept c =
-    let count : length c.self.inside.marks.now ≡ length (map arc_value c.self.inside.commits.now) = marks_counted (map arc_value c.self.inside.commits.now) c.self.inside.marks.now c.self.invariant in
+    let count : length c.self.inside.marks.now ≡ length (map arc_value c.self.inside.commits.now) = marks_counted (map arc_value c.self.inside.commits.now) c.self.inside.marks.now c.self.invariant.marked in
     let same : length (map arc_value c.self.inside.commits.now) ≡ length c.args.self.now.commits = ap (λ (l : Log). length l.commits) c.self.view_is in
     subst (λ (n : ℕ). IfOk c.resolve.result (λ version. version < n)) (count ∙ same) c.resolve.ensures.kept

@@ -9,6 +9,8 @@ use Rattle.std.proofs.lemmas.List.Sums.{sum_by-append}
 use Rattle.log_replay.specs.Times.{last_mark, marks_in}
 use Rattle.log_replay.specs.declared.times.Mark.{Mark}
 use Rattle.log_replay.proofs.TimeLemmas.{marks_end, marks_more}
+use Rattle.share_book.specs.Bases.{IsStateIn}
+use Rattle.share_book.proofs.States.{state_in_longer}
 use Rattle.share_book.proofs.table.Table.push.Goals as goal
 
 pub invariant_of-self : goal.invariant_of-self
@@ -29,4 +31,5 @@ invariant_of-self c =
       marked = c.push_reserved.ensures.items ∙ ap (λ (ms : List Mark). ms ++ c.mark_of-mark.result ∷ []) c.self.invariant.marked ∙ sym (marks_more log own c.mark_of-mark.result mark) ∙ ap marks_in (sym push);
       fits = search rules;
       marks_fit = search rules;
+      states = λ e h. subst (λ (l : List (List Action)). IsStateIn l e.1) (sym push) (state_in_longer log (own ∷ []) e.1 (c.self.invariant.states e h));
     }

@@ -1,0 +1,130 @@
+// What is left to replay for the state of a version.
+ghost use Rattle.std.specs.Prelude.{◌≡◌, ◌+◌, ◌<◌, ◌^◌, ◌++◌, List, Ok, IfOk, OnOk, length, map, option_map, unwrap_or};
+ghost use Rattle.std.specs.Arc.{arc_value};
+ghost use Rattle.log_actions.specs.declared.actions.Action.{Action};
+ghost use Rattle.log_replay.specs.Reconciliation.{actions_in};
+ghost use Rattle.log_replay.specs.Snapshots.{Answers};
+ghost use Rattle.log_replay.specs.Standing.{IsSupported};
+ghost use Rattle.log_replay.specs.State.{state_of};
+ghost use Rattle.share_book.specs.Bases.{CanReplay, IsBase, Makes};
+
+use crate::look::SharedSnapshot;
+use log_actions::Commit;
+use log_replay::{NoState, Snapshot, advance, replay};
+use log_store::Commits;
+use std::alloc::{AllocError, Global};
+use std::sync::Arc;
+use step_count::Steps;
+
+/// What makes the state of a table at a version: a state that is at hand, and the commits after it up to that version.
+#[derive(Drop)]
+pub struct Replay {
+    /// The state of that version or of an earlier one, none where all commits are to be replayed.
+    pub base: Option<SharedSnapshot>,
+    /// The commits after it.
+    pub commits: Commits,
+}
+
+fn shared(alloc: Global, state: Snapshot) -> Result<SharedSnapshot, AllocError>
+    ensures { IfOk result (λ s. s ≡ state) }
+{
+    Ok(SharedSnapshot::of(Arc::new(alloc, state)?))
+}
+
+fn replay_all<L>(
+    alloc: Global,
+    commits: &[Arc<Commit>],
+    steps: &mut Steps<L>,
+) -> Result<SharedSnapshot, NoState>
+    requires { 0 < length commits.now }
+    ensures state { Answers result (state_of (map arc_value commits.now)) }
+    ensures counted { OnOk result (steps.new ≡ steps.old + length (actions_in (map arc_value commits.now))) }
+{
+    let state = replay(alloc, commits, steps)?;
+    Ok(shared(alloc, state)?)
+}
+
+fn or_base<'a>(state: &'a Option<Snapshot>, base: &'a Snapshot) -> &'a Snapshot
+    ensures { result.now ≡ unwrap_or state.now base.now }
+{
+    match state {
+        Some(state) => state,
+        None => base,
+    }
+}
+
+// The state of a supported log that begins with the base's commits and goes on with these.
+fn state_after<L>(
+    alloc: Global,
+    base: &SharedSnapshot,
+    commits: &[Arc<Commit>],
+    steps: &mut Steps<L>,
+) -> Result<SharedSnapshot, NoState>
+    requires { base.now.version + length commits.now < 2 ^ 63 }
+    ensures state { (log : List (List Action)) → state_of log ≡ Ok base.now → IsSupported (log ++ map arc_value commits.now) → Answers result (state_of (log ++ map arc_value commits.now)) }
+    ensures counted { OnOk result (steps.new ≡ steps.old + length (actions_in (map arc_value commits.now))) }
+{
+    let mut state: Option<Snapshot> = None;
+    for commit in commits {
+        let next = advance(alloc, or_base(&state, base.get()), commit, steps)?;
+        state = Some(next);
+    }
+    match state {
+        Some(state) => Ok(shared(alloc, state)?),
+        None => Ok(base.share()?),
+    }
+}
+
+// The state after all commits of a log, begun with a state of it where one is given.
+fn state_of_all<L>(
+    alloc: Global,
+    base: Option<&SharedSnapshot>,
+    commits: &[Arc<Commit>],
+    steps: &mut Steps<L>,
+) -> Result<SharedSnapshot, NoState>
+    requires some { 0 < length commits.now }
+    requires short { length commits.now < 2 ^ 63 }
+    requires supported { IsSupported (map arc_value commits.now) }
+    requires base { IsBase (map arc_value commits.now) (option_map (λ s. s.now) base) }
+    ensures { Answers result (state_of (map arc_value commits.now)) }
+{
+    let Some(base) = base else {
+        return replay_all(alloc, commits, steps);
+    };
+    let after: &[Arc<Commit>] = &commits[base.version() as usize + 1..];
+    state_after(alloc, base, after, steps)
+}
+
+/// The state after all commits of a log, begun with a state of it where one is given. The error is want of memory.
+pub fn head_state<L>(
+    alloc: Global,
+    base: Option<&SharedSnapshot>,
+    commits: &[Arc<Commit>],
+    steps: &mut Steps<L>,
+) -> Result<SharedSnapshot, AllocError>
+    requires some { 0 < length commits.now }
+    requires supported { IsSupported (map arc_value commits.now) }
+    requires base { IsBase (map arc_value commits.now) (option_map (λ s. s.now) base) }
+    ensures { IfOk result (λ s. state_of (map arc_value commits.now) ≡ Ok s) }
+{
+    match state_of_all(alloc, base, commits, steps) {
+        Ok(state) => Ok(state),
+        Err(NoState::NoMemory) => Err(AllocError),
+        Err(NoState::Refusal(_)) => unreachable!(),
+    }
+}
+
+impl Replay {
+    /// The state of a supported log of which this is the base with the commits after it. `steps` goes up by one for each of their
+    /// actions. The error is want of memory for such a log.
+    pub fn state<L>(&self, alloc: Global, steps: &mut Steps<L>) -> Result<SharedSnapshot, NoState>
+        requires { CanReplay self.now }
+        ensures state { (commits : List (List Action)) → IsSupported commits → Makes commits self.now → Answers result (state_of commits) }
+        ensures counted { OnOk result (steps.new ≡ steps.old + length (actions_in self.now.commits)) }
+    {
+        match &self.base {
+            Some(base) => state_after(alloc, base, self.commits.items(), steps),
+            None => replay_all(alloc, self.commits.items(), steps),
+        }
+    }
+}
