@@ -7,7 +7,8 @@ use edge_core::{MemStore, Name, Stored};
 use json_tree::{Text, Version, tree_of};
 use log_actions::{Actions, CommitTime, action_of_line};
 use log_replay::Bound;
-use share_book::{Ask, Found, Part, PartFound, Want, Who};
+use log_store::Commits;
+use share_book::{Ask, Found, Part, PartFound, Pinned, SharedSnapshot, Want, Who};
 use share_catalog::{CatalogName, Edit, TableName};
 use share_hub::{CommitRefusal, EditEnd, Hub, HubPass, Refreshed};
 use std::alloc::Global;
@@ -74,6 +75,42 @@ fn table(alloc: Global) -> Option<TableName> {
     })
 }
 
+fn recipient(alloc: Global) -> Option<Who> {
+    Some(Who::Named(Text::of(String::from_str(alloc, "r").ok()?)))
+}
+
+// The files of a version, or of the latest.
+fn files_of(alloc: Global, version: Option<u64>) -> Option<Want> {
+    let part = match version {
+        Some(version) => Part::PinnedFiles(Version::of(version)?),
+        None => Part::Files(Bound::Latest),
+    };
+    Some(Want::Table(table(alloc)?, part))
+}
+
+fn version_of(base: &Option<SharedSnapshot>) -> Option<u64> {
+    match base {
+        Some(state) => Some(state.version()),
+        None => None,
+    }
+}
+
+// How many actions commits have.
+fn actions_in(commits: &Commits) -> usize {
+    let mut actions = 0usize;
+    for commit in commits.items() {
+        actions = actions.saturating_add(commit.actions().len());
+    }
+    actions
+}
+
+fn left_of(pinned: &Pinned) -> Option<(Option<u64>, usize)> {
+    match &pinned.replay {
+        Some(replay) => Some((version_of(&replay.base), actions_in(&replay.commits))),
+        None => None,
+    }
+}
+
 impl Server {
     pub(crate) fn open(alloc: Global, store: &mut MemStore) -> Option<Server> {
         let (hub, mut passes) = Hub::open(alloc, store, 1).ok()?;
@@ -138,7 +175,7 @@ impl Server {
 
     // What the recipient is shown.
     fn look<R: Wait>(&mut self, rt: &R, alloc: Global, want: Want) -> Option<Found> {
-        let who = Who::Named(Text::of(String::from_str(alloc, "r").ok()?));
+        let who = recipient(alloc)?;
         let mut steps: Steps<Work> = Steps::new();
         let ask = Ask { who, want };
         let look = self
@@ -158,7 +195,17 @@ impl Server {
 
     // The table's version and how many files it has.
     pub(crate) fn files<R: Wait>(&mut self, rt: &R, alloc: Global) -> Option<(u64, u64)> {
-        let want = Want::Table(table(alloc)?, Part::Files(Bound::Latest));
+        self.files_at(rt, alloc, None)
+    }
+
+    // The same of a version, or of the latest.
+    pub(crate) fn files_at<R: Wait>(
+        &mut self,
+        rt: &R,
+        alloc: Global,
+        version: Option<u64>,
+    ) -> Option<(u64, u64)> {
+        let want = files_of(alloc, version)?;
         let found = self.look(rt, alloc, want)?;
         match &found {
             Found::Table(_, PartFound::Files(version, state)) => {
@@ -166,5 +213,25 @@ impl Server {
             }
             _ => None,
         }
+    }
+
+    fn pinned<R: Wait>(&mut self, rt: &R, alloc: Global, ask: &Ask) -> Option<Pinned> {
+        self.hub.pin(rt, alloc, &mut self.pass, ask).ok()
+    }
+
+    // The version of the state with which a look at the files of a version, or of the latest, would begin, and how many actions are
+    // left to replay.
+    pub(crate) fn left<R: Wait>(
+        &mut self,
+        rt: &R,
+        alloc: Global,
+        version: Option<u64>,
+    ) -> Option<(Option<u64>, usize)> {
+        let ask = Ask {
+            who: recipient(alloc)?,
+            want: files_of(alloc, version)?,
+        };
+        let pinned = self.pinned(rt, alloc, &ask)?;
+        left_of(&pinned)
     }
 }

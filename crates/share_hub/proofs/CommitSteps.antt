@@ -1,6 +1,6 @@
 -- Steps of a commit, one after another.
 use Rattle.std.proofs.Common.{◌≡◌, ℕ, ◌+◌, ◌-◌, ◌^◌, ◌<◌, ◌≤◌, true, zero-add, List, [], ◌∷◌, ◌++◌, length, Option, Some, None, Result, Ok, Err, sym, refl, ap, ◌∙◌, subst, arith, inl, inr, append_assoc, length-append}
-use Rattle.std.specs.Prelude.{IfSome, IsSome, min}
+use Rattle.std.specs.Prelude.{IsSome, min}
 use Rattle.std.specs.Option.{option_map}
 use Rattle.std.proofs.lemmas.List.{append-nil}
 use Rattle.std.proofs.lemmas.List.Sums.{sum_by-append}
@@ -13,7 +13,6 @@ use Rattle.log_replay.specs.Standing.{IsSupported}
 use Rattle.log_replay.proofs.NextLemmas.{supported_more}
 use Rattle.commit_check.specs.Admission.{Answers, admitted}
 use Rattle.commit_check.specs.Lawful.{is_lawful}
-use Rattle.log_store.specs.Log.{cause_of, text_at}
 use Rattle.commit_check.specs.declared.offer.Offer.{Offer}
 use Rattle.commit_check.specs.declared.conflict.Conflict.{Conflict}
 use Rattle.commit_check.specs.declared.conflict.NotAdmitted.{NotAdmitted}
@@ -23,9 +22,9 @@ use Rattle.share_book.specs.declared.entry.Act.{Act}
 use Rattle.share_book.specs.declared.entry.Act.TheVariants.{Own, Blocked, Abort}
 use Rattle.share_book.specs.declared.table.LogState.{LogState}
 use Rattle.share_book.specs.TableView.{TableLog}
-use Rattle.share_book.specs.History.{entry, table_on}
+use Rattle.share_book.specs.History.{table_on}
 use Rattle.share_book.specs.Books.{OwnIsLawful}
-use Rattle.share_book.specs.Legal.{IsKeptLog, TakesCommit, There, log_at}
+use Rattle.share_book.specs.Legal.{IsKeptLog, TakesCommit, There}
 use Rattle.share_book.proofs.Bookkeeping.{there_at, there_from}
 use Rattle.share_hub.specs.declared.commit.CommitRefusal.{CommitRefusal}
 use Rattle.share_hub.specs.declared.commit.CommitRefusal.TheVariants as refusal
@@ -35,17 +34,17 @@ use Rattle.share_hub.specs.declared.table_rounds.LogEnd.TheVariants as end
 use Rattle.share_hub.specs.declared.table_rounds.NextCommit.TheVariants as next
 use Rattle.share_hub.specs.declared.table_turns.KnownLog.{KnownLog}
 use Rattle.share_hub.specs.Calls.{Adds, IsIdle, P}
-use Rattle.share_hub.specs.TableCalls.{BeginsOn, BlocksLog, GoesOn, HoldsLog, StopsOn, with_commits}
+use Rattle.share_hub.specs.TableCalls.{BeginsOn, BlocksLog, GoesOn, StopsOn, with_commits}
 use Rattle.share_hub.specs.TableTurns.{FindsLog}
 use Rattle.share_hub.specs.FoundCommits.{AreFound, IsFoundAt, IsUnkept}
 use Rattle.share_hub.specs.TableRounds.{EndsLog, HoldsHead, Nexts}
 use Rattle.share_hub.specs.RefreshRounds.{OpensOn}
-use Rattle.share_hub.specs.Commits.{CommitBegan, CommitEnds, CommitRan, Commits, LacksNext}
+use Rattle.share_hub.specs.Commits.{CommitBegan, CommitEnds, Commits, LacksNext}
 use Rattle.share_hub.specs.CommitRounds.{CommitRounds, CommitRuns, HasName, IsFit, OneFound, refused_by, refused_for}
 use Rattle.share_hub.proofs.Admissions.{admitted_fits}
 use Rattle.share_hub.proofs.TablePasses.{adds_then, with_none}
 use Rattle.share_hub.proofs.LogSteps.{begins_stops, found_more, found_wider, goes_more_on, goes_stops_on}
-use Rattle.share_hub.proofs.RefreshSteps.{log_at_later, none_found, ran_after, versions_at}
+use Rattle.share_hub.proofs.RefreshSteps.{log_at_later, ran_after, versions_at}
 
 -- ---- what is known of the log
 

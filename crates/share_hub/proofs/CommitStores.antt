@@ -1,7 +1,7 @@
 -- What a commit leaves in the store.
-use Rattle.std.proofs.Common.{◌≡◌, ◌⊎◌, ℕ, List, [], ◌∷◌, ◌++◌, length, Bool, true, false, Option, Some, None, Result, Ok, Err, sym, ap, ◌∙◌, subst, inl, inr}
+use Rattle.std.proofs.Common.{◌≡◌, ◌⊎◌, ℕ, List, [], ◌∷◌, ◌++◌, Bool, true, Option, Some, None, Result, Ok, Err, sym, ap, ◌∙◌, subst, inl, inr}
 use Rattle.std.specs.Bool.{OnTrue}
-use Rattle.edge_core.specs.Objects.{Fails, Grows, Lacks, Objects, Stores, with_object}
+use Rattle.edge_core.specs.Objects.{Fails, Grows, Lacks, Objects, Stores}
 use Rattle.edge_core.proofs.Growth.{Grows-on}
 use Rattle.log_actions.specs.declared.actions.Action.{Action}
 use Rattle.log_actions.specs.CommitTexts.{commit_text}

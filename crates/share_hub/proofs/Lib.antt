@@ -15,3 +15,4 @@ pub mod RefreshSteps
 pub mod Admissions
 pub mod CommitSteps
 pub mod CommitStores
+pub mod Keeping

@@ -16,3 +16,4 @@ pub mod RefreshRounds
 pub mod Additions
 pub mod Commits
 pub mod CommitRounds
+pub mod Replays

@@ -16,7 +16,7 @@ ghost use Rattle.share_hub.specs.TableCalls.{GoesOn, StopsOn};
 ghost use Rattle.share_hub.specs.TableRounds.{HoldsHead};
 ghost use Rattle.share_hub.specs.TableTurns.{IsLog};
 
-use crate::admission::admission;
+use crate::admission::{admission, states_of};
 use crate::hub::{Hub, HubPass};
 use crate::refresh::MOST_LOCATION;
 use crate::table_rounds::{LogEnd, LogHead, MOST_BYTES, NextCommit, version_name};
@@ -235,10 +235,13 @@ impl Hub {
         ensures goes { GoesOn pass.old pass.new log [] }
         ensures told { There (table_on log pass.old.seen) (λ t. Answers result (admitted t.commits now offer.now)) }
     {
-        match self.log_commits(rt, alloc, pass, log) {
-            Ok(commits) => admission(alloc, &commits, now, offer),
-            Err(_) => Err(NotAdmitted::NoMemory),
-        }
+        let Ok((commits, base)) = self.log_commits(rt, alloc, pass, log) else {
+            return Err(NotAdmitted::NoMemory);
+        };
+        let Ok(states) = states_of(alloc, &commits, base.as_ref(), offer) else {
+            return Err(NotAdmitted::NoMemory);
+        };
+        admission(alloc, &commits, &states, now, offer)
     }
 
     // The caller's own commit, where no further was there.

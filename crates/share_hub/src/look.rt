@@ -1,8 +1,10 @@
 // What a hub shows for one request.
-ghost use Rattle.std.specs.Prelude.{◌≡◌, ◌<◌, [], false, IfOk, IfSome, OnOk, length};
-ghost use Rattle.share_book.specs.Looks.{Counts, commits_of, glance_of, look_of, who_of};
+ghost use Rattle.std.specs.Prelude.{◌≡◌, [], false, IfOk, IfSome, OnOk, length};
+ghost use Rattle.share_book.specs.Bases.{CanReplay, FilesStand, MakesFound};
+ghost use Rattle.share_book.specs.Looks.{commits_of, glance_of, look_of, who_of};
 ghost use Rattle.share_book.specs.Views.{view_by};
 ghost use Rattle.share_hub.specs.Calls.{Adds, IsIdle};
+ghost use Rattle.share_hub.specs.Replays.{Replayed};
 
 use crate::hub::{Hub, HubPass};
 use share_book::{Ask, Look, Pinned};
@@ -11,8 +13,9 @@ use std::sync::Wait;
 use step_count::Steps;
 
 impl Hub {
-    // What one turn gives of a look.
-    fn pin<R: Wait>(
+    /// What one turn gives of a look: all of it but the files, and what makes these. The state with which they begin is the one used
+    /// last. The error is want of memory.
+    pub fn pin<R: Wait>(
         &self,
         rt: &R,
         alloc: Global,
@@ -24,10 +27,38 @@ impl Hub {
         ensures added { Adds pass.old pass.new [] }
         ensures at { IfOk result (λ p. p.look.at ≡ length pass.new.seen) }
         ensures seen { IfOk result (λ p. p.look.seen ≡ glance_of (view_by pass.new.seen (who_of ask.now.who)) ask.now.want) }
-        ensures commits { IfOk result (λ p. p.commits ≡ commits_of (view_by pass.new.seen (who_of ask.now.who)) ask.now.want) }
-        ensures some { IfOk result (λ p. IfSome p.commits (λ cs. 0 < length cs)) }
+        ensures makes { IfOk result (λ p. MakesFound (commits_of (view_by pass.new.seen (who_of ask.now.who)) ask.now.want) p.replay) }
+        ensures fits { IfOk result (λ p. IfSome p.replay CanReplay) }
     {
-        let turn = self.cell.take(rt, pass);
+        let mut turn = self.cell.take(rt, pass);
+        let pinned = turn.value.pin(alloc, ask);
+        if let Ok(pinned) = &pinned {
+            turn.value.touch(pinned);
+        }
+        self.cell.give(pass, turn);
+        pinned
+    }
+
+    // What a further turn gives of it, in which the state of the files that were found is kept. A state that finds no memory isn't.
+    fn keep_and_pin<R: Wait>(
+        &self,
+        rt: &R,
+        alloc: Global,
+        pass: &mut HubPass,
+        ask: &Ask,
+        look: &Look,
+    ) -> Result<Pinned, AllocError>
+        requires cell { (pass.old.cell ≡ self.now) × (pass.old.holds ≡ false) }
+        requires found { IfSome look.now.seen (λ s. FilesStand pass.old.seen s.found) }
+        ensures same { IsIdle pass.old pass.new }
+        ensures added { Adds pass.old pass.new [] }
+        ensures at { IfOk result (λ p. p.look.at ≡ length pass.new.seen) }
+        ensures seen { IfOk result (λ p. p.look.seen ≡ glance_of (view_by pass.new.seen (who_of ask.now.who)) ask.now.want) }
+        ensures makes { IfOk result (λ p. MakesFound (commits_of (view_by pass.new.seen (who_of ask.now.who)) ask.now.want) p.replay) }
+        ensures fits { IfOk result (λ p. IfSome p.replay CanReplay) }
+    {
+        let mut turn = self.cell.take(rt, pass);
+        turn.value.keep(look).ok();
         let pinned = turn.value.pin(alloc, ask);
         self.cell.give(pass, turn);
         pinned
@@ -36,8 +67,9 @@ impl Hub {
     /// What is found for one request, at the point of the history that the pass has seen then, which is no earlier than what it had
     /// seen: a plain function of the recipient's view at that point and of what is asked. It adds no entry.
     ///
-    /// The files of a version are made of its commits without the turn. `steps` goes up by one for each action of these. The error
-    /// is want of memory.
+    /// The files of a version are made without the turn, of the latest state of their table that is kept, up to that version, and the
+    /// commits after it. Where commits were left, the state is then kept, and what is found is looked up again, in one further turn.
+    /// `steps` goes up by one for each action that is replayed. The error is want of memory.
     pub fn look<R: Wait, L>(
         &self,
         rt: &R,
@@ -51,9 +83,15 @@ impl Hub {
         ensures added { Adds pass.old pass.new [] }
         ensures at { IfOk result (λ l. l.at ≡ length pass.new.seen) }
         ensures seen { IfOk result (λ l. l.seen ≡ look_of (view_by pass.new.seen (who_of ask.now.who)) ask.now.want) }
-        ensures counted { OnOk result (Counts (commits_of (view_by pass.new.seen (who_of ask.now.who)) ask.now.want) (glance_of (view_by pass.new.seen (who_of ask.now.who)) ask.now.want) steps.old steps.new) }
+        ensures counted { OnOk result (Replayed pass.old.seen pass.new.seen ask.now steps.old steps.new) }
     {
         let pinned = self.pin(rt, alloc, pass, ask)?;
+        let is_behind = pinned.is_behind();
+        let look = pinned.complete(alloc, steps)?;
+        if !is_behind {
+            return Ok(look);
+        }
+        let pinned = self.keep_and_pin(rt, alloc, pass, ask, &look)?;
         pinned.complete(alloc, steps)
     }
 }

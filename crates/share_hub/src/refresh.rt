@@ -10,10 +10,12 @@ ghost use Rattle.share_hub.specs.RefreshRounds.{OpensOn, RefreshRuns, RefreshesO
 ghost use Rattle.share_hub.specs.TableRounds.{HoldsHead};
 ghost use Rattle.share_hub.specs.TableTurns.{IsLog};
 
+use crate::admission::made;
 use crate::hub::{Hub, HubPass};
-use crate::table_rounds::{LogEnd, LogHead, NextCommit, VersionObject, has_version, support_of};
+use crate::table_rounds::{LogEnd, LogHead, NextCommit, VersionObject, has_version};
 use crate::table_turns::KnownLog;
 use edge_core::{Name, Store};
+use log_replay::Support;
 use log_store::LoadRefusal;
 use share_book::LogState;
 use std::alloc::{AllocError, Global};
@@ -78,7 +80,7 @@ fn ended(end: LogEnd, kept: u64, found: u32) -> Result<Refreshed, RefreshRefusal
 }
 
 impl Hub {
-    // What is known of a log for its next version. The error is want of memory.
+    // What is known of a log for its next version. The state after its commits is kept for the next time. The error is want of memory.
     pub(crate) fn log_head<R: Wait>(
         &self,
         rt: &R,
@@ -94,8 +96,15 @@ impl Hub {
         ensures goes { GoesOn pass.old pass.new log [] }
         ensures head { IfOk result (λ h. HoldsHead pass.new log h) }
     {
-        let commits = self.log_commits(rt, alloc, pass, log)?;
-        let support = support_of(alloc, &commits)?;
+        let Some(replay) = self.log_replay(rt, alloc, pass, log)? else {
+            return Ok(LogHead {
+                support: Support::new(),
+                bytes: state.bytes,
+            });
+        };
+        let head = made(alloc, &replay)?;
+        self.keep_made(rt, pass, log, &replay, &head);
+        let support = Support::of(alloc, head.get())?;
         Ok(LogHead {
             support,
             bytes: state.bytes,

@@ -1,7 +1,8 @@
 // Calls of the hub that take one turn on a table's log.
-ghost use Rattle.std.specs.Prelude.{◌≡◌, ◌∷◌, [], false, true, IfOk, None, Some, length, map};
+ghost use Rattle.std.specs.Prelude.{◌≡◌, ◌∷◌, [], false, true, IfOk, IfSome, None, Some, length, map};
 ghost use Rattle.std.specs.Arc.{arc_value};
 ghost use Rattle.log_actions.specs.CommitTexts.{commit_text};
+ghost use Rattle.share_book.specs.Bases.{CanReplay, IsBase, IsStateIn, MakesHead};
 ghost use Rattle.share_book.specs.Books.{OwnIsLawful};
 ghost use Rattle.share_book.specs.History.{open_on, table_on};
 ghost use Rattle.share_book.specs.Legal.{TakesCommit, There};
@@ -12,11 +13,11 @@ ghost use Rattle.share_hub.specs.TableTurns.{FindsLog, IsLog};
 
 use crate::hub::{Hub, HubPass};
 use crate::table_turns::{
-    CommitPublished, KnownLog, LogOpened, abort_log_in, begin_log_in, block_log_in, find_in,
-    own_commit_in, publish_commit_in,
+    CommitPublished, KnownLog, LogOpened, abort_log_in, begin_log_in, block_log_in, commits_in,
+    find_in, head_in, keep_in, own_commit_in, publish_commit_in,
 };
 use log_actions::Commit;
-use share_book::{LogState, SharedCommit};
+use share_book::{LogState, Replay, SharedCommit, SharedSnapshot};
 use std::alloc::{AllocError, Global};
 use std::sync::{Arc, Wait};
 use std::thread;
@@ -77,26 +78,94 @@ impl Hub {
         unreachable!()
     }
 
-    // The commits of a table's log on which the caller has begun. The error is want of memory.
+    // The commits of a table's log on which the caller has begun, and the latest state of it that is kept. The error is want of memory.
     pub(crate) fn log_commits<R: Wait>(
         &self,
         rt: &R,
         alloc: Global,
         pass: &mut HubPass,
         log: u32,
-    ) -> Result<Vec<Arc<Commit>>, AllocError>
+    ) -> Result<(Vec<Arc<Commit>>, Option<SharedSnapshot>), AllocError>
         requires cell { (pass.old.cell ≡ self.now) × (pass.old.holds ≡ false) }
         requires there { IsLog log pass.old.seen }
         requires begun { open_on log pass.old.seen ≡ Some pass.old.number }
         ensures same { IsIdle pass.old pass.new }
         ensures goes { GoesOn pass.old pass.new log [] }
-        ensures commits { IfOk result (λ v. There (table_on log pass.old.seen) (λ t. t.commits ≡ map arc_value v.items)) }
+        ensures commits { IfOk result (λ v. There (table_on log pass.old.seen) (λ t. t.commits ≡ map arc_value v.0.items)) }
+        ensures base { IfOk result (λ v. There (table_on log pass.old.seen) (λ t. IsBase t.commits v.1)) }
     {
         let turn = self.cell.take(rt, pass);
         turn.value.len();
-        let commits = turn.value.commits(alloc, log);
+        let found = commits_in(&turn.value, alloc, log);
         self.cell.give(pass, turn);
-        commits
+        found
+    }
+
+    // What makes the state after a table's commits, on whose log the caller has begun, none where it has none. The error is want of
+    // memory.
+    pub(crate) fn log_replay<R: Wait>(
+        &self,
+        rt: &R,
+        alloc: Global,
+        pass: &mut HubPass,
+        log: u32,
+    ) -> Result<Option<Replay>, AllocError>
+        requires cell { (pass.old.cell ≡ self.now) × (pass.old.holds ≡ false) }
+        requires there { IsLog log pass.old.seen }
+        requires begun { open_on log pass.old.seen ≡ Some pass.old.number }
+        ensures same { IsIdle pass.old pass.new }
+        ensures goes { GoesOn pass.old pass.new log [] }
+        ensures makes { IfOk result (λ r. There (table_on log pass.old.seen) (λ t. MakesHead t.commits r)) }
+        ensures fits { IfOk result (λ r. IfSome r CanReplay) }
+    {
+        let turn = self.cell.take(rt, pass);
+        turn.value.len();
+        let head = head_in(&turn.value, alloc, log);
+        self.cell.give(pass, turn);
+        head
+    }
+
+    // Keeps a state of a table's log on which the caller has begun, where memory is there for it.
+    pub(crate) fn keep_state<R: Wait>(
+        &self,
+        rt: &R,
+        pass: &mut HubPass,
+        log: u32,
+        state: &SharedSnapshot,
+    )
+        requires cell { (pass.old.cell ≡ self.now) × (pass.old.holds ≡ false) }
+        requires there { IsLog log pass.old.seen }
+        requires begun { open_on log pass.old.seen ≡ Some pass.old.number }
+        requires state { There (table_on log pass.old.seen) (λ t. IsStateIn t.commits state.now) }
+        ensures same { IsIdle pass.old pass.new }
+        ensures goes { GoesOn pass.old pass.new log [] }
+    {
+        let mut turn = self.cell.take(rt, pass);
+        turn.value.len();
+        keep_in(&mut turn.value, log, state);
+        self.cell.give(pass, turn);
+    }
+
+    // Keeps the state that a replay made, unless it was at hand.
+    pub(crate) fn keep_made<R: Wait>(
+        &self,
+        rt: &R,
+        pass: &mut HubPass,
+        log: u32,
+        replay: &Replay,
+        state: &SharedSnapshot,
+    )
+        requires cell { (pass.old.cell ≡ self.now) × (pass.old.holds ≡ false) }
+        requires there { IsLog log pass.old.seen }
+        requires begun { open_on log pass.old.seen ≡ Some pass.old.number }
+        requires state { There (table_on log pass.old.seen) (λ t. IsStateIn t.commits state.now) }
+        ensures same { IsIdle pass.old pass.new }
+        ensures goes { GoesOn pass.old pass.new log [] }
+    {
+        if replay.commits.items().is_empty() {
+            return;
+        }
+        self.keep_state(rt, pass, log, state);
     }
 
     // Ends what the caller began.

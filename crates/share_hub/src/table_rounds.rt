@@ -63,22 +63,6 @@ pub enum NextCommit {
     End(LogEnd),
 }
 
-// What the next version's support needs to know of a log. The error is want of memory.
-pub fn support_of(alloc: Global, commits: &[Arc<Commit>]) -> Result<Support, AllocError>
-    requires { IsSupported (map arc_value commits.now) }
-    ensures { IfOk result (λ s. s ≡ standing_of (map arc_value commits.now)) }
-{
-    let mut support = Support::new();
-    for commit in commits {
-        match support.admit(alloc, commit) {
-            Ok(()) => {}
-            Err(NoState::NoMemory) => return Err(AllocError),
-            Err(NoState::Refusal(_)) => unreachable!(),
-        }
-    }
-    Ok(support)
-}
-
 // Keeps a commit as the next version, where it is read and the log stays within 64 MiB. Unless it is kept, nothing has changed.
 fn take_next(alloc: Global, head: &mut LogHead, commit: Commit, bytes: u64) -> Taken
     requires small { head.old.support.versions < 2 ^ 63 }

@@ -1,6 +1,8 @@
 // What is done of a table's log within one turn.
-ghost use Rattle.std.specs.Prelude.{◌≡◌, ◌++◌, ◌∷◌, [], None, Some, length, slice_index, ◌-◌, ◌≤◌, ◌<◌, true};
+ghost use Rattle.std.specs.Prelude.{◌≡◌, ◌++◌, ◌∷◌, [], IfOk, IfSome, None, Some, length, map, slice_index, ◌-◌, ◌≤◌, ◌<◌, true};
+ghost use Rattle.std.specs.Arc.{arc_value};
 ghost use Rattle.log_actions.specs.CommitTexts.{commit_text};
+ghost use Rattle.share_book.specs.Bases.{CanReplay, IsBase, IsStateIn, MakesHead};
 ghost use Rattle.share_book.specs.Books.{OthersRest, OwnIsLawful, rests};
 ghost use Rattle.share_book.specs.History.{entry, open_on, pending, starts, table_on};
 ghost use Rattle.share_book.specs.Legal.{TakesCommit, There};
@@ -8,7 +10,7 @@ ghost use Rattle.share_book.specs.declared.entry.Act.TheVariants as act;
 ghost use Rattle.share_hub.specs.TableTurns.{Blocks, FindsLog, GoesOnLog, IsLog, OpensLog, PublishesCommit};
 
 use log_actions::Commit;
-use share_book::{Book, LogState, SharedCommit};
+use share_book::{Book, LogState, Replay, SharedCommit, SharedSnapshot};
 use std::alloc::{AllocError, Global};
 use std::sync::Arc;
 
@@ -44,6 +46,44 @@ pub fn find_in(book: &Book, location: &str) -> Option<KnownLog>
         log,
         state: book.state(log),
     })
+}
+
+// The commits of a table's log, and the latest state of it that is kept.
+pub fn commits_in(
+    book: &Book,
+    alloc: Global,
+    log: u32,
+) -> Result<(Vec<Arc<Commit>>, Option<SharedSnapshot>), AllocError>
+    requires { IsLog log book.now.past.history }
+    ensures commits { IfOk result (λ v. There (table_on log book.now.past.history) (λ t. t.commits ≡ map arc_value v.0.items)) }
+    ensures base { IfOk result (λ v. There (table_on log book.now.past.history) (λ t. IsBase t.commits v.1)) }
+{
+    book.len();
+    let commits = book.commits(alloc, log)?;
+    let base = book.base(log)?;
+    Ok((commits, base))
+}
+
+// What makes the state after all commits of a table's log, none where it has none.
+pub fn head_in(book: &Book, alloc: Global, log: u32) -> Result<Option<Replay>, AllocError>
+    requires { IsLog log book.now.past.history }
+    ensures makes { IfOk result (λ r. There (table_on log book.now.past.history) (λ t. MakesHead t.commits r)) }
+    ensures fits { IfOk result (λ r. IfSome r CanReplay) }
+{
+    book.len();
+    book.head(alloc, log)
+}
+
+// Keeps a state of a table's log, where memory is there for it.
+pub fn keep_in(book: &mut Book, log: u32, state: &SharedSnapshot)
+    requires there { IsLog log book.old.past.history }
+    requires state { There (table_on log book.old.past.history) (λ t. IsStateIn t.commits state.now) }
+    ensures { book.new ≡ book.old }
+{
+    book.len();
+    if let Ok(state) = state.share() {
+        book.keep_state(log, state).ok();
+    }
 }
 
 pub fn begin_log_in(book: &mut Book, caller: u32, log: u32) -> LogOpened

@@ -1,4 +1,4 @@
-use Rattle.std.proofs.Common.{ℕ, Some, Err, sym, subst}
+use Rattle.std.proofs.Common.{Some, Err, sym, subst}
 use Rattle.share_hub.specs.declared.commit.CommitRefusal.{CommitRefusal}
 use Rattle.share_hub.specs.CommitRounds.{CommitRounds}
 use Rattle.share_hub.proofs.CommitSteps.{held_same, lacks_next, round_ended, rounds_same}

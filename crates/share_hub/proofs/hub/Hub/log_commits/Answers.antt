@@ -1,24 +1,31 @@
-use Rattle.std.proofs.Common.{map, sym, ap, ◌∙◌, subst, arith}
+use Rattle.std.proofs.Common.{◌≡◌, Option, map, sym, ap, ◌∙◌, subst}
 use Rattle.std.specs.Arc.{arc_value}
+use Rattle.std.specs.Result.{IfOk}
+use Rattle.share_book.specs.Bases.{IsBase}
 use Rattle.share_book.specs.History.{table_on}
-use Rattle.share_book.specs.Legal.{IsLegal}
+use Rattle.share_book.specs.Legal.{IsLegal, There}
+use Rattle.share_book.specs.TableView.{TableLog}
 use Rattle.share_hub.specs.TableTurns.{IsLog}
-use Rattle.share_hub.proofs.TablePasses.{commits_same, goes_on, is_log_later, stands_on}
+use Rattle.share_hub.proofs.TablePasses.{goes_on, is_log_later, stands_on}
 use Rattle.share_hub.proofs.hub.Hub.log_commits.Goals as goal
 
-pub commits-commits-requires-clause-there : goal.commits-commits-requires-clause-there
-commits-commits-requires-clause-there g c =
+pub commits_in-found-requires : goal.commits_in-found-requires
+commits_in-found-requires g c =
     let a = c.take-turn.ensures in
-    let i : IsLog c.args.log c.take-turn.result.value.past.history = subst (IsLog c.args.log) (sym a.value.0) (is_log_later c.args.log _ _ a.seen c.requires.there) in
-    let most = i.1 in
-    let n = c.len.ensures.rooms in
-    omega arith
+    subst (IsLog c.args.log) (sym a.value.0) (is_log_later c.args.log _ _ a.seen c.requires.there)
 
 pub returns-clause-goes : goal.returns-clause-goes
 returns-clause-goes g c = let a = c.take-turn.ensures in let b = c.give.ensures in
     goes_on c.args.log c.args.pass.now c.take-turn.new.pass c.give.new.pass _ (record { same = a.same; seen = a.seen; kept = a.mine }) (record { same = b.same; idle = b.idle; seen = b.seen; kept = b.mine }) (subst IsLegal a.value.0 c.len.ensures.legal) c.requires.there c.requires.begun a.value.0
 
 pub returns-clause-commits : goal.returns-clause-commits
-returns-clause-commits g c = let a = c.take-turn.ensures in
+returns-clause-commits g c =
+    let a = c.take-turn.ensures in
     let s = stands_on c.args.log c.args.pass.now c.take-turn.new.pass (record { same = a.same; seen = a.seen; kept = a.mine }) (subst IsLegal a.value.0 c.len.ensures.legal) c.requires.there c.requires.begun in
-    commits_same (λ v. map arc_value v.items) _ _ _ (sym (ap (table_on c.args.log) a.value.0 ∙ s.table)) c.commits-commits.ensures
+    subst (λ (o : Option TableLog). IfOk c.commits_in-found.result (λ v. There o (λ t. t.commits ≡ map arc_value v.0.items))) (ap (table_on c.args.log) a.value.0 ∙ s.table) c.commits_in-found.ensures.commits
+
+pub returns-clause-base : goal.returns-clause-base
+returns-clause-base g c =
+    let a = c.take-turn.ensures in
+    let s = stands_on c.args.log c.args.pass.now c.take-turn.new.pass (record { same = a.same; seen = a.seen; kept = a.mine }) (subst IsLegal a.value.0 c.len.ensures.legal) c.requires.there c.requires.begun in
+    subst (λ (o : Option TableLog). IfOk c.commits_in-found.result (λ v. There o (λ t. IsBase t.commits v.1))) (ap (table_on c.args.log) a.value.0 ∙ s.table) c.commits_in-found.ensures.base

@@ -1,17 +1,32 @@
-use Rattle.std.proofs.Common.{◌≡◌, Option, option_map, ◌∙◌, subst}
+use Rattle.std.proofs.Common.{◌≡◌, Option, option_map, sym, ap, ◌∙◌, subst}
+use Rattle.std.specs.Prelude.{IfSome}
 use Rattle.std.specs.Result.{IfOk}
-use Rattle.share_book.specs.Looks.{look_of, seen_with, who_of}
+use Rattle.share_book.specs.Bases.{FilesStand}
+use Rattle.share_book.specs.Looks.{commits_of, look_of, seen_with, who_of}
 use Rattle.share_book.specs.Views.{view_by}
 use Rattle.share_book.specs.declared.look.Seen.{Seen}
-use Rattle.share_book.proofs.Looking.{glances_become_looks}
+use Rattle.share_book.proofs.Looking.{glances_become_looks, look_stands}
 use Rattle.share_hub.proofs.hub.Hub.look.Goals as goal
+
+pub returns-then-not-is_behind-clause-seen : goal.returns-then-not-is_behind-clause-seen
+returns-then-not-is_behind-clause-seen g c =
+    let view = view_by c.pin.new.pass.seen (who_of c.args.ask.now.who) in
+    let w = c.args.ask.now.want in
+    c.in_ok-look.ensures.seen (commits_of view w) c.in_ok-pinned.ensures.makes ∙ ap (option_map (seen_with (commits_of view w))) c.in_ok-pinned.ensures.seen ∙ glances_become_looks view w
+
+pub keep_and_pin-requires-clause-found : goal.keep_and_pin-requires-clause-found
+keep_and_pin-requires-clause-found g c =
+    let h = c.pin.new.pass.seen in
+    let who = who_of c.args.ask.now.who in
+    let w = c.args.ask.now.want in
+    let view = view_by h who in
+    let seen : c.in_ok-look.look.seen ≡ look_of view w =
+    c.in_ok-look.ensures.seen (commits_of view w) c.in_ok-pinned.ensures.makes ∙ ap (option_map (seen_with (commits_of view w))) c.in_ok-pinned.ensures.seen ∙ glances_become_looks view w in
+    subst (λ (o : Option Seen). IfSome o (λ s. FilesStand h s.found)) (sym seen) (look_stands h who w)
 
 pub returns-clause-seen : goal.returns-clause-seen
 returns-clause-seen g c =
-    let view = view_by c.pin.new.pass.seen (who_of c.args.ask.now.who) in
+    let view = view_by c.keep_and_pin.new.pass.seen (who_of c.args.ask.now.who) in
     let w = c.args.ask.now.want in
-    let p = c.in_ok-pinned.pinned in
-    let seen = c.in_ok-pinned.ensures.seen in
-    let commits = c.in_ok-pinned.ensures.commits in
-    let same : option_map (seen_with p.commits) p.look.seen ≡ look_of view w = (λ i. option_map (seen_with (commits i)) (seen i)) ∙ glances_become_looks view w in
-    subst (λ (s : Option Seen). IfOk c.complete.result (λ l. l.seen ≡ s)) same c.complete.ensures.seen
+    let seen = ap (option_map (seen_with (commits_of view w))) c.in_ok-pinned-2.ensures.seen ∙ glances_become_looks view w in
+    subst (λ (s : Option Seen). IfOk c.complete-2.result (λ l. l.seen ≡ s)) seen (c.complete-2.ensures.seen (commits_of view w) c.in_ok-pinned-2.ensures.makes)

@@ -1,4 +1,4 @@
-use Rattle.std.proofs.Common.{ℕ, None, Some, Ok, Err, refl, sym, subst}
+use Rattle.std.proofs.Common.{None, Some, Err, refl, sym, subst}
 use Rattle.log_store.proofs.Growing.{looked_more, looked_refl}
 use Rattle.share_hub.specs.declared.commit.CommitRefusal.{CommitRefusal}
 use Rattle.share_hub.specs.CommitRounds.{CommitRounds, refused_by}

@@ -1,4 +1,4 @@
-use Rattle.std.proofs.Common.{◌≡◌, ◌≤◌, ◌-◌, ◌^◌, ◌∙◌, ℕ, List, length, true, ap, sym, subst, arith}
+use Rattle.std.proofs.Common.{◌≤◌, ◌-◌, ◌^◌, ◌∙◌, ℕ, List, length, true, ap, sym, subst, arith}
 use Rattle.log_actions.specs.declared.actions.Action.{Action}
 use Rattle.log_actions.specs.CommitTexts.{commit_text}
 use Rattle.log_commit.specs.Names.{commit_name}
@@ -6,7 +6,7 @@ use Rattle.log_store.proofs.Growing.{looked_once}
 use Rattle.share_book.specs.Books.{OwnIsLawful}
 use Rattle.share_book.specs.Legal.{TakesCommit}
 use Rattle.share_hub.specs.CommitRounds.{HasName}
-use Rattle.share_hub.proofs.CommitSteps.{passes_limit, short_of, takes_own}
+use Rattle.share_hub.proofs.CommitSteps.{short_of, takes_own}
 use Rattle.share_hub.proofs.CommitStores.{perhaps_at, placed_at}
 use Rattle.share_hub.proofs.hub.Hub.place.Goals as goal
 
