@@ -14,6 +14,9 @@ pub mod RevokedLemmas
 pub mod Cutting
 pub mod Paging
 pub mod Standing
+pub mod PrintedLengths
+pub mod LinkLengths
+pub mod LineLengths
 pub mod Trailing
 pub mod ListingLemmas
 pub mod ReplyLemmas

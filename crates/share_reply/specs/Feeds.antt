@@ -89,9 +89,13 @@ line_by kind.Add f = line.Add f
 line_by kind.Cdf f = line.Cdf f
 line_by kind.Remove f = line.Remove f
 
+-- a change with a link, and when that ends
+abbrev pub change_with : List ℕ → ℕ → ChangedFile → FileLine
+change_with url expires c = record { url = url; id = c.path; values = c.values; size = c.size; stats = c.stats; expires = Some expires; time = Some c.time; version = Some c.version }
+
 -- "Add File", "CDF File", "Remove File", each with its link
 abbrev pub change_line : ReplyKeys → TableAccess → ℕ → ChangedFile → Line
-change_line keys a expires c = line_by c.kind (record { url = link_to keys a expires c.path; id = c.path; values = c.values; size = c.size; stats = c.stats; expires = Some expires; time = Some c.time; version = Some c.version })
+change_line keys a expires c = line_by c.kind (change_with (link_to keys a expires c.path) expires c)
 
 abbrev pub feed_cursor : TableAccess → FeedStart → ℕ → Cursor
 feed_cursor a s place = cursor.Feed (record { access = a; asked_from = s.asked_from; asked_to = s.asked_to; from = s.from; to = s.to; place = place })

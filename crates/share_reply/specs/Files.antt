@@ -20,6 +20,7 @@ use Rattle.share_book.specs.declared.look.PartFound.TheVariants as part_found
 use Rattle.share_book.specs.declared.look.TableRefusal.{TableRefusal}
 use Rattle.share_book.specs.declared.look.TableRefusal.TheVariants as refusal
 use Rattle.share_lines.specs.Lines.{meta_of}
+use Rattle.share_lines.specs.declared.kinds.FileLine.{FileLine}
 use Rattle.share_lines.specs.declared.kinds.Line.{Line}
 use Rattle.share_lines.specs.declared.kinds.Line.TheVariants as line
 use Rattle.share_request.specs.declared.query.QueryBody.{QueryBody}
@@ -104,9 +105,12 @@ agrees q c = is_version q.version c.asked && (is_moment q.moment c.asked && is_h
 
 -- ---- the page
 
--- a file with its link, and when that ends
+-- a file with a link, and when that ends
+abbrev pub file_with : List ℕ → ℕ → AddFile → FileLine
+file_with url expires f = record { url = url; id = f.path; values = f.values; size = f.size; stats = f.stats; expires = Some expires; time = None; version = None }
+
 abbrev pub file_line : ReplyKeys → TableAccess → ℕ → AddFile → Line
-file_line keys a expires f = line.File (record { url = link_to keys a expires f.path; id = f.path; values = f.values; size = f.size; stats = f.stats; expires = Some expires; time = None; version = None })
+file_line keys a expires f = line.File (file_with (link_to keys a expires f.path) expires f)
 
 abbrev pub files_cursor : TableAccess → FilesStart → ℕ → Cursor
 files_cursor a s place = cursor.Files (record { access = a; asked = s.asked; version = s.version; hint = s.hint; place = place })

@@ -5,6 +5,7 @@ use Rattle.page_token.specs.declared.cursor.TableAccess.{TableAccess}
 use Rattle.share_lines.specs.Lines.{meta_of}
 use Rattle.share_lines.specs.Printing.{line_text}
 use Rattle.share_lines.specs.declared.kinds.EndLine.{EndLine}
+use Rattle.share_lines.specs.declared.kinds.FileLine.{FileLine}
 use Rattle.share_lines.specs.declared.kinds.Line.{Line}
 use Rattle.share_lines.specs.declared.kinds.Line.TheVariants as line
 use Rattle.share_reply.specs.Feeds.{change_line}
@@ -32,6 +33,10 @@ line_from keys a expires (found.Meta m) = line.MetaData (meta_of m.now)
 line_from keys a expires (found.File f) = file_line keys a expires f.now
 line_from keys a expires (found.Change c) = change_line keys a expires c.now
 line_from keys a expires (found.End e) = line.End e.now
+
+-- the line with another link
+abbrev pub with_url : List ℕ → FileLine → FileLine
+with_url url f = record f { url = url }
 
 -- a line's text and a line feed
 abbrev pub fed : Line → List ℕ

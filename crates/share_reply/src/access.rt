@@ -3,6 +3,7 @@ ghost use Rattle.std.specs.Prelude.{◌≡◌, IfOk, bytes_eq};
 ghost use Rattle.share_reply.specs.Access.{expiry};
 
 use crate::keys::ReplyKeys;
+use crate::lengths::{endpoint_len, escaped_len, name_len, number_len};
 use json_tree::{Edition, Millis, Text};
 use page_token::TableAccess;
 use share_book::Spot;
@@ -10,6 +11,9 @@ use share_catalog::{CatalogName, TableName};
 use signed_link::{LinkParts, link};
 use std::alloc::{AllocError, Global};
 use std::marker::Model;
+
+// The bytes of a link that are no part's: `/files`, four slashes, the names of five parameters, and the digits of the tag.
+const FIXED_BYTES: u64 = 89;
 
 /// Who reads which table, under which editions of its share's grant and of its binding. Contracts see it as tokens have it.
 #[derive(Drop)]
@@ -41,7 +45,8 @@ fn is_text(text: &Text, name: &CatalogName) -> bool
 }
 
 impl Access {
-    ghost use Rattle.std.specs.Prelude.{◌≡◌, IfOk};
+    ghost use Rattle.std.specs.Prelude.{◌≡◌, ◌<◌, ◌^◌, IfOk, length};
+    ghost use Rattle.json.specs.Print.{escape};
     ghost use Rattle.share_reply.specs.Access.{access, is_same_edition, is_same_table, link_parts, link_to};
 
     // A recipient's access to a table that stands there. A recipient has a name, so another text never comes.
@@ -126,6 +131,22 @@ impl Access {
     {
         let parts = self.link_parts(alloc, expires, path)?;
         link(alloc, &keys.link, keys.endpoint.as_str(), &parts)
+    }
+
+    // How many bytes that link has in a JSON string. It is counted by its parts: nothing is signed, and no memory is taken.
+    pub(crate) fn link_len(&self, keys: &ReplyKeys, expires: Millis, path: &Text) -> u128
+        ensures counted { result ≡ length (escape (link_to keys.now self.now expires path.now)) }
+        ensures few { result < 2 ^ 67 }
+    {
+        let names = name_len(&self.table.share)
+            + name_len(&self.table.schema)
+            + name_len(&self.table.table)
+            + name_len(&self.recipient);
+        let numbers = number_len(self.binding.get())
+            + number_len(expires.get())
+            + number_len(self.grant.get());
+        let others = FIXED_BYTES + endpoint_len(&keys.endpoint) + names + numbers;
+        u128::from(others) + escaped_len(path.as_str())
     }
 }
 

@@ -9,6 +9,7 @@ mod feeds;
 mod files;
 mod keys;
 mod law;
+mod lengths;
 mod lines;
 mod links;
 mod listing_text;

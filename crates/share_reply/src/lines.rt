@@ -1,13 +1,14 @@
 // The lines of a reply.
-ghost use Rattle.std.specs.Prelude.{◌≡◌, ◌<◌, ◌+◌, ◌++◌, ◌∷◌, [], IfOk, None, OnErr, OnOk, length, option_map, option_to_list, slice_get, ℕ};
+ghost use Rattle.std.specs.Prelude.{◌≡◌, ◌<◌, ◌+◌, ◌^◌, ◌++◌, ◌∷◌, [], IfOk, List, None, OnErr, OnOk, length, option_map, option_to_list, slice_get, ℕ};
+ghost use Rattle.json.specs.Print.{escape};
 ghost use Rattle.page_token.specs.declared.cursor.TableAccess.{TableAccess};
 ghost use Rattle.share_lines.specs.Lines.{meta_of};
 ghost use Rattle.share_lines.specs.Parts.{file_in, line_of};
 ghost use Rattle.share_lines.specs.declared.kinds.FileLine.{FileLine};
 ghost use Rattle.share_lines.specs.declared.kinds.Line.TheVariants as line;
-ghost use Rattle.share_reply.specs.Feeds.{change_line, line_by};
-ghost use Rattle.share_reply.specs.Files.{file_line};
-ghost use Rattle.share_reply.specs.Planned.{content_lines, count_of, fed, line_from, lines_of};
+ghost use Rattle.share_reply.specs.Feeds.{change_line, change_with, line_by};
+ghost use Rattle.share_reply.specs.Files.{file_line, file_with};
+ghost use Rattle.share_reply.specs.Planned.{content_lines, count_of, fed, line_from, lines_of, with_url};
 ghost use Rattle.share_reply.specs.declared.keys.ReplyKeys.{ReplyKeys};
 
 use crate::access::Access;
@@ -16,7 +17,8 @@ use change_feed::{Change, ChangeKind};
 use json_tree::{Millis, Pairs, Text, copy_text_or_none};
 use log_actions::{AddFile, MetaData};
 use share_lines::{
-    EndLine, FileKind, FileParts, Line, push_file_parts, push_line, push_meta, push_protocol,
+    EndLine, FileKind, FileParts, Line, file_parts_len, push_file_parts, push_line, push_meta,
+    push_protocol,
 };
 use std::alloc::{AllocError, Global};
 use std::marker::Model;
@@ -62,7 +64,22 @@ impl<'a> Model for LinePlan<'a> {
 
 // ---- one line
 
-// What the line of a file is printed of, with its link.
+// What the line of a file is printed of, with that link.
+fn file_parts<'b>(url: &'b Text, expires: Millis, file: &'b AddFile) -> FileParts<'b>
+    ensures { file_in result ≡ file_with url.now expires file.now }
+{
+    FileParts {
+        url,
+        id: &file.path,
+        values: &file.values,
+        size: file.size,
+        stats: &file.stats,
+        expires: Some(expires),
+        time: None,
+        version: None,
+    }
+}
+
 fn push_file(
     alloc: Global,
     out: &mut Vec<u8>,
@@ -75,17 +92,7 @@ fn push_file(
     ensures kept { OnErr result (out.new.items ≡ out.old.items) }
 {
     let url = access.link(alloc, keys, expires, &file.path)?;
-    let parts = FileParts {
-        url: &url,
-        id: &file.path,
-        values: &file.values,
-        size: file.size,
-        stats: &file.stats,
-        expires: Some(expires),
-        time: None,
-        version: None,
-    };
-    push_file_parts(alloc, out, FileKind::File, &parts)
+    push_file_parts(alloc, out, FileKind::File, &file_parts(&url, expires, file))
 }
 
 fn kind_of(kind: ChangeKind) -> FileKind
@@ -95,6 +102,30 @@ fn kind_of(kind: ChangeKind) -> FileKind
         ChangeKind::Add => FileKind::Add,
         ChangeKind::Cdf => FileKind::Cdf,
         ChangeKind::Remove => FileKind::Remove,
+    }
+}
+
+// What the line of a change is printed of, with that link. What a change of its kind doesn't have is lent.
+fn change_parts<'b>(
+    url: &'b Text,
+    expires: Millis,
+    change: &'b Change<'_>,
+    no_values: &'b Pairs,
+    no_stats: &'b Option<Text>,
+) -> FileParts<'b>
+    requires values { no_values.now ≡ [] }
+    requires stats { no_stats.now ≡ None }
+    ensures { file_in result ≡ change_with url.now expires change.now }
+{
+    FileParts {
+        url,
+        id: change.path(),
+        values: change.values(no_values),
+        size: change.size(),
+        stats: change.stats(no_stats),
+        expires: Some(expires),
+        time: Some(change.time()),
+        version: Some(change.version()),
     }
 }
 
@@ -112,16 +143,7 @@ fn push_change(
     let url = access.link(alloc, keys, expires, change.path())?;
     let no_values = Pairs::new(alloc);
     let no_stats = None;
-    let parts = FileParts {
-        url: &url,
-        id: change.path(),
-        values: change.values(&no_values),
-        size: change.size(),
-        stats: change.stats(&no_stats),
-        expires: Some(expires),
-        time: Some(change.time()),
-        version: Some(change.version()),
-    };
+    let parts = change_parts(&url, expires, change, &no_values, &no_stats);
     push_file_parts(alloc, out, kind_of(change.kind()), &parts)
 }
 
@@ -155,6 +177,87 @@ fn push(
         PlanLine::File(file) => push_file(alloc, out, keys, access, expires, file),
         PlanLine::Change(change) => push_change(alloc, out, keys, access, expires, change),
         PlanLine::End(end) => push_end(alloc, out, end),
+    }
+}
+
+// ---- how long a line is
+
+// How many bytes the line of these parts has, which have no link, with a link of so many bytes and its line feed. The error is that there
+// are 2^64 or more.
+fn linked_len(kind: FileKind, parts: &FileParts<'_>, link: u128) -> Result<u64, AllocError>
+    requires none { (file_in parts.now).url ≡ [] }
+    requires few { link < 2 ^ 67 }
+    ensures { (url : List ℕ) → length (escape url) ≡ link → IfOk result (λ bytes. bytes ≡ length (fed (line_of kind (with_url url (file_in parts.now))))) }
+{
+    let bytes = u128::from(file_parts_len(kind, parts)) + link + 1;
+    match u64::try_from(bytes) {
+        Ok(bytes) => Ok(bytes),
+        Err(_) => Err(AllocError),
+    }
+}
+
+fn file_len(
+    alloc: Global,
+    keys: &ReplyKeys,
+    access: &Access,
+    expires: Millis,
+    file: &AddFile,
+) -> Result<u64, AllocError>
+    ensures { IfOk result (λ bytes. bytes ≡ length (fed (file_line keys.now access.now expires file.now))) }
+{
+    let no_url = Text::of(String::new(alloc));
+    let link = access.link_len(keys, expires, &file.path);
+    linked_len(FileKind::File, &file_parts(&no_url, expires, file), link)
+}
+
+fn change_len(
+    alloc: Global,
+    keys: &ReplyKeys,
+    access: &Access,
+    expires: Millis,
+    change: &Change<'_>,
+) -> Result<u64, AllocError>
+    ensures { IfOk result (λ bytes. bytes ≡ length (fed (change_line keys.now access.now expires change.now))) }
+{
+    let no_url = Text::of(String::new(alloc));
+    let no_values = Pairs::new(alloc);
+    let no_stats = None;
+    let parts = change_parts(&no_url, expires, change, &no_values, &no_stats);
+    let link = access.link_len(keys, expires, change.path());
+    linked_len(kind_of(change.kind()), &parts, link)
+}
+
+// How many bytes a line has that is made for it.
+fn made_len(
+    alloc: Global,
+    keys: &ReplyKeys,
+    access: &Access,
+    expires: Millis,
+    line: PlanLine<'_, '_>,
+) -> Result<u64, AllocError>
+    ensures { IfOk result (λ bytes. bytes ≡ length (fed (line_from keys.now access.now expires line.entry))) }
+{
+    let mut text = Vec::new(alloc);
+    push(alloc, &mut text, keys, access, expires, line)?;
+    Ok(text.len() as u64)
+}
+
+// How many bytes `push` appends. A line with a link isn't made for it.
+fn len_of(
+    alloc: Global,
+    keys: &ReplyKeys,
+    access: &Access,
+    expires: Millis,
+    line: PlanLine<'_, '_>,
+) -> Result<u64, AllocError>
+    ensures { IfOk result (λ bytes. bytes ≡ length (fed (line_from keys.now access.now expires line.entry))) }
+{
+    match line {
+        PlanLine::File(file) => file_len(alloc, keys, access, expires, file),
+        PlanLine::Change(change) => change_len(alloc, keys, access, expires, change),
+        PlanLine::Protocol => made_len(alloc, keys, access, expires, PlanLine::Protocol),
+        PlanLine::Meta(meta) => made_len(alloc, keys, access, expires, PlanLine::Meta(meta)),
+        PlanLine::End(end) => made_len(alloc, keys, access, expires, PlanLine::End(end)),
     }
 }
 
@@ -280,17 +383,24 @@ impl<'a> LinePlan<'a> {
         }
     }
 
-    /// The bytes of all lines, each with its line feed. Each is made once for it. The error is want of memory, or that there are
-    /// 2^64 bytes or more, which no memory holds.
+    // How many bytes `push_line` appends.
+    fn line_len(&self, alloc: Global, n: u64) -> Result<u64, AllocError>
+        ensures { IfOk result (λ bytes. bytes ≡ length (text_at self.now n)) }
+    {
+        match line_at(self.meta, &self.content, &self.end, n) {
+            Some(line) => len_of(alloc, self.keys, &self.access, self.expires, line),
+            None => Ok(0),
+        }
+    }
+
+    /// The bytes of all lines, each with its line feed. The lines of files and changes are counted and not made: none of their links is
+    /// signed for it. The error is want of memory for one of the other lines, or that there are 2^64 bytes or more, which no memory holds.
     pub fn len(&self, alloc: Global) -> Result<u64, AllocError>
         ensures { IfOk result (λ bytes. bytes ≡ length (body_text self.now)) }
     {
         let mut bytes = 0u64;
-        let mut line = Vec::new(alloc);
         for n in 0..self.count() {
-            line.clear();
-            self.push_line(alloc, n, &mut line)?;
-            match bytes.checked_add(line.len() as u64) {
+            match bytes.checked_add(self.line_len(alloc, n)?) {
                 Some(more) => bytes = more,
                 None => return Err(AllocError),
             }
