@@ -1,0 +1,4 @@
+pub mod Pieces
+pub mod Ranges
+pub mod Spans
+pub mod Picks
