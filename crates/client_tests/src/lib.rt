@@ -7,3 +7,5 @@ mod calls;
 mod files;
 #[cfg(test)]
 mod lists;
+#[cfg(test)]
+mod tables;

@@ -1,7 +1,11 @@
 mod Chaining
+mod Contents
 mod Counts
+mod Digits
 mod Escapes
+mod Floats
 mod Items
 mod Knowing
 mod Lines
 mod Listed
+mod Tabled

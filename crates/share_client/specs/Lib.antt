@@ -1,4 +1,5 @@
 pub mod Asking
+pub mod Bodies
 pub mod Chains
 pub mod Clients
 pub mod Escape
@@ -12,4 +13,9 @@ pub mod Routes
 pub mod Servers
 pub mod Sides
 pub mod Steps
+pub mod TablePages
+pub mod TableRequests
+pub mod TableSteps
+pub mod TableVersions
+pub mod Tables
 pub mod Targets

@@ -1,5 +1,5 @@
-//! The client of a recipient (Delta Sharing PROTOCOL.md, "REST APIs"): the tables that are shared with it, and files by their links,
-//! over any [`Link`](edge_core::Link).
+//! The client of a recipient (Delta Sharing PROTOCOL.md, "REST APIs"): the tables that are shared with it, their files and changes,
+//! and files by their links, over any [`Link`](edge_core::Link).
 #![tactic(auto)]
 
 mod ask;
@@ -10,12 +10,22 @@ mod fault;
 mod fetch;
 mod listing;
 mod lists;
+mod page_head;
+mod query_body;
 mod request;
 mod route;
 mod server;
+mod table_page;
+mod table_read;
+mod table_request;
+mod table_version;
+mod tables;
 mod target;
 
 pub use case_table::Refusal;
 pub use client::Client;
 pub use fault::ClientFault;
 pub use listing::SharedTable;
+pub use query_body::QueryBody;
+pub use share_lines::{FileLine, Line};
+pub use table_read::TableRead;

@@ -101,7 +101,7 @@ fn read_items<T: Listed>(
     Ok(())
 }
 
-fn unless_empty(token: Option<Text>) -> Option<Text>
+pub(crate) fn unless_empty(token: Option<Text>) -> Option<Text>
     ensures { result ≡ unless_empty token }
 {
     match token {

@@ -1,0 +1,206 @@
+-- The pages of a table, and what is read of them.
+use Rattle.std.proofs.Common.{◌≡◌, ℕ, ◌+◌, inl, inr, List, [], ◌∷◌, ◌++◌, length, Option, Some, None, option_map, Result, Ok, Err, refl, sym, ap, subst, ◌∙◌, append-nil, length-append}
+use Rattle.std.specs.Prelude.{⊤}
+use Rattle.std.proofs.lemmas.List.{flat_map_more}
+use Rattle.std.proofs.lemmas.List.Elements.{All-append, All-cons, All-nil}
+use Rattle.share_lines.specs.declared.kinds.FileLine.{FileLine}
+use Rattle.share_lines.specs.declared.kinds.Line.{Line}
+use Rattle.share_client.specs.Asking.{Answers, Asks}
+use Rattle.share_client.specs.Chains.{Agree, Begun, Chain, Changed, Ends, Paging, Turn}
+use Rattle.share_client.specs.Sides.{Side}
+use Rattle.share_client.specs.TablePages.{TablePage, change_in, changed, file_in, head_of, table_page_in}
+use Rattle.share_client.specs.TableRequests.{changes_text, query_text}
+use Rattle.share_client.specs.TableSteps.{Keeps, PagesOnto, ReadsTablePage, TableTurn, TellsChange, first_head}
+use Rattle.share_client.specs.Tables.{IsRead, joined, ReadsChanges, ReadsChangesOf, ReadsTable, ReadsTableOf, table_paging}
+use Rattle.share_client.specs.declared.exchange.Response.{Response}
+use Rattle.share_client.specs.declared.fault.ClientFault.{ClientFault}
+use Rattle.share_client.specs.declared.fault.ClientFault.TheVariants as fault
+use Rattle.share_client.specs.declared.listing.SharedTable.{SharedTable}
+use Rattle.share_client.specs.declared.page_head.PageHead.{PageHead}
+use Rattle.share_client.specs.declared.server.Server.{Server}
+use Rattle.share_client.specs.declared.table_read.TableRead.{TableRead}
+use Rattle.share_client.proofs.Chaining.{chain_more}
+
+-- these pages came, and what they have stands behind what was there
+pub record ReachedPages {X : Type 0} (g : Paging (TablePage X)) (number : ℕ) (first : Option PageHead) (token : Option (List ℕ)) (was now : List X) (old new : Side) (pages : List (TablePage X)) : Type 0 where
+  pub begun : Begun g pages token old new
+  pub many : length pages ≡ number
+  pub held : now ≡ was ++ joined pages
+  pub head : first_head pages ≡ first
+
+abbrev pub ReachesPages : {X : Type 0} → Paging (TablePage X) → (number : ℕ) → Option PageHead → Option (List ℕ) → (was now : List X) → Side → Side → Type 0
+ReachesPages g number first token was now old new = (pages : List (TablePage _)) × ReachedPages g number first token was now old new pages
+
+module _ {P : Type 0} (g : Paging P) where
+  -- the page may come behind these
+  abbrev Fits : List P → P → Type 0
+  Fits [] page = ⊤
+  Fits (first ∷ pages) page = g.differs first page ≡ None
+
+  agree_more : (pages : List P) (page : P) → Agree g pages → Fits pages page → Agree g (pages ++ page ∷ [])
+  agree_more [] page agree fits = All-nil (λ p. g.differs page p ≡ None)
+  agree_more (first ∷ pages) page agree fits =
+      All-append (λ p. g.differs first p ≡ None) pages (page ∷ []) agree
+      (All-cons (λ p. g.differs first p ≡ None) page [] fits (All-nil (λ p. g.differs first p ≡ None)))
+
+module _ {X : Type 0} (reads : Line → Option X) (server : Server) (text : Option (List ℕ) → List ℕ) where
+  abbrev paging : Paging (TablePage X)
+  paging = table_paging reads server text
+
+  -- a response of status 200 came
+  pub page_came :
+      (token : Option (List ℕ)) (sent : List ℕ) (r : Response) (was now : List X) (result : Result (PageHead × Option (List ℕ)) ClientFault) (old new : Side)
+      → sent ≡ text token → ReadsTablePage was now (table_page_in reads r) result
+      → Answers server.target sent r old new → TableTurn paging token was now result old new
+  unfolding table_paging
+  page_came token sent r was now (Ok found) old new spelt (page, read, onto) came =
+      (page, (r, record { answers = subst (λ t. Answers server.target t r old new) spelt came; reads = read }), onto)
+  page_came token sent r was now (Err e) old new spelt misread came =
+      inr (inr (r, subst (λ t. Answers server.target t r old new) spelt came, misread))
+
+  -- none came
+  pub page_failed :
+      (token : Option (List ℕ)) (sent : List ℕ) (e : ClientFault) (was now : List X) (old new : Side)
+      → sent ≡ text token → Asks server.target sent (Err e) old new → TableTurn paging token was now (Err e) old new
+  unfolding table_paging
+  page_failed token sent e was now old new spelt asks = inr (inl (subst (λ t. Asks server.target t (Err e) old new) spelt asks))
+
+  -- a page behind these
+  chained :
+      (pages : List (TablePage X)) (token : Option (List ℕ)) (page : TablePage X) (old mid new : Side)
+      → Chain paging (Some None) pages (Some token) old mid → Turn paging token page mid new
+      → Chain paging (Some None) (pages ++ page ∷ []) (option_map Some page.token) old new
+  unfolding table_paging
+  chained pages token page old mid new chain turn = chain_more paging (Some None) pages token page old mid new chain turn
+
+  kept_fits : (pages : List (TablePage X)) (page : TablePage X) (kept : PageHead) → Keeps (first_head pages) (head_of page) (Ok kept)
+      → Fits paging pages page × (first_head (pages ++ page ∷ []) ≡ Some kept)
+  unfolding table_paging
+  kept_fits [] page kept is = (tt, ap Some (sym is))
+  kept_fits (first ∷ pages) page kept (is, same) = (same, ap Some (sym is))
+
+  told : (first page : TablePage X) (pages : List (TablePage X)) (e : ClientFault) → TellsChange (changed (head_of first) (head_of page)) e
+      → Changed paging (first ∷ pages) page e
+  unfolding table_paging
+  told first page pages (fault.PageChanged one other) tells = tells
+  told first page pages fault.NoMemory tells = refl
+  told first page pages (fault.BadReply at) tells = absurd tells
+  told first page pages (fault.Refused status refusal) tells = absurd tells
+  told first page pages fault.TooManyPages tells = absurd tells
+  told first page pages fault.BadUrl tells = absurd tells
+  told first page pages fault.PeerFault tells = absurd tells
+  told first page pages fault.ReadFault tells = absurd tells
+  told first page pages fault.WriteFault tells = absurd tells
+
+  kept_not : (pages : List (TablePage X)) (page : TablePage X) (e : ClientFault) → Keeps (first_head pages) (head_of page) (Err e) → Changed paging pages page e
+  kept_not [] page e keeps = absurd keeps
+  kept_not (first ∷ pages) page e keeps = told first page pages e keeps
+
+  keeps_as : (pages : List (TablePage X)) (page : TablePage X) (first : Option PageHead) (head : PageHead) (result : Result PageHead ClientFault)
+      → first_head pages ≡ first → head ≡ head_of page → Keeps first head result → Keeps (first_head pages) (head_of page) result
+  keeps_as pages page first head result is same keeps =
+      subst (λ h. Keeps (first_head pages) h result) same (subst (λ o. Keeps o head result) (sym is) keeps)
+
+  module _ (was : List X) where
+    held_more : (pages : List (TablePage X)) (page : TablePage X) (here now : List X) → here ≡ was ++ joined pages → now ≡ here ++ page.content
+        → now ≡ was ++ joined (pages ++ page ∷ [])
+    held_more pages page here now a b = b ∙ ap (λ xs. xs ++ page.content) a ∙ flat_map_more (λ p. p.content) was pages page
+
+    -- no page yet
+    pub no_page : (s : Side) → ReachesPages paging 0 None None was was s s
+    no_page s = ([], record { begun = record { chain = (refl, refl); agree = tt }; many = refl; held = sym (append-nil was); head = refl })
+
+    -- one more, with another to come
+    pub one_page_more :
+        (number : ℕ) (first : Option PageHead) (token : Option (List ℕ)) (found : PageHead × Option (List ℕ)) (next : List ℕ) (kept : PageHead) (here now : List X) (old mid new : Side)
+        → ReachesPages paging number first token was here old mid
+        → TableTurn paging token here now (Ok found) mid new
+        → Keeps first found.0 (Ok kept) → found.1 ≡ Some next
+        → ReachesPages paging (number + 1) (Some kept) (Some next) was now old new
+    one_page_more number first token found next kept here now old mid new (pages, r) (page, turn, (held, same, later)) keeps is =
+        let fits = kept_fits pages page kept (keeps_as pages page first found.0 (Ok kept) r.head same keeps) in (
+          pages ++ page ∷ [],
+          record {
+            begun = record {
+              chain = subst (λ t. Chain paging (Some None) (pages ++ page ∷ []) (option_map Some t) old new) (sym later ∙ is) (chained pages token page old mid new r.begun.chain turn);
+              agree = agree_more paging pages page r.begun.agree fits.0;
+            };
+            many = length-append pages (page ∷ []) ∙ ap (λ n. n + 1) r.many;
+            held = held_more pages page here now r.held held;
+            head = fits.1;
+          },
+        )
+
+    -- the last one
+    pub last_page :
+        (number : ℕ) (first : Option PageHead) (token : Option (List ℕ)) (found : PageHead × Option (List ℕ)) (kept : PageHead) (here now : List X) (old mid new : Side)
+        → ReachesPages paging number first token was here old mid
+        → TableTurn paging token here now (Ok found) mid new
+        → Keeps first found.0 (Ok kept) → found.1 ≡ None
+        → PagesOnto paging was now (Ok (kept, number + 1)) old new
+    last_page number first token found kept here now old mid new (pages, r) (page, turn, (held, same, later)) keeps is =
+        let fits = kept_fits pages page kept (keeps_as pages page first found.0 (Ok kept) r.head same keeps) in (
+          pages ++ page ∷ [],
+          record {
+            chain = subst (λ t. Chain paging (Some None) (pages ++ page ∷ []) (option_map Some t) old new) (sym later ∙ is) (chained pages token page old mid new r.begun.chain turn);
+            agree = agree_more paging pages page r.begun.agree fits.0;
+          },
+          held_more pages page here now r.held held,
+          fits.1,
+          sym (length-append pages (page ∷ []) ∙ ap (λ n. n + 1) r.many),
+        )
+
+    -- none came
+    pub pages_stopped :
+        (number : ℕ) (first : Option PageHead) (token : Option (List ℕ)) (e : ClientFault) (here now : List X) (old mid new : Side)
+        → ReachesPages paging number first token was here old mid
+        → TableTurn paging token here now (Err e) mid new
+        → PagesOnto paging was now (Err e) old new
+    pages_stopped number first token e here now old mid new (pages, r) fails = (pages, token, mid, r.begun, inr (inl fails))
+
+    -- one came that isn't as the first
+    pub page_changed :
+        (number : ℕ) (first : Option PageHead) (token : Option (List ℕ)) (found : PageHead × Option (List ℕ)) (e : ClientFault) (here now : List X) (old mid new : Side)
+        → ReachesPages paging number first token was here old mid
+        → TableTurn paging token here now (Ok found) mid new
+        → Keeps first found.0 (Err e)
+        → PagesOnto paging was now (Err e) old new
+    page_changed number first token found e here now old mid new (pages, r) (page, turn, (held, same, later)) keeps =
+        (pages, token, mid, r.begun, inr (inr (page, turn, kept_not pages page e (keeps_as pages page first found.0 (Err e) r.head same keeps))))
+
+    -- too many came
+    pub too_many_pages :
+        (first : Option PageHead) (token : Option (List ℕ)) (now : List X) (old new : Side)
+        → ReachesPages paging 100000 first token was now old new
+        → PagesOnto paging was now (Err fault.TooManyPages) old new
+    too_many_pages first token now old new (pages, r) = (pages, token, new, r.begun, inl (refl, r.many, refl))
+
+-- what is answered of files that stand behind none
+is_read : (pages : List (TablePage FileLine)) (found : PageHead × ℕ) (read : TableRead) → read.version ≡ found.0.version → read.meta ≡ found.0.meta
+    → read.files.items ≡ joined pages → read.pages ≡ found.1 → first_head pages ≡ Some found.0 → found.1 ≡ length pages → IsRead pages read
+is_read [] found read version meta held many head count = absurd cc
+is_read (first ∷ pages) found read version meta held many head count =
+    let same : found.0 ≡ head_of first = cc in (version ∙ ap (λ h. h.version) same, meta ∙ ap (λ h. h.meta) same, held, many ∙ count)
+
+pub table_read : (g : Paging (TablePage FileLine)) (was now : List FileLine) (found : PageHead × ℕ) (read : TableRead) (old new : Side) → was ≡ []
+    → read.version ≡ found.0.version → read.meta ≡ found.0.meta → read.files.items ≡ now → read.pages ≡ found.1
+    → PagesOnto g was now (Ok found) old new → ReadsTable g (Ok read) old new
+table_read g was now found read old new none version meta held many (pages, whole, onto, head, count) =
+    (pages, whole, is_read pages found read version meta (held ∙ onto ∙ ap (λ xs. xs ++ joined pages) none) many head count)
+
+pub changes_read : (g : Paging (TablePage Line)) (was now : List Line) (found : PageHead × ℕ) (old new : Side) → was ≡ []
+    → PagesOnto g was now (Ok found) old new → ReadsChanges g (Ok now) old new
+changes_read g was now found old new none (pages, whole, onto, head, count) = (pages, whole, onto ∙ ap (λ xs. xs ++ joined pages) none)
+
+-- want of memory before the first page was asked for
+no_pages : {X : Type 0} (reads : Line → Option X) (server : Server) (text : Option (List ℕ) → List ℕ) (s : Side)
+    → Ends (table_paging reads server text) fault.NoMemory s s
+no_pages reads server text s = ([], None, s, record { chain = (refl, refl); agree = tt }, inr (inl (inl (refl, refl))))
+
+pub no_table : (o : Option Server) (t : SharedTable) (body : List ℕ) (s : Side) → ReadsTableOf o t body (Err fault.NoMemory) s s
+no_table None t body s = (refl, refl)
+no_table (Some server) t body s = no_pages file_in server (query_text server t body) s
+
+pub no_changes : (o : Option Server) (t : SharedTable) (from to : ℕ) (s : Side) → ReadsChangesOf o t from to (Err fault.NoMemory) s s
+no_changes None t from to s = (refl, refl)
+no_changes (Some server) t from to s = no_pages change_in server (changes_text server t from to) s

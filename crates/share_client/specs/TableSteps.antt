@@ -1,0 +1,65 @@
+-- What the parts of a call that reads a table say to one another.
+use Rattle.std.specs.Prelude.{◌≡◌, ℕ, List, [], ◌∷◌, ◌++◌, length, Option, Some, None, Result, Ok, Err, ⊤}
+use Rattle.share_lines.specs.declared.kinds.MetaLine.{MetaLine}
+use Rattle.share_client.specs.Chains.{Ends, Misread, Paging, Turn, TurnFails, Whole}
+use Rattle.share_client.specs.Lists.{Listing}
+use Rattle.share_client.specs.Reads.{Unread}
+use Rattle.share_client.specs.Sides.{Side}
+use Rattle.share_client.specs.TablePages.{TablePage, changed, head_of}
+use Rattle.share_client.specs.Tables.{joined}
+use Rattle.share_client.specs.declared.fault.ClientFault.{ClientFault}
+use Rattle.share_client.specs.declared.fault.ClientFault.TheVariants as fault
+use Rattle.share_client.specs.declared.page_head.PageHead.{PageHead}
+
+-- the fault that says in what a page differs, or want of memory
+abbrev pub TellsChange : Option (List ℕ × List ℕ) → ClientFault → Type 0
+TellsChange change (fault.PageChanged first other) = change ≡ Some (first, other)
+TellsChange change fault.NoMemory = ⊤
+TellsChange change (fault.BadReply at) = ⊥
+TellsChange change (fault.Refused status refusal) = ⊥
+TellsChange change fault.TooManyPages = ⊥
+TellsChange change fault.BadUrl = ⊥
+TellsChange change fault.PeerFault = ⊥
+TellsChange change fault.ReadFault = ⊥
+TellsChange change fault.WriteFault = ⊥
+
+abbrev pub Compares : Option (List ℕ × List ℕ) → Result ⊤ ClientFault → Type 0
+Compares change (Ok same) = change ≡ None
+Compares change (Err e) = TellsChange change e
+
+-- the first page's head, which is that of this page where none came before
+abbrev pub Keeps : Option PageHead → PageHead → Result PageHead ClientFault → Type 0
+Keeps None page (Ok kept) = kept ≡ page
+Keeps None page (Err e) = ⊥
+Keeps (Some first) page (Ok kept) = (kept ≡ first) × (changed first page ≡ None)
+Keeps (Some first) page (Err e) = TellsChange (changed first page) e
+
+-- the metadata and the token of a page whose content stands behind what was there
+abbrev pub ReadsParts : {X : Type 0} → (was now : List X) → Option (MetaLine × Listing X) → Result (MetaLine × Option (List ℕ)) ClientFault → Type 0
+ReadsParts was now read (Ok parts) = (content : List _) × (read ≡ Some (parts.0, (content, parts.1))) × (now ≡ was ++ content)
+ReadsParts was now read (Err e) = Unread read e
+
+-- the head and the token of a page whose content stands behind what was there
+abbrev pub IsOnto : {X : Type 0} → (was now : List X) → TablePage X → PageHead × Option (List ℕ) → Type 0
+IsOnto was now page found = (now ≡ was ++ page.content) × (found.0 ≡ head_of page) × (found.1 ≡ page.token)
+
+abbrev pub ReadsTablePage : {X : Type 0} → (was now : List X) → Result (TablePage X) ℕ → Result (PageHead × Option (List ℕ)) ClientFault → Type 0
+ReadsTablePage was now read (Ok found) = (page : TablePage _) × (read ≡ Ok page) × IsOnto was now page found
+ReadsTablePage was now read (Err e) = Misread read e
+
+-- a page came, or why none did
+abbrev pub TableTurn : {X : Type 0} → Paging (TablePage X) → Option (List ℕ) → (was now : List X) → Result (PageHead × Option (List ℕ)) ClientFault → Side → Side → Type 0
+TableTurn g token was now (Ok found) old new = (page : TablePage _) × Turn g token page old new × IsOnto was now page found
+TableTurn g token was now (Err e) old new = TurnFails g token e old new
+
+-- the head of the first of these pages
+abbrev pub first_head : {X : Type 0} → List (TablePage X) → Option PageHead
+first_head [] = None
+first_head (page ∷ pages) = Some (head_of page)
+
+-- all pages came, and what they have stands behind what was there; the answer is the first page's head, and how many there are
+abbrev pub PagesOnto : {X : Type 0} → Paging (TablePage X) → (was now : List X) → Result (PageHead × ℕ) ClientFault → Side → Side → Type 0
+PagesOnto g was now (Ok found) old new =
+    (pages : List (TablePage _)) × Whole g pages old new × (now ≡ was ++ joined pages)
+    × (first_head pages ≡ Some found.0) × (found.1 ≡ length pages)
+PagesOnto g was now (Err e) old new = Ends g e old new
