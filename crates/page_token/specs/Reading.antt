@@ -102,6 +102,13 @@ files_in bytes = do
   asked_state ← asked_of asked.0
   Some (record { access = access.0; asked = asked_state; version = version.0; hint = hint_text; place = place.0 })
 
+-- the cursor of those parts, of which two are read
+abbrev pub feed_of : TableAccess → List ℕ → List ℕ → ℕ → ℕ → ℕ → Option FeedCursor
+feed_of access from_field to_field first last start = do
+  first_state ← asked_of from_field
+  last_state ← asked_of to_field
+  Some (record { access = access; asked_from = first_state; asked_to = last_state; from = first; to = last; place = start })
+
 unfoldable pub feed_in : List ℕ → Option FeedCursor
 feed_in bytes = do
   access ← access_in bytes
@@ -110,9 +117,7 @@ feed_in bytes = do
   from ← number_in asked_to.1
   to ← number_in from.1
   place ← number_in to.1
-  first_state ← asked_of asked_from.0
-  last_state ← asked_of asked_to.0
-  Some (record { access = access.0; asked_from = first_state; asked_to = last_state; from = from.0; to = to.0; place = place.0 })
+  feed_of access.0 asked_from.0 asked_to.0 from.0 to.0 place.0
 
 abbrev pub listing_in : ListKind → List ℕ → Option Cursor
 listing_in k bytes = list_in k bytes >>= λ c. Some (cursor.List c)

@@ -3,7 +3,7 @@ ghost use Rattle.std.specs.Prelude.{◌≡◌, ◌^◌, ◌<◌, ◌==◌, Some,
 ghost use Rattle.hmac_core.specs.Faults.{Gives};
 ghost use Rattle.page_token.specs.Payload.{IsPayload};
 ghost use Rattle.page_token.specs.declared.cursor.Cursor.{Cursor};
-ghost use Rattle.page_token.specs.Reading.{digits_in, field_in, number_in, moment_of, asked_of, text_of, hint_of, list_in, access_in, files_in, feed_in, listing_in, by_first, cursor_in};
+ghost use Rattle.page_token.specs.Reading.{digits_in, field_in, number_in, moment_of, asked_of, text_of, hint_of, list_in, access_in, files_in, feed_in, feed_of, listing_in, by_first, cursor_in};
 
 use crate::cursor::{Asked, Cursor, FeedCursor, FilesCursor, ListCursor, ListKind, TableAccess};
 use crate::payload::payload_of;
@@ -186,16 +186,20 @@ fn files_in(alloc: Global, bytes: &[u8]) -> Result<FilesCursor, Fault>
     })
 }
 
-#[tactic(auto, unfolding(crate::specs::Reading::feed_in))]
-fn feed_in(alloc: Global, bytes: &[u8]) -> Result<FeedCursor, Fault>
-    ensures { Gives (λ c. c) result (feed_in bytes.now) }
+// The cursor of those parts.
+fn feed_of(
+    access: TableAccess,
+    asked_from: &[u8],
+    asked_to: &[u8],
+    from: u64,
+    to: u64,
+    place: u64,
+) -> Result<FeedCursor, Fault>
+    requires from { from < 2 ^ 63 }
+    requires to { to < 2 ^ 63 }
+    requires place { place < 2 ^ 63 }
+    ensures { Gives (λ c. c) result (feed_of access asked_from.now asked_to.now from to place) }
 {
-    let (access, rest) = access_in(alloc, bytes)?;
-    let (asked_from, rest) = field_in(rest)?;
-    let (asked_to, rest) = field_in(rest)?;
-    let (from, rest) = number_in(rest)?;
-    let (to, rest) = number_in(rest)?;
-    let (place, _) = number_in(rest)?;
     let asked_from = asked_of(asked_from)?;
     let asked_to = asked_of(asked_to)?;
     Ok(FeedCursor {
@@ -206,6 +210,19 @@ fn feed_in(alloc: Global, bytes: &[u8]) -> Result<FeedCursor, Fault>
         to: Version::of_small(to),
         place: Place::of_small(place),
     })
+}
+
+#[tactic(auto, unfolding(crate::specs::Reading::feed_in))]
+fn feed_in(alloc: Global, bytes: &[u8]) -> Result<FeedCursor, Fault>
+    ensures { Gives (λ c. c) result (feed_in bytes.now) }
+{
+    let (access, rest) = access_in(alloc, bytes)?;
+    let (asked_from, rest) = field_in(rest)?;
+    let (asked_to, rest) = field_in(rest)?;
+    let (from, rest) = number_in(rest)?;
+    let (to, rest) = number_in(rest)?;
+    let (place, _) = number_in(rest)?;
+    feed_of(access, asked_from, asked_to, from, to, place)
 }
 
 // A listing of that kind.
