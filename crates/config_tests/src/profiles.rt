@@ -84,7 +84,7 @@ static ADDRESSES: [Address; 9] = [
         text: "HTTP://Host/delta-sharing",
     },
     Address {
-        members: ",\"bearerToken\":\"\",\"endpoint\":\"http://h\",\"more\":0",
+        members: ",\"bearerToken\":\"!~\",\"endpoint\":\"http://h\",\"more\":0",
         text: "http://h",
     },
     Address {
@@ -113,7 +113,7 @@ struct Row {
     fault: ProfileFault,
 }
 
-static WRONG: [Row; 24] = [
+static WRONG: [Row; 29] = [
     Row {
         members: ",\"shareCredentialsVersion\":null",
         fault: ProfileFault::Field(ProfileField::ShareCredentialsVersion),
@@ -152,6 +152,26 @@ static WRONG: [Row; 24] = [
     },
     Row {
         members: ",\"bearerToken\":1",
+        fault: ProfileFault::Field(ProfileField::BearerToken),
+    },
+    Row {
+        members: ",\"bearerToken\":\"a\\r\\nHost: b\"",
+        fault: ProfileFault::Field(ProfileField::BearerToken),
+    },
+    Row {
+        members: ",\"bearerToken\":\"\"",
+        fault: ProfileFault::Field(ProfileField::BearerToken),
+    },
+    Row {
+        members: ",\"bearerToken\":\"a b\"",
+        fault: ProfileFault::Field(ProfileField::BearerToken),
+    },
+    Row {
+        members: ",\"bearerToken\":\"\\u007f\"",
+        fault: ProfileFault::Field(ProfileField::BearerToken),
+    },
+    Row {
+        members: ",\"bearerToken\":\"\\u00e9\"",
         fault: ProfileFault::Field(ProfileField::BearerToken),
     },
     Row {

@@ -1,5 +1,6 @@
 -- The profile of a recipient (Delta Sharing PROTOCOL.md, "Profile File Format"): a JSON object (RFC 8259).
-use Rattle.std.specs.Prelude.{ℕ, ℤ, pos, negsuc, ◌==◌, List, Bool, true, false, Option, Some, None, Result, Ok, Err, option_and_then, unwrap_or, if◌then◌else◌, codes}
+use Rattle.std.specs.Prelude.{ℕ, ℤ, pos, negsuc, ◌==◌, ◌&&◌, List, Bool, true, false, Option, Some, None, Result, Ok, Err, length, nat_le, nat_lt, option_and_then, unwrap_or, if◌then◌else◌, codes}
+use Rattle.std.specs.List.{list_all}
 use Rattle.std.specs.Result.{result_ok}
 use Rattle.serde_json.specs.Data.{Data}
 use Rattle.serde_json.specs.Find.{as_str}
@@ -36,6 +37,18 @@ version_in name d = option_and_then one (option_and_then whole (present name d))
 abbrev pub text_or_nothing_in : List ℕ → Data → Option (Option (List ℕ))
 text_or_nothing_in name d = result_ok (field_of_kind as_str name d)
 
+-- a visible character of ASCII
+abbrev pub is_visible_byte : ℕ → Bool
+is_visible_byte b = nat_le 33 b && nat_le b 126
+
+-- The text where it is a word that can stand in a field of a head (RFC 9110, section 5.5). The characters of bearer tokens are some of
+-- the visible ones (RFC 6750, section 2.1).
+abbrev pub if_visible : List ℕ → Option (List ℕ)
+if_visible text = if nat_lt 0 (length text) && list_all is_visible_byte text then Some text else None
+
+abbrev pub token_in : List ℕ → Data → Option (List ℕ)
+token_in name d = option_and_then if_visible (text_in name d)
+
 -- ---- the profile
 
 abbrev pub or_wrong : {X : Type 0} → ProfileField → Option X → Result X ProfileFault
@@ -63,7 +76,7 @@ unfoldable pub profile_of_value : Data → Result Profile ProfileFault
 profile_of_value d = do
   version ← required field.ShareCredentialsVersion version_in d
   endpoint ← required field.Endpoint text_in d
-  bearer ← required field.BearerToken text_in d
+  bearer ← required field.BearerToken token_in d
   expires ← required field.ExpirationTime text_or_nothing_in d
   address ← address_of endpoint
   Ok (record { endpoint = address; bearer = bearer; expires = expires })

@@ -1,7 +1,8 @@
 // The profile of a recipient.
+ghost use Rattle.std.specs.List.{list_all};
 ghost use Rattle.std.specs.Prelude.{◌≡◌, option_map, unwrap_or, codes};
 ghost use Rattle.serde_json.specs.View.{view};
-ghost use Rattle.share_config.specs.Profiles.{Gives, GivesBy, address_of as address_of_text, one, profile_in, profile_of_value, required, text_or_nothing_in, version_in, without_slash as without_slash_at_end};
+ghost use Rattle.share_config.specs.Profiles.{Gives, GivesBy, address_of as address_of_text, if_visible as if_visible_text, is_visible_byte, one, profile_in, profile_of_value, required, text_or_nothing_in, token_in, version_in, without_slash as without_slash_at_end};
 ghost use Rattle.share_config.specs.Texts.{text_in};
 ghost use Rattle.share_config.specs.declared.profile_fault.ProfileField.TheVariants as field;
 
@@ -17,7 +18,8 @@ use std::alloc::Global;
 pub struct Profile {
     /// `endpoint`, the address of the server, without a slash at its end.
     pub endpoint: HttpUrl,
-    /// `bearerToken`, any text.
+    /// `bearerToken`: one visible character of ASCII or more and no others, so that it can stand in the head of a request as it is (RFC 6750,
+    /// section 2.1; RFC 9110, section 5.5).
     pub bearer: Text,
     /// `expirationTime`, as it was given: it isn't read as a time, nor compared with one.
     pub expires: Option<Text>,
@@ -54,6 +56,43 @@ fn required_text(object: &Value, field: ProfileField) -> Result<&str, ProfileFau
     match text_at(object, field.name()) {
         Some(text) => Ok(text),
         None => Err(ProfileFault::Field(field)),
+    }
+}
+
+fn is_visible(byte: u8) -> bool
+    ensures { result ≡ is_visible_byte byte }
+{
+    matches!(byte, b'!'..=b'~')
+}
+
+fn are_visible(bytes: &[u8]) -> bool
+    ensures { result ≡ list_all is_visible_byte bytes.now }
+{
+    bytes.iter().all(|byte| is_visible(*byte))
+}
+
+fn if_visible(text: &str) -> Option<&str>
+    ensures { option_map (λ s. s.now) result ≡ if_visible_text text.now }
+{
+    if !text.is_empty() && are_visible(text.as_bytes()) {
+        Some(text)
+    } else {
+        None
+    }
+}
+
+fn token_in_object<'a>(object: &'a Value, name: &str) -> Option<&'a str>
+    ensures { option_map (λ s. s.now) result ≡ token_in name.now (view object.now) }
+{
+    if_visible(text_at(object, name)?)
+}
+
+fn token_at(object: &Value) -> Result<&str, ProfileFault>
+    ensures { GivesBy (λ s. s.now) result (required field.BearerToken token_in (view object.now)) }
+{
+    match token_in_object(object, ProfileField::BearerToken.name()) {
+        Some(token) => Ok(token),
+        None => Err(ProfileFault::Field(ProfileField::BearerToken)),
     }
 }
 
@@ -95,7 +134,7 @@ fn profile_of_object(alloc: Global, object: &Value) -> Result<Profile, ProfileFa
 {
     let _version = version_at(object)?;
     let endpoint = required_text(object, ProfileField::Endpoint)?;
-    let bearer = required_text(object, ProfileField::BearerToken)?;
+    let bearer = token_at(object)?;
     let expires = text_or_nothing(alloc, object, ProfileField::ExpirationTime)?;
     let endpoint = address_of(alloc, endpoint)?;
     Ok(Profile {
