@@ -56,12 +56,18 @@ fn check<R: Wait>(rt: &R, alloc: Global, server: &mut Server, row: &Row) -> Opti
     }
 }
 
+// What stands before the digits of a version below 100.
+fn front_of(version: u64) -> &'static str {
+    if version < 10 {
+        "t/_delta_log/0000000000000000000"
+    } else {
+        "t/_delta_log/000000000000000000"
+    }
+}
+
 // The name of a version's commit.
 fn version_name(alloc: Global, version: u64) -> Option<String> {
-    let mut name = String::from_str(alloc, "t/_delta_log/000000000000000000").ok()?;
-    if version < 10 {
-        name.push_str("0").ok()?;
-    }
+    let mut name = String::from_str(alloc, front_of(version)).ok()?;
     name.push_str(Buffer::new().format(version)).ok()?;
     name.push_str(".json").ok()?;
     Some(name)
@@ -126,6 +132,28 @@ fn begins_with_what_is_kept<R: Wait>(rt: &R, alloc: Global) -> Option<()> {
 #[test]
 fn a_look_begins_with_what_is_kept(rt: HostRuntime) {
     assert!(rt; begins_with_what_is_kept(&rt, rt.alloc()).is_some());
+}
+
+// A caller pins version 4, and before it looks another finds version 5. What that one kept is found then, and version 5 is shown to a
+// caller that was never told of it.
+fn races<R: Wait>(rt: &R, alloc: Global) -> Option<()> {
+    let mut store = MemStore::new(alloc, 20, 20_000, Vec::new(alloc)).ok()?;
+    stock_first(alloc, &mut store)?;
+    let mut server = opened(rt, alloc, &mut store)?;
+    if server.left(rt, alloc, Some(4))? != (None, 8) {
+        return None;
+    }
+    server.change_callers();
+    stock_version(alloc, &mut store, 5, COMMIT_5)?;
+    server.refresh(rt, alloc, &mut store)?;
+    server.change_callers();
+    check(rt, alloc, &mut server, &(Some(4), Some(4), 0, 5))?;
+    check(rt, alloc, &mut server, &(None, Some(4), 6, 6))
+}
+
+#[test]
+fn a_look_finds_what_another_caller_kept(rt: HostRuntime) {
+    assert!(rt; races(&rt, rt.alloc()).is_some());
 }
 
 // How many states are kept.

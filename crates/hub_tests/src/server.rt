@@ -1,4 +1,4 @@
-// A server with one caller. What a call needs is kept in the type, so that the tests' functions have no clauses.
+// A server with two callers, of which one calls. What a call needs is kept in the type, so that the tests' functions have no clauses.
 ghost use Rattle.std.specs.Prelude.{◌≡◌, false};
 
 use catalog_log::edit_at;
@@ -12,6 +12,7 @@ use share_book::{Ask, Found, Part, PartFound, Pinned, SharedSnapshot, Want, Who}
 use share_catalog::{CatalogName, Edit, TableName};
 use share_hub::{CommitRefusal, EditEnd, Hub, HubPass, Refreshed};
 use std::alloc::Global;
+use std::mem::swap;
 use std::sync::Wait;
 use step_count::Steps;
 
@@ -25,7 +26,9 @@ pub(crate) const NOW: u64 = 1_700_000_000_000;
 pub(crate) struct Server {
     hub: Hub,
     pass: HubPass,
+    other: HubPass,
     ghost idle: { (pass.cell ≡ hub) × (pass.holds ≡ false) },
+    ghost waits: { (other.cell ≡ hub) × (other.holds ≡ false) },
 }
 
 pub(crate) fn name(alloc: Global, text: &str) -> Option<Name> {
@@ -113,9 +116,15 @@ fn left_of(pinned: &Pinned) -> Option<(Option<u64>, usize)> {
 
 impl Server {
     pub(crate) fn open(alloc: Global, store: &mut MemStore) -> Option<Server> {
-        let (hub, mut passes) = Hub::open(alloc, store, 1).ok()?;
+        let (hub, mut passes) = Hub::open(alloc, store, 2).ok()?;
         let pass = passes.pop()?;
-        Some(Server { hub, pass })
+        let other = passes.pop()?;
+        Some(Server { hub, pass, other })
+    }
+
+    // The other caller calls from here on.
+    pub(crate) fn change_callers(&mut self) {
+        swap(&mut self.pass, &mut self.other);
     }
 
     pub(crate) fn edit<R: Wait>(
