@@ -1,0 +1,4 @@
+pub mod Bodies
+pub mod Calls
+pub mod ProfileObjects
+pub mod Texts
