@@ -1,0 +1,84 @@
+// What a rehearsal came to.
+ghost use Rattle.std.specs.Prelude.{◌≡◌, ◌++◌, IfOk, OnOk, decimal, string_bytes};
+ghost use Rattle.share_loop.specs.Summaries.{number_line as line_of_number, read_line as line_of_read, summary_text};
+
+use json_tree::Text;
+use std::alloc::{AllocError, Global};
+
+/// What a read of a table gave.
+#[derive(Clone, Copy, Debug, PartialEq, Eq)]
+pub struct ReadCount {
+    /// How many pages came.
+    pub pages: u64,
+    /// How many files they have together.
+    pub files: u64,
+    /// The sum of the files' sizes in bytes, or 2^64 - 1 where it passes that.
+    pub bytes: u64,
+}
+
+/// What a rehearsal came to.
+#[derive(Clone, Copy, Debug, PartialEq, Eq)]
+pub struct Summary {
+    /// The version that was read.
+    pub version: u64,
+    /// The read of the whole table.
+    pub whole: ReadCount,
+    /// The read with a predicate.
+    pub part: ReadCount,
+    /// The table's version at the end.
+    pub head: u64,
+}
+
+impl Summary {
+    /// That nothing was read.
+    pub(crate) fn nothing() -> Summary {
+        let none = ReadCount {
+            pages: 0,
+            files: 0,
+            bytes: 0,
+        };
+        Summary {
+            version: 0,
+            whole: none,
+            part: none,
+            head: 0,
+        }
+    }
+}
+
+fn push_number(alloc: Global, text: &mut String, words: &str, number: u64) -> Result<(), AllocError>
+    ensures { OnOk result (string_bytes text.new ≡ string_bytes text.old ++ words.now ++ decimal number) }
+{
+    text.push_str(&format!(in alloc; "{words}{number}")?)
+}
+
+fn number_line(alloc: Global, words: &str, number: u64) -> Result<String, AllocError>
+    ensures { IfOk result (λ text. string_bytes text ≡ line_of_number words.now number) }
+{
+    let mut text = String::new(alloc);
+    push_number(alloc, &mut text, words, number)?;
+    text.push_str("\n")?;
+    Ok(text)
+}
+
+fn read_line(alloc: Global, read: ReadCount) -> Result<String, AllocError>
+    ensures { IfOk result (λ text. string_bytes text ≡ line_of_read read) }
+{
+    let mut text = String::new(alloc);
+    push_number(alloc, &mut text, "pages ", read.pages)?;
+    push_number(alloc, &mut text, " files ", read.files)?;
+    push_number(alloc, &mut text, " bytes ", read.bytes)?;
+    text.push_str("\n")?;
+    Ok(text)
+}
+
+/// The lines of the summary.
+pub(crate) fn text_of(alloc: Global, summary: &Summary) -> Result<Text, AllocError>
+    ensures { IfOk result (λ text. text ≡ summary_text summary.now) }
+{
+    let mut text = number_line(alloc, "version ", summary.version)?;
+    text.push_str(&read_line(alloc, summary.whole)?)?;
+    text.push_str(&read_line(alloc, summary.part)?)?;
+    text.push_str(&number_line(alloc, "head ", summary.head)?)?;
+    Ok(Text::of(text))
+}
