@@ -1,0 +1,6 @@
+//! Tests of a client and a server in one process. They stand in a crate of their own since a crate with tests is proved twice, with
+//! them and without.
+#![tactic(auto)]
+
+#[cfg(test)]
+mod rehearsals;
