@@ -1,0 +1,14 @@
+pub mod Choices
+pub mod Taking
+pub mod Lists
+pub mod Positions
+pub mod Few
+pub mod Histories
+pub mod CommitSteps
+pub mod EditSteps
+pub mod Bound
+pub mod Turns
+pub mod Heads
+pub mod Starting
+pub mod Seeing
+pub mod Taken
