@@ -1,0 +1,5 @@
+pub mod Asks
+pub mod Answers
+pub mod Chains
+pub mod Laws
+pub mod Seen
