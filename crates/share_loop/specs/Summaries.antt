@@ -1,6 +1,7 @@
 -- The lines of a rehearsal's summary.
-use Rattle.std.specs.Prelude.{ℕ, List, [], ◌∷◌, ◌++◌, ◌≡◌, codes, decimal}
+use Rattle.std.specs.Prelude.{Bool, true, false, ℕ, List, [], ◌∷◌, ◌++◌, ◌≡◌, codes, decimal}
 use Rattle.share_loop.specs.declared.summary.ReadCount.{ReadCount}
+use Rattle.share_loop.specs.declared.summary.Reads.{Reads}
 use Rattle.share_loop.specs.declared.summary.Summary.{Summary}
 
 -- a line and its end, LF
@@ -15,8 +16,16 @@ abbrev pub read_line : ReadCount → List ℕ
 read_line r = line (codes "pages " ++ decimal r.pages ++ codes " files " ++ decimal r.files ++ codes " bytes " ++ decimal r.bytes)
 
 -- the version that was read, what was read of the whole table and of a part of it, and the version at the end
+abbrev pub reads_text : Reads → List ℕ
+reads_text r = number_line (codes "version ") r.version ++ read_line r.whole ++ read_line r.part ++ number_line (codes "head ") r.head
+
+-- whether the pure machine's replies to the same events were the server's
+abbrev pub core_line : Bool → List ℕ
+core_line true = line (codes "core equal")
+core_line false = line (codes "core differs")
+
 abbrev pub summary_text : Summary → List ℕ
-summary_text s = number_line (codes "version ") s.version ++ read_line s.whole ++ read_line s.part ++ number_line (codes "head ") s.head
+summary_text s = reads_text s.reads ++ core_line s.is_core_equal
 
 -- the text has the lines of some summary
 abbrev pub IsSummary : List ℕ → Type 0

@@ -1,10 +1,11 @@
 //! A client and a server in one process: a link whose peer answers by [`serve_conn`](share_serve::serve_conn) over memory, and a
-//! rehearsal of both over a table of 50,000 files.
+//! rehearsal of both over a table of 50,000 files, compared with the pure machine.
 #![tactic(auto)]
 
 mod growing;
 mod line;
 mod link;
+mod machine;
 mod peer;
 mod rehearsal;
 mod stop;
@@ -15,4 +16,4 @@ mod world;
 pub use line::{LoopSink, LoopSource};
 pub use link::{LoopLink, Planned};
 pub use peer::Peer;
-pub use rehearsal::rehearse_reads;
+pub use rehearsal::rehearse;

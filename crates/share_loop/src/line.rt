@@ -11,6 +11,18 @@ use std::sync::{Arc, Mutex, Wait};
 /// A server that the lines to it share.
 pub(crate) type SharedPeer<W, C, G> = Arc<Mutex<Peer<W, C, G>>, Global>;
 
+/// What was said on one of the lines.
+#[derive(Drop)]
+pub(crate) struct Exchange {
+    /// What was written to it.
+    pub requests: Vec<u8>,
+    /// What the server wrote.
+    pub answer: Vec<u8>,
+}
+
+/// What was said on the lines that were served, in the order in which they were.
+pub(crate) type Heard = Arc<Mutex<Vec<Exchange>>, Global>;
+
 /// What was written to a line, which both of its ends share.
 pub(crate) type Written = Arc<Mutex<Growing>, Global>;
 
@@ -22,6 +34,7 @@ pub struct LoopSource<R, W, C, G> {
     alloc: Global,
     peer: SharedPeer<W, C, G>,
     written: Written,
+    heard: Heard,
     answer: Option<MemSource>,
     faults: FaultCount,
 }
@@ -32,6 +45,7 @@ impl<R, W, C, G> LoopSource<R, W, C, G> {
         alloc: Global,
         peer: SharedPeer<W, C, G>,
         written: Written,
+        heard: Heard,
     ) -> LoopSource<R, W, C, G>
         ensures { fault_count result.faults ≡ 0 }
     {
@@ -40,6 +54,7 @@ impl<R, W, C, G> LoopSource<R, W, C, G> {
             alloc,
             peer,
             written,
+            heard,
             answer: None,
             faults: FaultCount::new(),
         }
@@ -53,16 +68,20 @@ impl<R, W, C, G> LoopSource<R, W, C, G> {
     }
 }
 
-// Serves what was written to the line, and gives what the server wrote.
+// Serves what was written to the line, and gives what the server wrote. Both are kept.
 fn answer<R: Wait, W: Store, C: Clock, G: Gate>(
     rt: &R,
     alloc: Global,
     peer: &SharedPeer<W, C, G>,
     written: &Written,
+    heard: &Heard,
 ) -> Result<MemSource, AllocError> {
     let bytes = written.lock(rt).take(alloc);
+    let requests = Vec::from_slice(alloc, &bytes)?;
     let answer = peer.lock(rt).serve(rt, alloc, bytes)?;
-    Ok(MemSource::new(alloc, answer))
+    let source = MemSource::new(alloc, Vec::from_slice(alloc, &answer)?);
+    heard.lock(rt).push(Exchange { requests, answer })?;
+    Ok(source)
 }
 
 impl<R: Wait, W: Store, C: Clock, G: Gate> Source for LoopSource<R, W, C, G> {
@@ -75,7 +94,7 @@ impl<R: Wait, W: Store, C: Clock, G: Gate> Source for LoopSource<R, W, C, G> {
 
     fn read(&mut self, out: &mut [u8]) -> Took {
         if self.answer.is_none() {
-            match answer(&self.rt, self.alloc, &self.peer, &self.written) {
+            match answer(&self.rt, self.alloc, &self.peer, &self.written, &self.heard) {
                 Ok(source) => self.answer = Some(source),
                 Err(_) => {
                     self.faults.note(true);

@@ -3,7 +3,7 @@ ghost use Rattle.std.specs.Prelude.{◌≡◌, IfOk};
 ghost use Rattle.edge_core.specs.Handles.{fault_count};
 
 use crate::growing::Growing;
-use crate::line::{LoopSink, LoopSource, SharedPeer};
+use crate::line::{Exchange, Heard, LoopSink, LoopSource, SharedPeer};
 use crate::peer::Peer;
 use edge_core::{Clock, FaultCount, Gate, Link, Opened, Store};
 use std::alloc::{AllocError, Global};
@@ -42,7 +42,7 @@ impl Plan {
 
 /// A link to a server in this process, whatever the host and the port. What is written to a line is kept, and served as one
 /// connection when the line is first read. Requests of others can be planned, which are served before the lines of given numbers
-/// are opened, in their order: one that stands behind a later one comes with that one.
+/// are opened, in their order: one that stands behind a later one comes with that one. What was said on the lines is kept.
 ///
 /// It keeps what it waits with, tells nothing, and may wait: while a line is served, other lines wait. It fails only where memory
 /// is wanting; a line that couldn't be opened has no number, and what was served before it isn't served again.
@@ -52,6 +52,7 @@ pub struct LoopLink<R, W, C, G> {
     alloc: Global,
     peer: SharedPeer<W, C, G>,
     plan: Plan,
+    heard: Heard,
     out: bool,
     faults: FaultCount,
     read_faults: FaultCount,
@@ -74,11 +75,19 @@ impl<R: Drop, W: Drop, C: Drop, G: Drop> LoopLink<R, W, C, G> {
                 opened: 0,
                 planned: VecDeque::from(planned),
             },
+            heard: Arc::new(alloc, Mutex::new(Vec::new(alloc)))?,
             out: false,
             faults: FaultCount::new(),
             read_faults: FaultCount::new(),
             write_faults: FaultCount::new(),
         })
+    }
+}
+
+impl<R: Wait, W, C, G> LoopLink<R, W, C, G> {
+    // What was said on its lines since this was last asked, in order.
+    pub(crate) fn take_heard(&self) -> Vec<Exchange> {
+        std::mem::replace(&mut *self.heard.lock(&self.rt), Vec::new(self.alloc))
     }
 }
 
@@ -106,13 +115,20 @@ fn open_next<R: Wait + Copy, W: Store + Drop, C: Clock + Drop, G: Gate + Drop>(
     alloc: Global,
     peer: &SharedPeer<W, C, G>,
     plan: &mut Plan,
+    heard: &Heard,
 ) -> Result<(LoopSource<R, W, C, G>, LoopSink<R>), AllocError>
     ensures { IfOk result (λ line. (fault_count line.0.faults ≡ 0) × (fault_count line.1.faults ≡ 0)) }
 {
     serve_planned(&rt, alloc, peer, plan)?;
     let written = Arc::new(alloc, Mutex::new(Growing::new(alloc)))?;
     let sink = LoopSink::new(rt, Arc::try_clone(&written)?);
-    let source = LoopSource::new(rt, alloc, Arc::try_clone(peer)?, written);
+    let source = LoopSource::new(
+        rt,
+        alloc,
+        Arc::try_clone(peer)?,
+        written,
+        Arc::try_clone(heard)?,
+    );
     plan.opened = plan.opened.saturating_add(1);
     Ok((source, sink))
 }
@@ -139,7 +155,7 @@ impl<R: Wait + Copy, W: Store + Drop, C: Clock + Drop, G: Gate + Drop> Link
     ghost write_faults = { λ l. fault_count l.write_faults };
 
     fn open(&mut self, _host: &str, _port: u16) -> Opened<LoopSource<R, W, C, G>, LoopSink<R>> {
-        match open_next(self.rt, self.alloc, &self.peer, &mut self.plan) {
+        match open_next(self.rt, self.alloc, &self.peer, &mut self.plan, &self.heard) {
             Ok((input, output)) => {
                 self.out = true;
                 Opened::Line(input, output)

@@ -3,12 +3,12 @@ ghost use Rattle.std.specs.Prelude.{IfOk};
 ghost use Rattle.share_loop.specs.Summaries.{IsSummary};
 
 use crate::link::LoopLink;
+use crate::machine::{is_equal, version_in};
 use crate::stop::Stop;
-use crate::summary::{ReadCount, Summary, text_of};
+use crate::summary::{ReadCount, Reads, Summary, text_of};
 use crate::turns::all_planned;
 use crate::world;
 use edge_core::{Link, Opened, Sink, Source};
-use http_message::field::first_named;
 use http_wire::{Reply, Responses, write_all};
 use json_tree::Text;
 use share_client::{Client, QueryBody, SharedTable, TableRead};
@@ -56,12 +56,11 @@ fn read<L: Link>(
 }
 
 // The version that the reply states.
-fn version_in(reply: &Reply) -> Option<u64> {
-    let Reply::Response { fields, .. } = reply else {
-        return None;
-    };
-    let digits = first_named(fields, "delta-table-version");
-    std::str::from_utf8(digits).ok()?.parse::<u64>().ok()
+fn version_of(reply: &Reply) -> Option<u64> {
+    match reply {
+        Reply::Response { fields, .. } => version_in(fields),
+        _ => None,
+    }
 }
 
 fn ask<S: Source, K: Sink>(
@@ -81,43 +80,52 @@ fn head<L: Link>(alloc: Global, link: &mut L) -> Result<u64, Stop> {
         Opened::Line(mut input, mut output) => {
             let reply = ask(alloc, &mut input, &mut output);
             link.close(input, output);
-            version_in(&reply?).ok_or(Stop::Unexpected)
+            version_of(&reply?).ok_or(Stop::Unexpected)
         }
         Opened::Failed => Err(Stop::NoMemory),
     }
 }
 
-// Reads the table twice, and asks for its version.
-fn read_all<L: Link + Drop>(alloc: Global, link: L) -> Result<Summary, Stop> {
+// Reads the table twice, and asks for its version. The link is given back.
+fn read_all<L: Link + Drop>(alloc: Global, link: L) -> Result<(Reads, L), Stop> {
     let mut client = Client::new(link, world::profile(alloc)?);
     let (version, whole) = read(alloc, &mut client, &world::whole(alloc)?)?;
     let (again, part) = read(alloc, &mut client, &world::part(alloc)?)?;
     if again != version {
         return Err(Stop::Unexpected);
     }
-    let head = head(alloc, &mut client.back())?;
-    Ok(Summary {
+    let mut link = client.back();
+    let head = head(alloc, &mut link)?;
+    let reads = Reads {
         version,
         whole,
         part,
         head,
-    })
+    };
+    Ok((reads, link))
 }
 
 fn summary_of<R: Wait + Copy>(rt: R, alloc: Global, number: u32) -> Result<Summary, Stop> {
     let peer = world::peer_of(alloc, number)?;
     let link = LoopLink::new(rt, alloc, peer, all_planned(alloc, number)?)?;
-    read_all(alloc, link)
+    let (reads, link) = read_all(alloc, link)?;
+    let keys = world::server_of_config(alloc)?.keys;
+    let is_core_equal = is_equal(alloc, &keys, number, &link.take_heard())?;
+    Ok(Summary {
+        reads,
+        is_core_equal,
+    })
 }
 
 /// Rehearses the reads of a client and the server over a table of 50,000 files in 100 commits, all in memory. The client reads version 99 twice,
 /// 1,000 files a page: the whole table, and the files of day 3. Before each page but a read's first a provider commits to the table, and
-/// the administrator grants another share to another recipient, or takes the grant back. At the end the table's version is asked for.
+/// the administrator grants another share to another recipient, or takes the grant back. At the end the table's version is asked for. Then
+/// the same commits, edits and requests go through the pure machine, and its replies are compared with what the server wrote.
 /// The number shifts the files' days, and which files the provider removes.
 ///
-/// The answer is the lines of what was read, each number as the client had it. A rehearsal that goes on to an answer of another
-/// kind than a page, or a version, has zeros for all numbers. The error is want of memory.
-pub fn rehearse_reads<R: Wait + Copy>(rt: R, alloc: Global, number: u32) -> Result<Text, AllocError>
+/// The answer is the lines of what was read, each number as the client had it, and of the comparison. A rehearsal that goes on to an answer of another
+/// kind than a page, or a version, has zeros for all numbers, and `core differs`. The error is want of memory.
+pub fn rehearse<R: Wait + Copy>(rt: R, alloc: Global, number: u32) -> Result<Text, AllocError>
     ensures { IfOk result IsSummary }
 {
     match summary_of(rt, alloc, number) {

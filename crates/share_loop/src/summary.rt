@@ -1,6 +1,6 @@
 // What a rehearsal came to.
 ghost use Rattle.std.specs.Prelude.{◌≡◌, ◌++◌, IfOk, OnOk, decimal, string_bytes};
-ghost use Rattle.share_loop.specs.Summaries.{number_line as line_of_number, read_line as line_of_read, summary_text};
+ghost use Rattle.share_loop.specs.Summaries.{core_line as line_of_core, number_line as line_of_number, read_line as line_of_read, reads_text, summary_text};
 
 use json_tree::Text;
 use std::alloc::{AllocError, Global};
@@ -16,9 +16,9 @@ pub struct ReadCount {
     pub bytes: u64,
 }
 
-/// What a rehearsal came to.
+/// What the reads of a rehearsal gave.
 #[derive(Clone, Copy, Debug, PartialEq, Eq)]
-pub struct Summary {
+pub struct Reads {
     /// The version that was read.
     pub version: u64,
     /// The read of the whole table.
@@ -29,6 +29,15 @@ pub struct Summary {
     pub head: u64,
 }
 
+/// What a rehearsal came to.
+#[derive(Clone, Copy, Debug, PartialEq, Eq)]
+pub struct Summary {
+    /// What was read.
+    pub reads: Reads,
+    /// Whether the pure machine's replies to the same events were the server's.
+    pub is_core_equal: bool,
+}
+
 impl Summary {
     /// That nothing was read.
     pub(crate) fn nothing() -> Summary {
@@ -37,11 +46,15 @@ impl Summary {
             files: 0,
             bytes: 0,
         };
-        Summary {
+        let reads = Reads {
             version: 0,
             whole: none,
             part: none,
             head: 0,
+        };
+        Summary {
+            reads,
+            is_core_equal: false,
         }
     }
 }
@@ -72,13 +85,31 @@ fn read_line(alloc: Global, read: ReadCount) -> Result<String, AllocError>
     Ok(text)
 }
 
+fn core_line(is_equal: bool) -> &'static str
+    ensures { result.now ≡ line_of_core is_equal }
+{
+    if is_equal {
+        "core equal\n"
+    } else {
+        "core differs\n"
+    }
+}
+
+fn reads_text(alloc: Global, reads: &Reads) -> Result<String, AllocError>
+    ensures { IfOk result (λ text. string_bytes text ≡ reads_text reads.now) }
+{
+    let mut text = number_line(alloc, "version ", reads.version)?;
+    text.push_str(&read_line(alloc, reads.whole)?)?;
+    text.push_str(&read_line(alloc, reads.part)?)?;
+    text.push_str(&number_line(alloc, "head ", reads.head)?)?;
+    Ok(text)
+}
+
 /// The lines of the summary.
 pub(crate) fn text_of(alloc: Global, summary: &Summary) -> Result<Text, AllocError>
     ensures { IfOk result (λ text. text ≡ summary_text summary.now) }
 {
-    let mut text = number_line(alloc, "version ", summary.version)?;
-    text.push_str(&read_line(alloc, summary.whole)?)?;
-    text.push_str(&read_line(alloc, summary.part)?)?;
-    text.push_str(&number_line(alloc, "head ", summary.head)?)?;
+    let mut text = reads_text(alloc, &summary.reads)?;
+    text.push_str(core_line(summary.is_core_equal))?;
     Ok(Text::of(text))
 }

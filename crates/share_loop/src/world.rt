@@ -11,9 +11,10 @@ use std::alloc::{AllocError, Global};
 /// How many files the table has.
 pub(crate) const FILES: u64 = 50_000;
 
-// How many commits add them, and how many each adds.
-const COMMITS: u64 = 100;
+/// How many commits add them.
+pub(crate) const COMMITS: u64 = 100;
 
+// How many each adds.
 const COMMIT_FILES: u64 = 500;
 
 // The room of the store, in objects and in bytes.
@@ -21,8 +22,8 @@ const OBJECTS: usize = 400;
 
 const BYTES: usize = 8_000_000;
 
-// A day in 2023.
-const NOW: u64 = 1_700_000_000_000;
+/// A day in 2023.
+pub(crate) const NOW: u64 = 1_700_000_000_000;
 
 // Keys of 32 bytes each, and the digests of the tokens `admin` and `provider`.
 const CONFIG: &str =
@@ -33,8 +34,8 @@ const CONFIG: &str =
     \"linkTtlSeconds\":3600,\
     \"endpoint\":\"http://127.0.0.1:8080/delta-sharing\"}";
 
-// The edits of the catalogue, in order. The digests are those of the tokens `abc` and `def`.
-const EDITS: [&str; 6] = [
+/// The edits of the catalogue, in order. The digests are those of the tokens `abc` and `def`.
+pub(crate) const EDITS: [&str; 6] = [
     "{\"newShare\":{\"name\":\"s1\"}}",
     "{\"bind\":{\"history\":true,\"location\":\"big\",\"schema\":\"sc\",\"share\":\"s1\",\"table\":\"t1\"}}",
     "{\"newRecipient\":{\"digest\":\"ba7816bf8f01cfea414140de5dae2223b00361a396177a9cb410ff61f20015ad\",\"expires\":null,\"name\":\"r1\"}}",
@@ -77,8 +78,8 @@ pub(crate) fn path_of(alloc: Global, file: u64) -> Result<String, AllocError> {
     format!(in alloc; "f{file:06}.parquet")
 }
 
-// The text of a commit. The day of file i is the last digit of the number and i together.
-fn commit_text(alloc: Global, number: u32, version: u64) -> Result<String, AllocError> {
+/// The text of a commit. The day of file i is the last digit of the number and i together.
+pub(crate) fn commit_text(alloc: Global, number: u32, version: u64) -> Result<String, AllocError> {
     let mut text = String::new(alloc);
     if version == 0 {
         text.push_str(BEGUN)?;
@@ -104,11 +105,15 @@ fn stock(alloc: Global, store: &mut MemStore, name: String, text: &str) -> Resul
     }
 }
 
+/// The text of an edit's record.
+pub(crate) fn record_text(alloc: Global, edit: &str) -> Result<String, AllocError> {
+    format!(in alloc; "{{\"edit\":{edit},\"version\":1}}\n")
+}
+
 fn stock_records(alloc: Global, store: &mut MemStore) -> Result<(), Stop> {
     for (number, edit) in EDITS.iter().enumerate() {
         let name = format!(in alloc; "_share_log/{number:020}.json")?;
-        let record = format!(in alloc; "{{\"edit\":{edit},\"version\":1}}\n")?;
-        stock(alloc, store, name, &record)?;
+        stock(alloc, store, name, &record_text(alloc, edit)?)?;
     }
     Ok(())
 }
@@ -129,12 +134,17 @@ fn clock(alloc: Global) -> Result<MemClock, AllocError> {
     Ok(MemClock::new(moments))
 }
 
+/// What the server answers by.
+pub(crate) fn server_of_config(alloc: Global) -> Result<Server, Stop> {
+    Ok(Server::of(config_of(alloc, CONFIG.as_bytes())?))
+}
+
 /// The server over the table of that number, with the share `s1` that recipient `r1` is granted, and a share and a recipient besides.
 pub(crate) fn peer_of(alloc: Global, number: u32) -> Result<MemPeer, Stop> {
     let mut store = MemStore::new(alloc, OBJECTS, BYTES, Vec::new(alloc))?;
     stock_records(alloc, &mut store)?;
     stock_commits(alloc, &mut store, number)?;
-    let server = Server::of(config_of(alloc, CONFIG.as_bytes())?);
+    let server = server_of_config(alloc)?;
     let (hub, mut passes) = Hub::open(alloc, &mut store, 1)?;
     match passes.pop() {
         Some(pass) => Ok(Peer::new(hub, pass, server, store, clock(alloc)?, OpenGate)),
