@@ -1,0 +1,159 @@
+// The calls of a client.
+ghost use Rattle.std.specs.Prelude.{◌≡◌, ◌≤◌};
+ghost use Rattle.share_client.specs.Clients.{client_link, client_profile};
+ghost use Rattle.share_client.specs.Sides.{counts, Known, Later};
+ghost use Rattle.share_client.specs.Steps.{Sends};
+ghost use Rattle.client_calls.specs.Calls.{CallCause, Performs, TellsBadUrl};
+ghost use Rattle.client_calls.specs.declared.call.Call.TheVariants as calls;
+
+use crate::texts::{changes_text, read_text, tables_text};
+use edge_core::{Flushing, Link, Sink, write_all};
+use json_tree::Text;
+use share_client::{Client, ClientFault, QueryBody, SharedTable};
+use std::alloc::Global;
+
+/// What a client is told to do.
+#[derive(Drop)]
+pub enum Call {
+    /// List the tables that are shared with the recipient.
+    Tables,
+    /// Read the files of a table, by that body of a query.
+    Read(SharedTable, QueryBody),
+    /// Read the changes of a table.
+    Changes {
+        /// The table.
+        table: SharedTable,
+        /// The first version.
+        from: u64,
+        /// The last version.
+        to: u64,
+    },
+    /// Fetch the file of a link, whose url this is.
+    Fetch(Text),
+}
+
+// Writes the text, and hands on what the sink keeps back of it.
+fn send<K: Sink>(sink: &mut K, text: &[u8]) -> Result<(), ClientFault>
+    ensures later { K.faults sink.old ≤ K.faults sink.new }
+    ensures sends { Sends (K.holds sink.old) (K.holds sink.new) (K.faults sink.old) (K.faults sink.new) text.now result }
+{
+    match write_all(sink, text) {
+        Ok(()) => {}
+        Err(_) => return Err(ClientFault::WriteFault),
+    }
+    match sink.flush() {
+        Flushing::Flushed => Ok(()),
+        Flushing::Failed => Err(ClientFault::WriteFault),
+    }
+}
+
+fn list<L: Link, K: Sink>(
+    alloc: Global,
+    client: &mut Client<L>,
+    sink: &mut K,
+) -> Result<(), ClientFault>
+    ensures later { Later (counts L.faults L.read_faults L.write_faults (client_link client.old)) (counts L.faults L.read_faults L.write_faults (client_link client.new)) }
+    ensures sink_later { K.faults sink.old ≤ K.faults sink.new }
+    ensures cause { CallCause result (counts L.faults L.read_faults L.write_faults (client_link client.old)) (counts L.faults L.read_faults L.write_faults (client_link client.new)) (K.faults sink.old) (K.faults sink.new) }
+    ensures url { TellsBadUrl calls.Tables result }
+    ensures told { Known L.coming L.closed (client_link client.old) (client_link client.new) (Performs (client_profile client.old) calls.Tables (K.holds sink.old) (K.holds sink.new) result) }
+{
+    let tables = match client.list_tables(alloc) {
+        Ok(tables) => tables,
+        Err(fault) => return Err(fault),
+    };
+    match tables_text(alloc, &tables) {
+        Ok(text) => send(sink, &text),
+        Err(_) => Err(ClientFault::NoMemory),
+    }
+}
+
+fn read<L: Link, K: Sink>(
+    alloc: Global,
+    client: &mut Client<L>,
+    table: &SharedTable,
+    body: &QueryBody,
+    sink: &mut K,
+) -> Result<(), ClientFault>
+    ensures later { Later (counts L.faults L.read_faults L.write_faults (client_link client.old)) (counts L.faults L.read_faults L.write_faults (client_link client.new)) }
+    ensures sink_later { K.faults sink.old ≤ K.faults sink.new }
+    ensures cause { CallCause result (counts L.faults L.read_faults L.write_faults (client_link client.old)) (counts L.faults L.read_faults L.write_faults (client_link client.new)) (K.faults sink.old) (K.faults sink.new) }
+    ensures url { TellsBadUrl (calls.Read table.now body.now) result }
+    ensures told { Known L.coming L.closed (client_link client.old) (client_link client.new) (Performs (client_profile client.old) (calls.Read table.now body.now) (K.holds sink.old) (K.holds sink.new) result) }
+{
+    let read = match client.read_table(alloc, table, body) {
+        Ok(read) => read,
+        Err(fault) => return Err(fault),
+    };
+    match read_text(alloc, &read) {
+        Ok(text) => send(sink, &text),
+        Err(_) => Err(ClientFault::NoMemory),
+    }
+}
+
+fn changes<L: Link, K: Sink>(
+    alloc: Global,
+    client: &mut Client<L>,
+    table: &SharedTable,
+    from: u64,
+    to: u64,
+    sink: &mut K,
+) -> Result<(), ClientFault>
+    ensures later { Later (counts L.faults L.read_faults L.write_faults (client_link client.old)) (counts L.faults L.read_faults L.write_faults (client_link client.new)) }
+    ensures sink_later { K.faults sink.old ≤ K.faults sink.new }
+    ensures cause { CallCause result (counts L.faults L.read_faults L.write_faults (client_link client.old)) (counts L.faults L.read_faults L.write_faults (client_link client.new)) (K.faults sink.old) (K.faults sink.new) }
+    ensures url { TellsBadUrl (calls.Changes table.now from to) result }
+    ensures told { Known L.coming L.closed (client_link client.old) (client_link client.new) (Performs (client_profile client.old) (calls.Changes table.now from to) (K.holds sink.old) (K.holds sink.new) result) }
+{
+    let lines = match client.read_changes(alloc, table, from, to) {
+        Ok(lines) => lines,
+        Err(fault) => return Err(fault),
+    };
+    match changes_text(alloc, &lines) {
+        Ok(text) => send(sink, &text),
+        Err(_) => Err(ClientFault::NoMemory),
+    }
+}
+
+fn fetch<L: Link, K: Sink>(
+    alloc: Global,
+    client: &mut Client<L>,
+    url: &Text,
+    sink: &mut K,
+) -> Result<(), ClientFault>
+    ensures later { Later (counts L.faults L.read_faults L.write_faults (client_link client.old)) (counts L.faults L.read_faults L.write_faults (client_link client.new)) }
+    ensures sink_later { K.faults sink.old ≤ K.faults sink.new }
+    ensures cause { CallCause result (counts L.faults L.read_faults L.write_faults (client_link client.old)) (counts L.faults L.read_faults L.write_faults (client_link client.new)) (K.faults sink.old) (K.faults sink.new) }
+    ensures url { TellsBadUrl (calls.Fetch url.now) result }
+    ensures told { Known L.coming L.closed (client_link client.old) (client_link client.new) (Performs (client_profile client.old) (calls.Fetch url.now) (K.holds sink.old) (K.holds sink.new) result) }
+{
+    match client.fetch_file(alloc, url.as_str(), sink) {
+        Ok(_) => Ok(()),
+        Err(fault) => Err(fault),
+    }
+}
+
+/// Has the client make the call, writes what is printed of its answer to the sink, and flushes the sink: of tables a line with share,
+/// schema and table for each, of files the metaData line and a line for each, of changes their lines, and of a link its file's bytes.
+///
+/// The faults are those of the client's call. `WriteFault` comes too where the sink failed, behind a front of the text; after the
+/// other faults nothing was written. `BadUrl` comes of a fetch alone.
+pub fn perform<L: Link, K: Sink>(
+    alloc: Global,
+    client: &mut Client<L>,
+    call: &Call,
+    sink: &mut K,
+) -> Result<(), ClientFault>
+    ensures later { Later (counts L.faults L.read_faults L.write_faults (client_link client.old)) (counts L.faults L.read_faults L.write_faults (client_link client.new)) }
+    ensures sink_later { K.faults sink.old ≤ K.faults sink.new }
+    ensures cause { CallCause result (counts L.faults L.read_faults L.write_faults (client_link client.old)) (counts L.faults L.read_faults L.write_faults (client_link client.new)) (K.faults sink.old) (K.faults sink.new) }
+    ensures url { TellsBadUrl call.now result }
+    ensures told { Known L.coming L.closed (client_link client.old) (client_link client.new) (Performs (client_profile client.old) call.now (K.holds sink.old) (K.holds sink.new) result) }
+{
+    match call {
+        Call::Tables => list(alloc, client, sink),
+        Call::Read(table, body) => read(alloc, client, table, body, sink),
+        Call::Changes { table, from, to } => changes(alloc, client, table, *from, *to, sink),
+        Call::Fetch(url) => fetch(alloc, client, url, sink),
+    }
+}
