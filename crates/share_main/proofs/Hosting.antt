@@ -134,6 +134,8 @@ module _ {N W C L : Type 0} (coming : N → Option (List (List ℕ))) (closed : 
   desks_told (Some command.Version) old mid new text end desks desks' tells u = u
   desks_told (Some (command.Query location)) old mid new text end desks desks' tells u = u
   desks_told (Some command.Stdio) old mid new text end desks desks' tells u = u
+  desks_told (Some (command.Rehearse number)) old mid new text end desks desks' tells u = u
+  desks_told (Some (command.Client name call_words)) old mid new text end desks desks' tells u = u
   desks_told (Some (command.Serve port workers)) old mid new text end desks desks' tells (inl (why, is, u, same)) = inl (why, is, unserved_told why old mid new text tells u, same)
   desks_told (Some (command.Serve port workers)) old mid new text end desks desks' tells (inr (e, is, (config, found, o, serving, rest))) = inr (e, is, (config, found, opens_told config found old mid new text tells o, serving, rest))
 
@@ -143,6 +145,8 @@ module _ {N W C L : Type 0} (coming : N → Option (List (List ℕ))) (closed : 
   desks_still (Some command.Version) o desks = refl
   desks_still (Some (command.Query location)) o desks = refl
   desks_still (Some command.Stdio) o desks = refl
+  desks_still (Some (command.Rehearse number)) o desks = refl
+  desks_still (Some (command.Client name call_words)) o desks = refl
   desks_still (Some (command.Serve port workers)) o desks = inl (no_server.NoMemory, refl, unserved_still o, refl)
 
 -- ---- the edge

@@ -1,6 +1,6 @@
 -- Where all is told and no count rose, the causes of an end leave what is expected.
 use Rattle.std.proofs.Common.{◌≡◌, ℕ, List, [], ◌++◌, Option, Some, None, sym, ap, ◌∙◌, subst, refl, Result, Ok, Err, inl, inr, String, Global, true≢false}
-use Rattle.std.specs.Prelude.{◌⊎◌, IfSome}
+use Rattle.std.specs.Prelude.{◌⊎◌, IfSome, option_map}
 use Rattle.std.specs.Io.KnownBytes.{append_known}
 use Rattle.std.proofs.lemmas.List.{append-nil}
 use Rattle.edge_core.specs.Faults.{Rose}
@@ -9,6 +9,15 @@ use Rattle.edge_core.proofs.Growth.{Grows-on, GrowsTo-same}
 use Rattle.share_config.specs.declared.config.Config.{Config}
 use Rattle.share_serve.specs.declared.serve.SessionEnd.{SessionEnd}
 use Rattle.share_serve.specs.declared.serve.SessionEnd.TheVariants as session_end
+use Rattle.share_config.specs.declared.profile.Profile.{Profile}
+use Rattle.client_calls.specs.ProfileObjects.{profile_at}
+use Rattle.client_calls.specs.declared.call.Call.{Call}
+use Rattle.client_calls.specs.declared.call.Call.TheVariants as calls
+use Rattle.share_main.specs.Clients.{HasNoCall, HasProfile, IsClient, IsRead, NamesCall, call_in, end_uncalled, input_body}
+use Rattle.share_main.specs.declared.client.NoCall.{NoCall}
+use Rattle.share_main.specs.declared.client.NoCall.TheVariants as no_call
+use Rattle.share_main.specs.declared.words.CallWords.{CallWords}
+use Rattle.share_main.specs.declared.words.CallWords.TheVariants as worded
 use Rattle.share_main.specs.Configuration.{config_at}
 use Rattle.share_main.specs.declared.ends.TableRefusal.{TableRefusal}
 use Rattle.share_main.specs.Words.{command_in}
@@ -19,7 +28,7 @@ use Rattle.share_main.specs.Query.{asked_in}
 use Rattle.share_main.specs.Run.{Because, IsQuery, Answers, Means, Notes, IsRun}
 use Rattle.share_main.specs.Serve.{IsServe}
 use Rattle.share_main.specs.Stdio.{Configures, IsServed, IsStdio, IsUnserved, end_after, end_without}
-use Rattle.share_main.specs.Expected.{Deed, Wanted, deed, serve, host, answered, configured, refused, queried, done, IsCalm, Fulfils, IsExact, IsExactAlone}
+use Rattle.share_main.specs.Expected.{Deed, Wanted, deed, serve, host, printed, answered, asked_of, configured, refused, queried, done, IsCalm, Fulfils, IsExact, IsExactAlone}
 use Rattle.share_main.specs.declared.ends.End.{End}
 use Rattle.share_main.specs.declared.ends.End.TheVariants as ends
 use Rattle.share_main.specs.declared.opening.NoServer.{NoServer}
@@ -58,7 +67,11 @@ by_answer : (asked : Option Command) (old new : Outside) (input : List ℕ) (obj
     → Answers asked old new answer → result ≡ (answered answer).status → Notes old new (answered answer).notes → new.held ≡ Some (held ++ (answered answer).output) → DoesAt asked old new input objects held noted result
 by_answer None old new input objects held noted result answer calm grows a st n o = absurd a
 by_answer (Some command.Stdio) old new input objects held noted result answer calm grows a st n o = absurd a
+by_answer (Some (command.Rehearse number)) old new input objects held noted result answer calm grows (text, is, summary) st n o =
+    at_beginning (Some (command.Rehearse number)) old new input objects held noted result calm grows
+    (text, summary, deed_then old new input objects held noted result (answered answer) (deed (printed text)) calm st n o (ap (λ r. deed (answered r)) is))
 by_answer (Some (command.Serve port workers)) old new input objects held noted result answer calm grows a st n o = absurd a
+by_answer (Some (command.Client name call_words)) old new input objects held noted result answer calm grows a st n o = absurd a
 by_answer (Some command.Help) old new input objects held noted result answer calm grows a st n o =
     at_beginning (Some command.Help) old new input objects held noted result calm grows (deed_then old new input objects held noted result (answered answer) _ calm st n o (ap (λ r. deed (answered r)) a))
 by_answer (Some command.Version) old new input objects held noted result answer calm grows a st n o =
@@ -73,7 +86,9 @@ nothing_asked None input objects query none = absurd query
 nothing_asked (Some command.Help) input objects query none = absurd query
 nothing_asked (Some command.Version) input objects query none = absurd query
 nothing_asked (Some command.Stdio) input objects query none = absurd query
+nothing_asked (Some (command.Rehearse number)) input objects query none = absurd query
 nothing_asked (Some (command.Serve port workers)) input objects query none = absurd query
+nothing_asked (Some (command.Client name call_words)) input objects query none = absurd query
 nothing_asked (Some (command.Query location)) input objects query none = sym (ap (λ q. deed (queried location q objects)) none)
 
 text_law : (asked : Option Command) (old new : Outside) (end : End) (result : ℕ) (input : List ℕ) (objects : Objects) (held noted : List ℕ) → result ≡ status end → Means asked old new end → Notes old new (note end) → Grows old.objects new.objects
@@ -84,7 +99,11 @@ text_law asked old new ends.Input result input objects held noted st m n g calm 
     inr (at_beginning asked old new input objects held noted result calm g
     (deed_then old new input objects held noted result (refused ends.Input) _ calm st n (kept_then old new held calm.tells_held m.2) (nothing_asked asked input objects m.0 (subst (λ l. IfSome l (λ bytes. asked_in bytes ≡ None)) calm.tells_left m.1))))
 text_law asked old new ends.Configuration result input objects held noted st m n g calm = absurd m
+text_law asked old new ends.Profile result input objects held noted st m n g calm = absurd m
+text_law asked old new ends.Url result input objects held noted st m n g calm = absurd m
 text_law asked old new (ends.Record number) result input objects held noted st m n g calm = absurd m
+text_law asked old new (ends.Peer why) result input objects held noted st m n g calm = absurd m
+text_law asked old new ends.PeerFault result input objects held noted st m n g calm = absurd m
 text_law asked old new ends.ReadFault result input objects held noted st m n g calm = absurd (calm.reads m.1)
 text_law asked old new ends.StoreFault result input objects held noted st m n g calm = absurd (calm.stores m.2)
 text_law asked old new ends.WriteFault result input objects held noted st m n g calm = absurd (calm.writes m.0)
@@ -172,6 +191,49 @@ serve_law port workers old new end result input objects held noted st (inr (e, i
     inr (wanted_at (Some (command.Serve port workers)) host old new input objects held noted result (Some config) (many_wanted port workers) calm o.configured
     (record { end = end; cause = inr (e, is, (found, o)); told = st; notes = noted_then old new (note end) noted calm.tells_noted calm.note_writes n }))
 
+-- ---- clients
+
+-- what the profile was at one moment is what is wanted there
+profile_wanted : (name : List ℕ) (e : CallWords) (old new : Outside) (input : List ℕ) (objects : Objects) (held noted : List ℕ) (result : ℕ) (profile : Option Profile) → IsCalm old new input objects held noted
+    → HasProfile name profile old.objects new.objects → Fulfils (asked_of profile (call_in e input)) old new result held noted → DoesAt (Some (command.Client name e)) old new input objects held noted result
+profile_wanted name e old new input objects held noted result profile calm found does =
+    let (listed, begun, ended, is) = listed_at objects new.objects (λ os. profile_at name os ≡ profile) (subst (λ o. Between o new.objects (λ os. profile_at name os ≡ profile)) calm.tells_objects found) in
+    (listed, begun, ended, subst (λ p. Fulfils (asked_of p (call_in e input)) old new result held noted) (sym is) does)
+
+no_body : (e : CallWords) (input : List ℕ) → IsRead e → input_body input ≡ None → call_in e input ≡ None
+no_body worded.Tables input is none = absurd is
+no_body (worded.Read table) input is none = ap (option_map (calls.Read table)) none
+no_body (worded.Changes table from to) input is none = absurd is
+no_body (worded.Fetch url) input is none = absurd is
+
+names_call : (e : CallWords) (c : Call) (input : List ℕ) (old new : Option (List ℕ)) → old ≡ Some input → NamesCall e c old new → call_in e input ≡ Some c
+names_call worded.Tables c input old new told names = ap Some (sym names.0)
+names_call (worded.Read table) c input old new told ((body, is, reads), end) =
+    ap (option_map (calls.Read table)) (subst (λ o. IfSome o (λ i. input_body i ≡ Some body)) told reads) ∙ ap Some (sym is)
+names_call (worded.Changes table from to) c input old new told names = ap Some (sym names.0)
+names_call (worded.Fetch url) c input old new told names = ap Some (sym names.0)
+
+uncalled_law : (name : List ℕ) (e : CallWords) (why : NoCall) (old new : Outside) (end : End) (result : ℕ) (input : List ℕ) (objects : Objects) (held noted : List ℕ) → end ≡ end_uncalled why → result ≡ status end → HasNoCall why name e old new → new.held ≡ old.held
+    → Notes old new (note end) → IsCalm old new input objects held noted → (result ≡ 6) ⊎ DoesAt (Some (command.Client name e)) old new input objects held noted result
+uncalled_law name e no_call.Profile old new end result input objects held noted is st why same n calm =
+    inr (profile_wanted name e old new input objects held noted result None calm why
+    (deed_then old new input objects held noted result (refused ends.Profile) (asked_of None (call_in e input)) calm (st ∙ ap status is) (subst (λ x. Notes old new (note x)) is n) (kept_then old new held calm.tells_held same) refl))
+uncalled_law name e no_call.Input old new end result input objects held noted is st (read, (p, found), none) same n calm =
+    inr (profile_wanted name e old new input objects held noted result (Some p) calm found
+    (deed_then old new input objects held noted result (refused ends.Input) (asked_of (Some p) (call_in e input)) calm (st ∙ ap status is) (subst (λ x. Notes old new (note x)) is n) (kept_then old new held calm.tells_held same)
+    (ap (asked_of (Some p)) (sym (no_body e input read (subst (λ l. IfSome l (λ i. input_body i ≡ None)) calm.tells_left none))))))
+uncalled_law name e no_call.ReadFault old new end result input objects held noted is st why same n calm = absurd (calm.reads why.1)
+uncalled_law name e no_call.StoreFault old new end result input objects held noted is st why same n calm = absurd (calm.stores why)
+uncalled_law name e no_call.NoMemory old new end result input objects held noted is st why same n calm = inl (st ∙ ap status is)
+
+client_law : (name : List ℕ) (e : CallWords) (old new : Outside) (end : End) (result : ℕ) (input : List ℕ) (objects : Objects) (held noted : List ℕ) → result ≡ status end → IsClient name e old new end → Notes old new (note end)
+    → IsCalm old new input objects held noted → (result ≡ 6) ⊎ DoesAt (Some (command.Client name e)) old new input objects held noted result
+client_law name e old new end result input objects held noted st (inl (why, is, cause, same, idle)) n calm = uncalled_law name e why old new end result input objects held noted is st cause same n calm
+client_law name e old new end result input objects held noted st (inr (p, c, answer, is, found, names, made)) n calm =
+    inr (profile_wanted name e old new input objects held noted result (Some p) calm found
+    (subst (λ k. Fulfils (asked_of (Some p) k) old new result held noted) (sym (names_call e c input old.left new.left calm.tells_left names))
+    (record { end = end; cause = (answer, is); told = st; notes = noted_then old new (note end) noted calm.tells_noted calm.note_writes n })))
+
 -- ---- every command
 
 law_at : (asked : Option Command) (old new : Outside) (end : End) (result : ℕ) (input : List ℕ) (objects : Objects) (held noted : List ℕ) → result ≡ status end → Because asked old new end → Notes old new (note end) → Grows old.objects new.objects
@@ -180,7 +242,9 @@ law_at None old new end result input objects held noted st m n g calm = text_law
 law_at (Some command.Help) old new end result input objects held noted st m n g calm = text_law (Some command.Help) old new end result input objects held noted st m n g calm
 law_at (Some command.Version) old new end result input objects held noted st m n g calm = text_law (Some command.Version) old new end result input objects held noted st m n g calm
 law_at (Some (command.Query location)) old new end result input objects held noted st m n g calm = text_law (Some (command.Query location)) old new end result input objects held noted st m n g calm
+law_at (Some (command.Rehearse number)) old new end result input objects held noted st m n g calm = text_law (Some (command.Rehearse number)) old new end result input objects held noted st m n g calm
 law_at (Some command.Stdio) old new end result input objects held noted st m n g calm = stdio_law old new end result input objects held noted st m n calm
+law_at (Some (command.Client name call_words)) old new end result input objects held noted st m n g calm = client_law name call_words old new end result input objects held noted st m n calm
 law_at (Some (command.Serve port workers)) old new end result input objects held noted st m n g calm = serve_law port workers old new end result input objects held noted st m n calm
 
 pub exact_law : (words : List (String Global)) (old new : Outside) (end : End) (result : ℕ) → result ≡ status end → IsRun (command_in words) old new end → IsExact words old new result

@@ -8,3 +8,4 @@ pub mod Serving
 pub mod Numbers
 pub mod Seating
 mod Hosting
+pub mod Calling

@@ -7,7 +7,8 @@ use Rattle.std.specs.Str.Parse.{digits_value, ParsesUnsigned}
 use Rattle.std.proofs.lemmas.Bool.{and_from, and_parts}
 use Rattle.share_request.specs.Parameters.{is_digits}
 use Rattle.share_request.proofs.Digits as digits
-use Rattle.share_main.specs.Words.{command_in, is_plain, location_in, number_in}
+use Rattle.share_main.specs.Words.{below_in, command_in, call_words_in, is_plain, location_in, name_in, number_in, serve_or_none}
+use Rattle.share_main.specs.declared.words.CallWords.{CallWords}
 use Rattle.share_main.specs.declared.words.Command.{Command}
 use Rattle.share_main.specs.declared.words.Command.TheVariants as command
 
@@ -42,7 +43,9 @@ Bounded (Some command.Help) = Unit {0}
 Bounded (Some command.Version) = Unit {0}
 Bounded (Some (command.Query location)) = Unit {0}
 Bounded (Some command.Stdio) = Unit {0}
+Bounded (Some (command.Rehearse number)) = Unit {0}
 Bounded (Some (command.Serve port workers)) = (1 ≤ workers) × (workers ≤ 64)
+Bounded (Some (command.Client profile call_words)) = Unit {0}
 
 bounded_if : (b : Bool) (x y : Option Command) → Bounded x → Bounded y → Bounded (if b then x else y)
 bounded_if true x y p q = p
@@ -67,16 +70,29 @@ within_if value most plain false is = tt
 number_within : (most : ℕ) (word : List ℕ) → IfSome (number_in most word) (λ n. (1 ≤ n) × (n ≤ most))
 number_within most word = within_if (digits_value 10 word) most (is_plain word) _ refl
 
+rehearse_bounded : (number : Option ℕ) → Bounded (option_map command.Rehearse number)
+rehearse_bounded None = tt
+rehearse_bounded (Some n) = tt
+
+client_bounded : (profile : Option (List ℕ)) (call_words : Option CallWords) → Bounded (option_and_then (λ p. option_map (λ e. command.Client p e) call_words) profile)
+client_bounded None call_words = tt
+client_bounded (Some profile) None = tt
+client_bounded (Some profile) (Some e) = tt
+
+three_bounded : (word port workers : List ℕ) (words : List (String Global)) → Bounded (serve_or_none word port workers words)
+three_bounded word port workers [] = bounded_if (bytes_eq word (codes "serve")) _ None (serve_bounded (number_in 65535 port) (number_in 64 workers) (number_within 64 workers)) tt
+three_bounded word port workers (more ∷ words) = tt
+
 all_bounded : (words : List (String Global)) → Bounded (command_in words)
 all_bounded [] = tt
 all_bounded (word ∷ []) =
     bounded_if (bytes_eq (string_bytes word) (codes "stdio")) (Some command.Stdio) _ tt
     (bounded_if (bytes_eq (string_bytes word) (codes "--help")) (Some command.Help) _ tt (bounded_if (bytes_eq (string_bytes word) (codes "--version")) (Some command.Version) None tt tt))
-all_bounded (word ∷ location ∷ []) =
-    bounded_if (bytes_eq (string_bytes word) (codes "query")) (option_map command.Query (location_in (string_bytes location))) None (query_bounded (location_in (string_bytes location))) tt
-all_bounded (word ∷ port ∷ workers ∷ []) =
-    bounded_if (bytes_eq (string_bytes word) (codes "serve")) _ None (serve_bounded (number_in 65535 (string_bytes port)) (number_in 64 (string_bytes workers)) (number_within 64 (string_bytes workers))) tt
-all_bounded (word ∷ second ∷ third ∷ more ∷ words) = tt
+all_bounded (word ∷ second ∷ []) =
+    bounded_if (bytes_eq (string_bytes word) (codes "query")) _ _ (query_bounded (location_in (string_bytes second)))
+    (bounded_if (bytes_eq (string_bytes word) (codes "rehearse")) _ None (rehearse_bounded (below_in (2 ^ 32) (string_bytes second))) tt)
+all_bounded (word ∷ second ∷ third ∷ words) =
+    bounded_if (bytes_eq (string_bytes word) (codes "client")) _ _ (client_bounded (name_in (string_bytes third)) (call_words_in (string_bytes second) words)) (three_bounded (string_bytes word) (string_bytes second) (string_bytes third) words)
 
 -- a server has 1 to 64 workers
 pub workers_bounded : (words : List (String Global)) (port workers : ℕ) → command_in words ≡ Some (command.Serve port workers) → (1 ≤ workers) × (workers ≤ 64)

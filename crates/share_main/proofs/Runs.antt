@@ -7,6 +7,12 @@ use Rattle.edge_core.specs.Faults.{Rose}
 use Rattle.edge_core.specs.Objects.{Grows, Between}
 use Rattle.edge_core.proofs.Growth.{Grows-itself}
 use Rattle.share_main.specs.declared.ends.TableRefusal.{TableRefusal}
+use Rattle.std.proofs.lemmas.Bool.{OnFalse_from, OnTrue_from}
+use Rattle.share_main.specs.declared.words.TheConstants.{HELP, VERSION}
+use Rattle.share_loop.specs.Summaries.{IsSummary}
+use Rattle.share_main.proofs.Calling.{noted_client}
+use Rattle.share_main.specs.Clients.{IsClient}
+use Rattle.share_main.specs.declared.client.NoCall.TheVariants as no_call
 use Rattle.share_main.specs.Ends.{note}
 use Rattle.share_main.specs.Table.{lines_in}
 use Rattle.share_main.specs.Outside.{Outside}
@@ -42,7 +48,9 @@ answers_rest None old mid new answer left objects a = absurd a
 answers_rest (Some command.Help) old mid new answer left objects a = a
 answers_rest (Some command.Version) old mid new answer left objects a = a
 answers_rest (Some command.Stdio) old mid new answer left objects a = absurd a
+answers_rest (Some (command.Rehearse number)) old mid new answer left objects a = a
 answers_rest (Some (command.Serve port workers)) old mid new answer left objects a = absurd a
+answers_rest (Some (command.Client name call_words)) old mid new answer left objects a = absurd a
 answers_rest (Some (command.Query location)) old mid new answer left objects (query, asks, end, between) =
     (query, asks, subst (IsReadToEnd old.left) left end, subst (λ o. Between old.objects o (λ os. lines_in location query os ≡ answer)) objects between)
 
@@ -58,6 +66,29 @@ printed_runs location old mid new text end found p =
       grows = subst (λ o. Grows old.objects o) objects found.grows;
       same = subst (λ o. OnTrue old.alone (o ≡ old.objects)) objects found.same;
     }
+
+-- A text was printed that the command is answered, whatever was read and stored.
+text_runs : (asked : Option Command) (text : List ℕ) (old new : Outside) (end : End) → (Means asked old new end → Because asked old new end) → is_stdio asked ≡ false → Answers asked old old (Ok text) → Prints text old new end → Runs asked old new end
+text_runs asked text old new end because not_stdio answers p =
+    let rest = prints_rest text old new end p in
+    let objects : old.objects ≡ new.objects = sym (ap (λ o. o.objects) rest) in
+    record {
+      means = because (printed_means asked old old new text end (answers_rest asked old old new (Ok text) (sym (ap (λ o. o.left) rest)) objects answers) refl refl p);
+      notes = ap (λ o. o.noted) rest;
+      note_faults = ap (λ o. o.note_faults) rest;
+      grows = subst (λ o. Grows old.objects o) objects (Grows-itself old.objects);
+      same = OnFalse_from (is_stdio asked) _ (λ no. OnTrue_from old.alone (new.objects ≡ old.objects) (λ e. sym objects));
+    }
+
+-- The commands' help, the version, or the lines of a rehearsal were printed.
+pub help_runs : (text : List ℕ) (old new : Outside) (end : End) → text ≡ HELP.now → Prints text old new end → Runs (Some command.Help) old new end
+help_runs text old new end is p = text_runs (Some command.Help) text old new end (λ m. m) refl (ap (λ t. Ok t) is) p
+
+pub version_runs : (text : List ℕ) (old new : Outside) (end : End) → text ≡ VERSION.now → Prints text old new end → Runs (Some command.Version) old new end
+version_runs text old new end is p = text_runs (Some command.Version) text old new end (λ m. m) refl (ap (λ t. Ok t) is) p
+
+pub rehearsal_runs : (number : ℕ) (text : List ℕ) (old new : Outside) (end : End) → IsSummary text → Prints text old new end → Runs (Some (command.Rehearse number)) old new end
+rehearsal_runs number text old new end is p = text_runs (Some (command.Rehearse number)) text old new end (λ m. m) refl (text, refl, is) p
 
 -- The line on the notes comes last.
 notes_then : (old mid new : Outside) (text : List ℕ) → mid.noted ≡ old.noted → mid.note_faults ≡ old.note_faults → Notes mid new text → Notes old new text
@@ -81,7 +112,11 @@ means_then asked old mid new ends.Words same m = (m.0, subst (λ h. h ≡ old.he
 means_then asked old mid new ends.Input same m = (m.0, m.1, subst (λ h. h ≡ old.held) same.held m.2)
 means_then asked old mid new ends.ReadFault same m = (m.0, subst (Rose old.read_faults) same.reads m.1, subst (λ h. h ≡ old.held) same.held m.2)
 means_then asked old mid new ends.Configuration same m = absurd m
+means_then asked old mid new ends.Profile same m = absurd m
+means_then asked old mid new ends.Url same m = absurd m
 means_then asked old mid new (ends.Record number) same m = absurd m
+means_then asked old mid new (ends.Peer why) same m = absurd m
+means_then asked old mid new ends.PeerFault same m = absurd m
 means_then asked old mid new ends.ListenerFault same m = absurd m
 means_then asked old mid new ends.BodyCut same m = absurd m
 means_then asked old mid new (ends.Table why) same m = (answers_then asked old mid new (Err why) same m.0, subst (λ h. h ≡ old.held) same.held m.1)
@@ -127,8 +162,10 @@ because_then None old mid new text end tells m = means_then None old mid new end
 because_then (Some command.Help) old mid new text end tells m = means_then (Some command.Help) old mid new end (same_causes mid new text tells) m
 because_then (Some command.Version) old mid new text end tells m = means_then (Some command.Version) old mid new end (same_causes mid new text tells) m
 because_then (Some (command.Query location)) old mid new text end tells m = means_then (Some (command.Query location)) old mid new end (same_causes mid new text tells) m
+because_then (Some (command.Rehearse number)) old mid new text end tells m = means_then (Some (command.Rehearse number)) old mid new end (same_causes mid new text tells) m
 because_then (Some command.Stdio) old mid new text end tells m = stdio_then old mid new text end tells m
 because_then (Some (command.Serve port workers)) old mid new text end tells m = serve_then old mid new text end tells m
+because_then (Some (command.Client name call_words)) old mid new text end tells m = subst (λ o. IsClient name call_words old o end) (sym tells.rest) (noted_client name call_words old mid new.noted new.note_faults end m)
 
 pub told_runs : (asked : Option Command) (old mid new : Outside) (end : End) → Runs asked old mid end → Tells mid new (note end) → IsRun asked old new end
 told_runs asked old mid new end runs tells =
@@ -158,8 +195,10 @@ because_still None o = refl
 because_still (Some command.Help) o = refl
 because_still (Some command.Version) o = refl
 because_still (Some (command.Query location)) o = refl
+because_still (Some (command.Rehearse number)) o = refl
 because_still (Some command.Stdio) o = inl (no_server.NoMemory, refl, unserved_still o)
 because_still (Some (command.Serve port workers)) o = inl (no_server.NoMemory, refl, unserved_still o)
+because_still (Some (command.Client name call_words)) o = inl (no_call.NoMemory, refl, tt, refl, tt)
 
 pub runs_still : (asked : Option Command) (o : Outside) → Runs asked o o ends.NoMemory
 runs_still asked o = record {

@@ -1,10 +1,16 @@
 -- What a run does, as a plain function of its words, its input and the stored objects, as far as these decide it.
-use Rattle.std.specs.Prelude.{◌≡◌, ℕ, ◌⊎◌, List, [], ◌++◌, Option, Some, None, Result, Ok, Err, String}
+use Rattle.std.specs.Prelude.{◌≡◌, ℕ, ◌⊎◌, List, [], ◌++◌, Option, Some, None, Result, Ok, Err, String, ⊤}
 use Rattle.std.specs.declared.alloc.Global.{Global}
 use Rattle.edge_core.specs.Faults.{Rose}
 use Rattle.edge_core.specs.Objects.{Objects, Grows}
 use Rattle.share_config.specs.declared.config.Config.{Config}
 use Rattle.share_main.specs.declared.ends.TableRefusal.{TableRefusal}
+use Rattle.share_client.specs.declared.fault.ClientFault.{ClientFault}
+use Rattle.share_config.specs.declared.profile.Profile.{Profile}
+use Rattle.client_calls.specs.ProfileObjects.{profile_at}
+use Rattle.client_calls.specs.declared.call.Call.{Call}
+use Rattle.share_loop.specs.Summaries.{IsSummary}
+use Rattle.share_main.specs.Clients.{call_in, end_called}
 use Rattle.share_main.specs.Configuration.{config_at}
 use Rattle.share_main.specs.Words.{command_in}
 use Rattle.share_main.specs.Ends.{status, note}
@@ -30,11 +36,13 @@ pub record Deed : Type 0 where
   pub notes : List ℕ
   pub output : List ℕ
 
--- A deed; or that a server of this configuration is opened, and serves one connection, or has workers serve. These rest on the clock and on others too.
+-- A deed; or that a rehearsal is told; or that a server of this configuration is opened, and serves one connection, or has workers serve; or that the server of this profile is asked. The last three rest on the clock and on others too.
 pub data Wanted : Type 0 where
   deed : Deed → Wanted
+  rehearsal : Wanted
   serve : Config → Wanted
   host : Config → Wanted
+  ask : Profile → Call → Wanted
 
 abbrev pub printed : List ℕ → Deed
 printed text = record { status = 0; notes = []; output = text }
@@ -54,13 +62,21 @@ abbrev pub configured : (Config → Wanted) → Option Config → Wanted
 configured wanted (Some config) = wanted config
 configured wanted None = deed (refused ends.Configuration)
 
+-- the profile is looked at before the input
+abbrev pub asked_of : Option Profile → Option Call → Wanted
+asked_of None call = deed (refused ends.Profile)
+asked_of (Some profile) None = deed (refused ends.Input)
+asked_of (Some profile) (Some call) = ask profile call
+
 abbrev pub done : Option Command → List ℕ → Objects → Wanted
 done None input objects = deed (refused ends.Words)
 done (Some command.Help) input objects = deed (printed HELP.now)
 done (Some command.Version) input objects = deed (printed VERSION.now)
 done (Some (command.Query location)) input objects = deed (queried location (asked_in input) objects)
 done (Some command.Stdio) input objects = configured serve (config_at objects)
+done (Some (command.Rehearse number)) input objects = rehearsal
 done (Some (command.Serve port workers)) input objects = configured host (config_at objects)
+done (Some (command.Client name call_words)) input objects = asked_of (profile_at name objects) (call_in call_words input)
 
 abbrev pub expected : List (String Global) → List ℕ → Objects → Wanted
 expected words input objects = done (command_in words) input objects
@@ -91,6 +107,10 @@ HostsBy config old new end =
 abbrev pub ServesBy : Config → Outside → Outside → End → Type 0
 ServesBy config old new end = ((number : ℕ) × (end ≡ ends.Record number) × IsUnserved (no_server.Record number) old new) ⊎ ((e : SessionEnd) × (end ≡ end_after e) × IsServed config e old new)
 
+-- the call was made and answered
+abbrev pub AsksBy : Outside → Outside → End → Type 0
+AsksBy old new end = (answer : Result ⊤ ClientFault) × (end ≡ end_called answer)
+
 -- Status and notes are those of the end, and the end has its cause.
 pub record EndsBy (Cause : Outside → Outside → End → Type 0) (old new : Outside) (result : ℕ) (noted : List ℕ) : Type 0 where
   pub end : End
@@ -100,8 +120,10 @@ pub record EndsBy (Cause : Outside → Outside → End → Type 0) (old new : Ou
 
 abbrev pub Fulfils : Wanted → Outside → Outside → ℕ → (held noted : List ℕ) → Type 0
 Fulfils (deed d) old new result held noted = Does new result held noted d
+Fulfils rehearsal old new result held noted = (text : List ℕ) × IsSummary text × Does new result held noted (printed text)
 Fulfils (serve config) old new result held noted = EndsBy (ServesBy config) old new result noted
 Fulfils (host config) old new result held noted = EndsBy (HostsBy config) old new result noted
+Fulfils (ask profile call) old new result held noted = EndsBy AsksBy old new result noted
 
 -- Where memory sufficed, the run does what is expected over the objects of one moment of the call.
 abbrev pub IsExact : List (String Global) → Outside → Outside → ℕ → Type 0

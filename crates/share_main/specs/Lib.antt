@@ -8,6 +8,8 @@ pub mod Configuration
 pub mod Stdio
 pub mod StdioSteps
 pub mod Serve
+pub mod Clients
+pub mod ClientSteps
 pub mod Run
 pub mod Steps
 pub mod Expected

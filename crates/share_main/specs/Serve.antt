@@ -99,4 +99,6 @@ module _ {N W C L : Type 0} (coming : N → Option (List (List ℕ))) (closed : 
   UsesDesks (Some command.Version) old new end desks desks' = desks' ≡ desks
   UsesDesks (Some (command.Query location)) old new end desks desks' = desks' ≡ desks
   UsesDesks (Some command.Stdio) old new end desks desks' = desks' ≡ desks
+  UsesDesks (Some (command.Rehearse number)) old new end desks desks' = desks' ≡ desks
+  UsesDesks (Some (command.Client name call_words)) old new end desks desks' = desks' ≡ desks
   UsesDesks (Some (command.Serve port workers)) old new end desks desks' = Serves workers old new end desks desks'

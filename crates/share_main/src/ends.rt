@@ -1,8 +1,9 @@
 // How a run can end.
-ghost use Rattle.std.specs.Prelude.{◌≡◌, ◌++◌, None, Some};
-ghost use Rattle.share_main.specs.Ends.{note, note_line, note_text, status, table_note, table_status};
+ghost use Rattle.std.specs.Prelude.{◌≡◌};
+ghost use Rattle.share_main.specs.Ends.{note, note_line, note_text, peer_note, refusal_word, status, table_note, table_status};
 ghost use Rattle.share_main.specs.declared.ends.End.TheVariants.{NoMemory as memory};
 
+use share_client::Refusal;
 use std::alloc::AllocError;
 
 /// Why a table isn't answered.
@@ -26,6 +27,24 @@ pub enum TableRefusal {
     TimestampRange,
 }
 
+/// Why what a peer answered isn't taken.
+#[derive(Clone, Copy, Debug, PartialEq, Eq)]
+pub enum PeerRefusal {
+    /// It refused the request: with this status, and for this reason, where it is a server of this project's.
+    Refused {
+        status: u16,
+        refusal: Option<Refusal>,
+    },
+    /// Its bytes are no reply; in the body the first line that is none begins here.
+    BadReply {
+        at: u64,
+    },
+    /// Another page was of another version, or has other metadata.
+    PageChanged,
+    /// There are more pages than a client takes.
+    TooManyPages,
+}
+
 /// How a run ended.
 #[derive(Drop)]
 pub enum End {
@@ -37,49 +56,42 @@ pub enum End {
     Input,
     /// Status 3: the server isn't configured.
     Configuration,
+    /// Status 3: the profile of a client is absent, longer than 16 MiB, or none.
+    Profile,
+    /// Status 3: the url of a file isn't an `http` URL with a host.
+    Url,
     /// Status 3: the record of that number in the catalogue is none, or is refused after those before it.
     Record { number: u64 },
     /// The table isn't answered, and why: status 3 where it hasn't what was asked for, else 4, since
     /// it isn't read.
     Table(TableRefusal),
-    /// Status 5: a read of the input failed.
+    /// Status 7: what a peer answered isn't taken, and why.
+    Peer(PeerRefusal),
+    /// Status 5: a read of the input failed, or of what comes from a peer.
     ReadFault,
     /// Status 5: a call of the store failed.
     StoreFault,
-    /// Status 5: a write to the output failed.
+    /// Status 5: a write to the output failed, or of what goes to a peer.
     WriteFault,
     /// Status 5: the port can't be opened, or the listener at it failed.
     ListenerFault,
+    /// Status 5: no line to a peer was opened.
+    PeerFault,
     /// Status 5: the bytes of an object ended early behind the head of their response.
     BodyCut,
     /// Status 6: want of memory.
     NoMemory,
 }
 
-/// A line of the notes: a text and, after it, perhaps a number in decimal.
+/// A line of the notes.
 #[derive(Drop)]
-pub struct Note {
-    /// What stands before the number.
-    pub text: &'static str,
-    /// The number.
-    pub number: Option<u64>,
-}
-
-impl Note {
-    fn plain(text: &'static str) -> Note
-        ensures { (result.text.now ≡ text.now) × (result.number ≡ None) }
-    {
-        Note { text, number: None }
-    }
-
-    fn with(text: &'static str, number: u64) -> Note
-        ensures { (result.text.now ≡ text.now) × (result.number ≡ Some number) }
-    {
-        Note {
-            text,
-            number: Some(number),
-        }
-    }
+pub enum Note {
+    /// A text.
+    Plain(&'static str),
+    /// A text, and a number in decimal after it.
+    Numbered(&'static str, u64),
+    /// That a peer refused, with which status, and the word of why.
+    Refused(u16, &'static str),
 }
 
 impl From<AllocError> for End {
@@ -98,14 +110,16 @@ impl End {
         match self {
             End::Done => 0,
             End::Words => 2,
-            End::Input | End::Configuration | End::Record { .. } => 3,
+            End::Input | End::Configuration | End::Profile | End::Url | End::Record { .. } => 3,
             End::Table(why) => why.status(),
             End::ReadFault
             | End::StoreFault
             | End::WriteFault
             | End::ListenerFault
+            | End::PeerFault
             | End::BodyCut => 5,
             End::NoMemory => 6,
+            End::Peer(_) => 7,
         }
     }
 
@@ -115,17 +129,21 @@ impl End {
     {
         match self {
             End::Done => None,
-            End::Words => Some(Note::plain("share: words")),
-            End::Input => Some(Note::plain("share: input")),
-            End::Configuration => Some(Note::plain("share: configuration")),
-            End::Record { number } => Some(Note::with("share: catalog record ", *number)),
+            End::Words => Some(Note::Plain("share: words")),
+            End::Input => Some(Note::Plain("share: input")),
+            End::Configuration => Some(Note::Plain("share: configuration")),
+            End::Profile => Some(Note::Plain("share: profile")),
+            End::Url => Some(Note::Plain("share: url")),
+            End::Record { number } => Some(Note::Numbered("share: catalog record ", *number)),
             End::Table(why) => Some(why.note()),
-            End::ReadFault => Some(Note::plain("share: read fault")),
-            End::StoreFault => Some(Note::plain("share: store fault")),
-            End::WriteFault => Some(Note::plain("share: write fault")),
-            End::ListenerFault => Some(Note::plain("share: listener fault")),
-            End::BodyCut => Some(Note::plain("share: body cut")),
-            End::NoMemory => Some(Note::plain("share: memory")),
+            End::Peer(why) => Some(why.note()),
+            End::ReadFault => Some(Note::Plain("share: read fault")),
+            End::StoreFault => Some(Note::Plain("share: store fault")),
+            End::WriteFault => Some(Note::Plain("share: write fault")),
+            End::ListenerFault => Some(Note::Plain("share: listener fault")),
+            End::PeerFault => Some(Note::Plain("share: peer fault")),
+            End::BodyCut => Some(Note::Plain("share: body cut")),
+            End::NoMemory => Some(Note::Plain("share: memory")),
         }
     }
 }
@@ -149,20 +167,45 @@ impl TableRefusal {
         ensures { note_line result ≡ table_note self.now }
     {
         match self {
-            TableRefusal::NoCommits => Note::plain("share: table: no commits"),
+            TableRefusal::NoCommits => Note::Plain("share: table: no commits"),
             TableRefusal::NeedsCheckpoint { lowest } => {
-                Note::with("share: table: needs checkpoint, lowest ", *lowest)
+                Note::Numbered("share: table: needs checkpoint, lowest ", *lowest)
             }
-            TableRefusal::Gap { version } => Note::with("share: table: gap at ", *version),
-            TableRefusal::Commit { version } => Note::with("share: table: commit ", *version),
+            TableRefusal::Gap { version } => Note::Numbered("share: table: gap at ", *version),
+            TableRefusal::Commit { version } => Note::Numbered("share: table: commit ", *version),
             TableRefusal::Unsupported { version } => {
-                Note::with("share: table: unsupported at ", *version)
+                Note::Numbered("share: table: unsupported at ", *version)
             }
             TableRefusal::TooLarge { version } => {
-                Note::with("share: table: too large at ", *version)
+                Note::Numbered("share: table: too large at ", *version)
             }
-            TableRefusal::VersionRange => Note::plain("share: version out of range"),
-            TableRefusal::TimestampRange => Note::plain("share: timestamp out of range"),
+            TableRefusal::VersionRange => Note::Plain("share: version out of range"),
+            TableRefusal::TimestampRange => Note::Plain("share: timestamp out of range"),
+        }
+    }
+}
+
+// The word of a refusal, as it stands in the body of an error.
+fn refusal_word(refusal: Option<Refusal>) -> &'static str
+    ensures { result.now ≡ refusal_word refusal }
+{
+    match refusal {
+        Some(refusal) => refusal.word(),
+        None => "-",
+    }
+}
+
+impl PeerRefusal {
+    fn note(&self) -> Note
+        ensures { note_line result ≡ peer_note self.now }
+    {
+        match self {
+            PeerRefusal::Refused { status, refusal } => {
+                Note::Refused(*status, refusal_word(*refusal))
+            }
+            PeerRefusal::BadReply { at } => Note::Numbered("share: bad reply at ", *at),
+            PeerRefusal::PageChanged => Note::Plain("share: page changed"),
+            PeerRefusal::TooManyPages => Note::Plain("share: too many pages"),
         }
     }
 }

@@ -13,14 +13,14 @@ const PIECE: usize = 65_536;
 // The longest input, 16 MiB.
 const MOST_INPUT: usize = 16 << 20;
 
-// Why the input isn't had.
+/// Why the input isn't had.
 #[derive(Drop)]
-enum InputFault {
-    // It is longer than 16 MiB.
+pub enum InputFault {
+    /// It is longer than 16 MiB.
     TooLong,
-    // A read failed.
+    /// A read failed.
     Failed,
-    // Memory is wanting.
+    /// Memory is wanting.
     NoMemory,
 }
 
@@ -44,8 +44,8 @@ fn piece_room(alloc: Global) -> Result<Vec<u8>, AllocError>
     Ok(room)
 }
 
-// The whole input.
-fn read_input<S: Source>(alloc: Global, input: &mut S) -> Result<Vec<u8>, InputFault>
+/// The whole input.
+pub fn read_input<S: Source>(alloc: Global, input: &mut S) -> Result<Vec<u8>, InputFault>
     ensures { IsInput (S.left input.old) (S.left input.new) (S.faults input.old) (S.faults input.new) result }
 {
     let mut piece = piece_room(alloc)?;

@@ -1,6 +1,9 @@
 //! A data provider's server over live Delta tables: the program.
 #![tactic(auto)]
 
+mod client;
+#[cfg(test)]
+mod client_tests;
 mod edge;
 mod ends;
 mod input;
@@ -21,7 +24,7 @@ mod words;
 
 use edge::Edge;
 use edge_core::{Gathering, LockedDoor, OpenGate, SharedDoor};
-use edge_std::{FileStore, StdClock, StdSink, StdSource, TcpDoor};
+use edge_std::{FileStore, StdClock, StdSink, StdSource, TcpDoor, TcpWay};
 use run::{run, tell_memory};
 use share_pool::Desk;
 use std::alloc::{AllocError, Global};
@@ -100,5 +103,6 @@ fn main(rt: HostRuntime) -> io::Result<ExitCode> {
         gate: OpenGate,
         steps: Steps::<()>::new(),
     };
-    Ok(ExitCode::from(run(&rt, rt.alloc(), &words, &mut edge, &mut desks)))
+    let mut way = Some(TcpWay::new(rt.clone()?));
+    Ok(ExitCode::from(run(&rt, rt.alloc(), &words, &mut edge, &mut desks, &mut way)))
 }

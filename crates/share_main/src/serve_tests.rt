@@ -1,7 +1,7 @@
 // Workers over doors in memory, each with a store of its own with the same objects.
 use crate::run::run;
 use crate::stdio_tests::{SERVED, SHARES, UNCONFIGURED};
-use crate::tests::{Case, MemDesk, edge_of, store_of, words_of};
+use crate::tests::{Case, MemDesk, edge_of, store_of, way_of, words_of};
 use edge_core::{MemClock, MemLine, MemListener, MemSink, MemSource};
 use std::alloc::{AllocError, Global};
 use std::process::Abort;
@@ -55,7 +55,11 @@ fn expect<R: Abort + Threads + Wait + Sync>(
     let mut desks = Vec::new(alloc);
     desks.push(desk(alloc, case, false)?)?;
     desks.push(desk(alloc, case, served.fails)?)?;
-    assert_eq!(rt; run(rt, alloc, &words, &mut edge, &mut desks), case.status);
+    let mut way = Some(way_of(alloc, case.peers)?);
+    assert_eq!(rt;
+        run(rt, alloc, &words, &mut edge, &mut desks, &mut way),
+        case.status
+    );
     assert_eq!(rt; edge.output.bytes().len(), 0);
     assert_eq!(rt; edge.notes.bytes(), case.notes.as_bytes());
     for (desk, answered) in desks.iter().zip(&served.answered) {

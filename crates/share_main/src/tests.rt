@@ -2,7 +2,10 @@
 use crate::edge::Edge;
 use crate::run::run;
 use crate::words::{HELP, VERSION};
-use edge_core::{MemClock, MemListener, MemSink, MemSource, MemStore, Name, OpenGate, Stored};
+use edge_core::{
+    MemClock, MemLine, MemLink, MemListener, MemPeer, MemSink, MemSource, MemStore, Name, OpenGate,
+    Stored,
+};
 use share_pool::Desk;
 use std::alloc::{AllocError, Global};
 use std::process::Abort;
@@ -53,6 +56,8 @@ pub(crate) struct Case<'a> {
     pub(crate) other: &'a str,
     // names and bytes of more objects
     pub(crate) objects: &'a [(&'a str, &'a str)],
+    // what comes on each line to the port 8080 of `peer`, and what is to be written to it
+    pub(crate) peers: &'a [(&'a str, &'a str)],
     pub(crate) failing: Failing,
     pub(crate) status: u8,
     pub(crate) output: &'a [&'a str],
@@ -65,6 +70,7 @@ pub(crate) const QUERY: Case<'static> = Case {
     commits: &[],
     other: "",
     objects: &[],
+    peers: &[],
     failing: Failing::Nothing,
     status: 0,
     output: &[],
@@ -156,7 +162,42 @@ pub(crate) fn edge_of(alloc: Global, case: &Case<'_>) -> Result<Memory, AllocErr
     })
 }
 
-// Runs the case, and looks at the status, the output and the notes.
+fn line_of(alloc: Global, response: &str) -> Result<MemPeer, AllocError> {
+    let source = MemSource::new(alloc, Vec::from_slice(alloc, response.as_bytes())?);
+    let sink = MemSink::new(alloc, 4_096, 16)?;
+    Ok(MemPeer {
+        host: String::from_str(alloc, "peer")?,
+        port: 8080,
+        line: MemLine::new(source, sink),
+    })
+}
+
+// The way of these lines.
+pub(crate) fn way_of(alloc: Global, peers: &[(&str, &str)]) -> Result<MemLink, AllocError> {
+    let mut lines = Vec::new(alloc);
+    for (response, _) in peers {
+        lines.push(line_of(alloc, response)?)?;
+    }
+    MemLink::new(alloc, lines)
+}
+
+// Whether that was written to the lines that were closed.
+fn are_asked(way: &Option<MemLink>, peers: &[(&str, &str)]) -> bool {
+    let Some(way) = way else {
+        return false;
+    };
+    if way.closed().len() != peers.len() {
+        return false;
+    }
+    for (line, (_, request)) in way.closed().iter().zip(peers) {
+        if line.written() != request.as_bytes() {
+            return false;
+        }
+    }
+    true
+}
+
+// Runs the case, and looks at the status, the output, the notes and what was written to peers.
 fn expect<R: Abort + Threads + Wait + Sync>(
     rt: &R,
     alloc: Global,
@@ -166,9 +207,14 @@ fn expect<R: Abort + Threads + Wait + Sync>(
     let output = joined(alloc, case.output)?;
     let mut edge = edge_of(alloc, case)?;
     let mut desks: Vec<MemDesk> = Vec::new(alloc);
-    assert_eq!(rt; run(rt, alloc, &words, &mut edge, &mut desks), case.status);
+    let mut way = Some(way_of(alloc, case.peers)?);
+    assert_eq!(rt;
+        run(rt, alloc, &words, &mut edge, &mut desks, &mut way),
+        case.status
+    );
     assert_eq!(rt; edge.output.bytes(), output.as_slice());
     assert_eq!(rt; edge.notes.bytes(), case.notes.as_bytes());
+    assert!(rt; are_asked(&way, case.peers));
     Ok(())
 }
 
@@ -183,7 +229,7 @@ pub(crate) fn expect_all<R: Abort + Threads + Wait + Sync>(
     Ok(())
 }
 
-const WRONG_WORDS: [&[&str]; 18] = [
+const WRONG_WORDS: [&[&str]; 21] = [
     &[],
     &["query"],
     &["Stdio"],
@@ -202,6 +248,9 @@ const WRONG_WORDS: [&[&str]; 18] = [
     &["serve", "+8080", "1"],
     &["serve", "8080", "0"],
     &["serve", "8080", "65"],
+    &["rehearse"],
+    &["rehearse", "07"],
+    &["rehearse", "4294967296"],
 ];
 
 #[test]
