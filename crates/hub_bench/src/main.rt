@@ -2,8 +2,9 @@
 //!
 //! Words: `edit`, `look` or `commit`, how many entries the history has before (each edit that is refused adds two), and how many
 //! edits, looks or commits then follow; or `catalogue`, how many edits the catalogue has before, and how many refused edits
-//! follow; or `file`, a folder and how many commits are then made to a store of its files. With other words, or none, it does
-//! nothing. It prints nothing: the script has the clock. The status is 1 where an answer was another or memory was wanting, else 0.
+//! follow. The store is in memory; where a folder is named behind them, it is the files of that folder. With other words, or none,
+//! it does nothing. It prints nothing: the script has the clock. The status is 1 where an answer was another or memory was wanting,
+//! else 0.
 #![tactic(auto)]
 
 ghost use Rattle.std.specs.Prelude.{◌≡◌, All, false};
@@ -294,12 +295,7 @@ fn run<R: Wait>(rt: &R, alloc: Global, load: Load) -> Option<()> {
     serve(rt, alloc, &mut store, load).ok()?
 }
 
-fn run_file<R: Wait>(rt: &R, alloc: Global, mut store: FileStore, times: u32) -> Option<()> {
-    let load = Load {
-        kind: Kind::Commit,
-        entries: 0,
-        times,
-    };
+fn run_over_files<R: Wait>(rt: &R, alloc: Global, mut store: FileStore, load: Load) -> Option<()> {
     serve(rt, alloc, &mut store, load).ok()?
 }
 
@@ -313,12 +309,11 @@ fn kind_of(word: &str) -> Option<Kind> {
     }
 }
 
-fn load_of(kind: Kind, entries: &str, times: u32) -> Option<Load> {
-    let entries = entries.parse::<u32>().ok()?;
+fn load_of(word: &str, entries: &str, times: &str) -> Option<Load> {
     Some(Load {
-        kind,
-        entries,
-        times,
+        kind: kind_of(word)?,
+        entries: entries.parse::<u32>().ok()?,
+        times: times.parse::<u32>().ok()?,
     })
 }
 
@@ -334,18 +329,15 @@ fn main(rt: HostRuntime) -> io::Result<ExitCode> {
     let (Some(word), Some(before), Some(times)) = (words.next(), words.next(), words.next()) else {
         return Ok(ExitCode::SUCCESS);
     };
-    let Ok(times) = times.as_str().parse::<u32>() else {
+    let Some(load) = load_of(word.as_str(), before.as_str(), times.as_str()) else {
         return Ok(ExitCode::SUCCESS);
     };
-    if word.as_str() == "file" {
-        let store = FileStore::new(rt.clone()?, before);
-        return Ok(status(run_file(&rt, rt.alloc(), store, times)));
-    }
-    let Some(kind) = kind_of(word.as_str()) else {
-        return Ok(ExitCode::SUCCESS);
+    let done = match words.next() {
+        Some(folder) => {
+            let store = FileStore::new(rt.clone()?, folder);
+            run_over_files(&rt, rt.alloc(), store, load)
+        }
+        None => run(&rt, rt.alloc(), load),
     };
-    match load_of(kind, before.as_str(), times) {
-        Some(load) => Ok(status(run(&rt, rt.alloc(), load))),
-        None => Ok(ExitCode::SUCCESS),
-    }
+    Ok(status(done))
 }
