@@ -127,6 +127,11 @@ impl Server {
         swap(&mut self.pass, &mut self.other);
     }
 
+    // The caller who calls is told what the other has seen.
+    pub(crate) fn meet(&mut self) {
+        self.hub.meet(&mut self.pass, &mut self.other);
+    }
+
     pub(crate) fn edit<R: Wait>(
         &mut self,
         rt: &R,

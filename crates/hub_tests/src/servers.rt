@@ -88,6 +88,26 @@ fn a_server_shows_what_it_has_seen(rt: HostRuntime) {
     assert!(rt; one(&rt, rt.alloc()) == Some(true));
 }
 
+// The other caller is told what the first has seen, and shows it.
+fn met<R: Wait>(rt: &R, alloc: Global) -> Option<bool> {
+    let mut store = empty_store(alloc)?;
+    let mut server = Server::open(alloc, &mut store)?;
+    let made = set_up(rt, alloc, &mut server, &mut store)?;
+    server.change_callers();
+    server.meet();
+    let shown = server.names(rt, alloc)?;
+    let revoked = server.edit(rt, alloc, &mut store, REVOKE)?;
+    server.change_callers();
+    server.meet();
+    let hidden = server.names(rt, alloc)?;
+    Some(made && shown == (1, 1) && revoked == Ok(4) && hidden == (0, 0))
+}
+
+#[test]
+fn a_caller_is_told_what_another_has_seen(rt: HostRuntime) {
+    assert!(rt; met(&rt, rt.alloc()) == Some(true));
+}
+
 // One server revokes what another has seen granted; the other shows it till it looks for records.
 fn revoke<R: Wait>(
     rt: &R,

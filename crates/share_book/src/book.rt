@@ -498,15 +498,15 @@ impl Book {
         keep_at(&mut self.tables, log as usize - 1, state)
     }
 
-    /// The latest state of a table's log that is kept, none where none is. The error is want of memory.
-    pub fn base(&self, log: u32) -> Result<Option<SharedSnapshot>, AllocError>
+    /// The latest state of a table's log that is kept of a version up to that one, none where none is. The error is want of memory.
+    pub fn base(&self, log: u32, version: u64) -> Result<Option<SharedSnapshot>, AllocError>
         requires there { log < length self.now.past.rooms }
         requires table { 0 < log }
         ensures { IfOk result (λ b. There (table_on log self.now.past.history) (λ t. IsBase t.commits b)) }
     {
         self.past.len();
         let table = &self.tables[log as usize - 1];
-        table.base()
+        table.base(version)
     }
 
     /// What makes the state after all commits of a table's log, none where it has none. The error is want of memory.

@@ -88,11 +88,11 @@ impl Table {
         &self.snapshots
     }
 
-    /// The latest state that is kept, none where none is. The error is want of memory.
-    pub(crate) fn base(&self) -> Result<Option<SharedSnapshot>, AllocError>
+    /// The latest state that is kept of a version up to that one, none where none is. The error is want of memory.
+    pub(crate) fn base(&self, version: u64) -> Result<Option<SharedSnapshot>, AllocError>
         ensures { IfOk result (IsBase self.now.log.commits) }
     {
-        match self.snapshots().latest(u64::MAX) {
+        match self.snapshots().latest(version) {
             Some(state) => Ok(Some(state.share()?)),
             None => Ok(None),
         }

@@ -119,20 +119,23 @@ fn state_read(
     }
 }
 
-/// The states that an offer after these commits is judged by, begun with a state of theirs. The error is want of memory.
+/// The states that an offer after these commits is judged by, begun with states of theirs: `latest`, and `read`, which serves where
+/// it isn't behind the version that was read. The error is want of memory.
 pub fn states_of(
     alloc: Global,
     commits: &[Arc<Commit>],
-    base: Option<&SharedSnapshot>,
+    latest: Option<&SharedSnapshot>,
+    read: Option<&SharedSnapshot>,
     offer: &Offer,
 ) -> Result<OfferStates, AllocError>
     requires supported { IsSupported (map arc_value commits.now) }
-    requires base { IsBase (map arc_value commits.now) (option_map (λ s. s.now) base) }
+    requires latest { IsBase (map arc_value commits.now) (option_map (λ s. s.now) latest) }
+    requires read { IsBase (map arc_value commits.now) (option_map (λ s. s.now) read) }
     ensures at { IfOk result (λ s. s.at ≡ read_state (map arc_value commits.now) offer.now.read) }
     ensures head { IfOk result (λ s. IsHead (map arc_value commits.now) s.head) }
 {
-    let at = state_read(alloc, commits, base, offer)?;
-    let head = head_of(alloc, commits, later(at.as_ref(), base))?;
+    let at = state_read(alloc, commits, read, offer)?;
+    let head = head_of(alloc, commits, later(at.as_ref(), latest))?;
     Ok(OfferStates { at, head })
 }
 

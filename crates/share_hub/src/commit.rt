@@ -120,6 +120,14 @@ fn turned_down(refused: NotAdmitted) -> CommitRefusal
     }
 }
 
+// The version that an offer read; of one that read none nothing is asked.
+fn version_read(offer: &Offer) -> u64 {
+    match offer.read {
+        Some(version) => version.get(),
+        None => 0,
+    }
+}
+
 impl Hub {
     // Ends what the caller began.
     fn end_commit<R: Wait>(
@@ -235,10 +243,12 @@ impl Hub {
         ensures goes { GoesOn pass.old pass.new log [] }
         ensures told { There (table_on log pass.old.seen) (λ t. Answers result (admitted t.commits now offer.now)) }
     {
-        let Ok((commits, base)) = self.log_commits(rt, alloc, pass, log) else {
+        let Ok((commits, bases)) = self.log_commits(rt, alloc, pass, log, version_read(offer))
+        else {
             return Err(NotAdmitted::NoMemory);
         };
-        let Ok(states) = states_of(alloc, &commits, base.as_ref(), offer) else {
+        let latest = bases.latest.as_ref();
+        let Ok(states) = states_of(alloc, &commits, latest, bases.read.as_ref(), offer) else {
             return Err(NotAdmitted::NoMemory);
         };
         admission(alloc, &commits, &states, now, offer)

@@ -13,8 +13,8 @@ ghost use Rattle.share_hub.specs.TableTurns.{FindsLog, IsLog};
 
 use crate::hub::{Hub, HubPass};
 use crate::table_turns::{
-    CommitPublished, KnownLog, LogOpened, abort_log_in, begin_log_in, block_log_in, commits_in,
-    find_in, head_in, keep_in, own_commit_in, publish_commit_in,
+    Bases, CommitPublished, KnownLog, LogOpened, abort_log_in, begin_log_in, block_log_in,
+    commits_in, find_in, head_in, keep_in, own_commit_in, publish_commit_in,
 };
 use log_actions::Commit;
 use share_book::{LogState, Replay, SharedCommit, SharedSnapshot};
@@ -78,25 +78,28 @@ impl Hub {
         unreachable!()
     }
 
-    // The commits of a table's log on which the caller has begun, and the latest state of it that is kept. The error is want of memory.
+    // The commits of a table's log on which the caller has begun, and states of it that are kept, by the version that was read. The
+    // error is want of memory.
     pub(crate) fn log_commits<R: Wait>(
         &self,
         rt: &R,
         alloc: Global,
         pass: &mut HubPass,
         log: u32,
-    ) -> Result<(Vec<Arc<Commit>>, Option<SharedSnapshot>), AllocError>
+        read: u64,
+    ) -> Result<(Vec<Arc<Commit>>, Bases), AllocError>
         requires cell { (pass.old.cell ≡ self.now) × (pass.old.holds ≡ false) }
         requires there { IsLog log pass.old.seen }
         requires begun { open_on log pass.old.seen ≡ Some pass.old.number }
         ensures same { IsIdle pass.old pass.new }
         ensures goes { GoesOn pass.old pass.new log [] }
         ensures commits { IfOk result (λ v. There (table_on log pass.old.seen) (λ t. t.commits ≡ map arc_value v.0.items)) }
-        ensures base { IfOk result (λ v. There (table_on log pass.old.seen) (λ t. IsBase t.commits v.1)) }
+        ensures latest { IfOk result (λ v. There (table_on log pass.old.seen) (λ t. IsBase t.commits v.1.latest)) }
+        ensures read { IfOk result (λ v. There (table_on log pass.old.seen) (λ t. IsBase t.commits v.1.read)) }
     {
         let turn = self.cell.take(rt, pass);
         turn.value.len();
-        let found = commits_in(&turn.value, alloc, log);
+        let found = commits_in(&turn.value, alloc, log, read);
         self.cell.give(pass, turn);
         found
     }

@@ -48,20 +48,32 @@ pub fn find_in(book: &Book, location: &str) -> Option<KnownLog>
     })
 }
 
-// The commits of a table's log, and the latest state of it that is kept.
+// States of a table's log that are kept.
+#[derive(Drop)]
+pub struct Bases {
+    // The latest.
+    pub latest: Option<SharedSnapshot>,
+    // The latest of a version up to the one that was read.
+    pub read: Option<SharedSnapshot>,
+}
+
+// The commits of a table's log, and states of it that are kept, by the version that was read.
 pub fn commits_in(
     book: &Book,
     alloc: Global,
     log: u32,
-) -> Result<(Vec<Arc<Commit>>, Option<SharedSnapshot>), AllocError>
+    read: u64,
+) -> Result<(Vec<Arc<Commit>>, Bases), AllocError>
     requires { IsLog log book.now.past.history }
     ensures commits { IfOk result (λ v. There (table_on log book.now.past.history) (λ t. t.commits ≡ map arc_value v.0.items)) }
-    ensures base { IfOk result (λ v. There (table_on log book.now.past.history) (λ t. IsBase t.commits v.1)) }
+    ensures latest { IfOk result (λ v. There (table_on log book.now.past.history) (λ t. IsBase t.commits v.1.latest)) }
+    ensures read { IfOk result (λ v. There (table_on log book.now.past.history) (λ t. IsBase t.commits v.1.read)) }
 {
     book.len();
     let commits = book.commits(alloc, log)?;
-    let base = book.base(log)?;
-    Ok((commits, base))
+    let latest = book.base(log, u64::MAX)?;
+    let read = book.base(log, read)?;
+    Ok((commits, Bases { latest, read }))
 }
 
 // What makes the state after all commits of a table's log, none where it has none.

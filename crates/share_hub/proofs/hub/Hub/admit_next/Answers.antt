@@ -24,14 +24,23 @@ pub states_of-requires-clause-supported : goal.states_of-requires-clause-support
 states_of-requires-clause-supported g c =
     subst (λ (cs : Arcs). IsSupported (map arc_value cs)) (sym c.deref.ensures.value) (supported_there c.args.pass.now c.args.log c.requires.begun.0 (map arc_value c.in-Ok.commits.items) c.requires.begun.1 c.in-Ok.ensures.commits)
 
-pub states_of-requires-clause-base : goal.states_of-requires-clause-base
-states_of-requires-clause-base g c =
+pub states_of-requires-clause-latest : goal.states_of-requires-clause-latest
+states_of-requires-clause-latest g c =
     let h = c.requires.begun.1 in
     let table = table_on c.args.log c.args.pass.now.seen in
-    let base = there_at table h.log (λ (t : TableLog). IsBase t.commits c.in-Ok.base) h.holds.table c.in-Ok.ensures.base in
+    let base = there_at table h.log (λ (t : TableLog). IsBase t.commits c.in-Ok.bases.latest) h.holds.table c.in-Ok.ensures.latest in
+    let same = there_at table h.log (λ (t : TableLog). t.commits ≡ map arc_value c.in-Ok.commits.items) h.holds.table c.in-Ok.ensures.commits in
+    subst (λ (o : Option State). IsBase (map arc_value c.deref.result.now) o) (sym c.as_ref-latest.ensures.value)
+    (subst (λ (cs : Arcs). IsBase (map arc_value cs) c.in-Ok.bases.latest) (sym c.deref.ensures.value) (subst (λ (l : List (List Action)). IsBase l c.in-Ok.bases.latest) same base))
+
+pub states_of-requires-clause-read : goal.states_of-requires-clause-read
+states_of-requires-clause-read g c =
+    let h = c.requires.begun.1 in
+    let table = table_on c.args.log c.args.pass.now.seen in
+    let base = there_at table h.log (λ (t : TableLog). IsBase t.commits c.in-Ok.bases.read) h.holds.table c.in-Ok.ensures.read in
     let same = there_at table h.log (λ (t : TableLog). t.commits ≡ map arc_value c.in-Ok.commits.items) h.holds.table c.in-Ok.ensures.commits in
     subst (λ (o : Option State). IsBase (map arc_value c.deref.result.now) o) (sym c.as_ref.ensures.value)
-    (subst (λ (cs : Arcs). IsBase (map arc_value cs) c.in-Ok.base) (sym c.deref.ensures.value) (subst (λ (l : List (List Action)). IsBase l c.in-Ok.base) same base))
+    (subst (λ (cs : Arcs). IsBase (map arc_value cs) c.in-Ok.bases.read) (sym c.deref.ensures.value) (subst (λ (l : List (List Action)). IsBase l c.in-Ok.bases.read) same base))
 
 pub admission-requires-clause-at : goal.admission-requires-clause-at
 admission-requires-clause-at g c =

@@ -24,8 +24,14 @@ returns-clause-commits g c =
     let s = stands_on c.args.log c.args.pass.now c.take-turn.new.pass (record { same = a.same; seen = a.seen; kept = a.mine }) (subst IsLegal a.value.0 c.len.ensures.legal) c.requires.there c.requires.begun in
     subst (λ (o : Option TableLog). IfOk c.commits_in-found.result (λ v. There o (λ t. t.commits ≡ map arc_value v.0.items))) (ap (table_on c.args.log) a.value.0 ∙ s.table) c.commits_in-found.ensures.commits
 
-pub returns-clause-base : goal.returns-clause-base
-returns-clause-base g c =
+pub returns-clause-latest : goal.returns-clause-latest
+returns-clause-latest g c =
     let a = c.take-turn.ensures in
     let s = stands_on c.args.log c.args.pass.now c.take-turn.new.pass (record { same = a.same; seen = a.seen; kept = a.mine }) (subst IsLegal a.value.0 c.len.ensures.legal) c.requires.there c.requires.begun in
-    subst (λ (o : Option TableLog). IfOk c.commits_in-found.result (λ v. There o (λ t. IsBase t.commits v.1))) (ap (table_on c.args.log) a.value.0 ∙ s.table) c.commits_in-found.ensures.base
+    subst (λ (o : Option TableLog). IfOk c.commits_in-found.result (λ v. There o (λ t. IsBase t.commits v.1.latest))) (ap (table_on c.args.log) a.value.0 ∙ s.table) c.commits_in-found.ensures.latest
+
+pub returns-clause-read : goal.returns-clause-read
+returns-clause-read g c =
+    let a = c.take-turn.ensures in
+    let s = stands_on c.args.log c.args.pass.now c.take-turn.new.pass (record { same = a.same; seen = a.seen; kept = a.mine }) (subst IsLegal a.value.0 c.len.ensures.legal) c.requires.there c.requires.begun in
+    subst (λ (o : Option TableLog). IfOk c.commits_in-found.result (λ v. There o (λ t. IsBase t.commits v.1.read))) (ap (table_on c.args.log) a.value.0 ∙ s.table) c.commits_in-found.ensures.read
