@@ -95,7 +95,7 @@ pub(crate) fn file_object<W: Tokens>(line: &mut W, file: &FileParts<'_>) -> Resu
     line.end_object()
 }
 
-fn end_line_object<W: Tokens>(line: &mut W, end: &EndLine) -> Result<(), W::Error>
+pub(crate) fn end_line_object<W: Tokens>(line: &mut W, end: &EndLine) -> Result<(), W::Error>
     ensures written { OnOk result (W.adds line.old line.new (value_tokens (object_of (end_fields end.now)))) }
     ensures kept { OnOk result (IfSome end.now.min_expires (λ n. n < 2 ^ 63)) }
 {

@@ -4,12 +4,13 @@ ghost use Rattle.json.specs.Print.{print};
 ghost use Rattle.json.specs.Token as token;
 ghost use Rattle.json_print.specs.Lengths.{capped};
 ghost use Rattle.json_print.specs.Tokens.{value_tokens};
-ghost use Rattle.share_lines.specs.Lines.{file_line, meta_line, protocol_line};
+ghost use Rattle.share_lines.specs.Lines.{file_line, meta_line, meta_of, protocol_line};
 ghost use Rattle.share_lines.specs.Parts.{file_data, file_in, line_of};
-ghost use Rattle.share_lines.specs.Printing.{line_text};
+ghost use Rattle.share_lines.specs.Printing.{line_data, line_text};
+ghost use Rattle.share_lines.specs.declared.kinds.Line.TheVariants as line;
 
-use crate::printing::{file_object, meta_object};
-use crate::{FileKind, FileParts, MetaParts};
+use crate::printing::{end_line_object, file_object, meta_object};
+use crate::{EndLine, FileKind, FileParts, MetaParts};
 use json::Writer;
 use json_print::{Length, Tokens, new_writer};
 use log_actions::{AddFile, MetaData};
@@ -114,4 +115,44 @@ pub fn push_file(alloc: Global, out: &mut Vec<u8>, file: &AddFile) -> Result<(),
     ensures kept { OnErr result (out.new.items ≡ out.old.items) }
 {
     push_file_parts(alloc, out, FileKind::File, &FileParts::of_add(file))
+}
+
+// ---- how long the other lines are
+
+fn meta_line_object<W: Tokens>(writer: &mut W, meta: &MetaData) -> Result<(), W::Error>
+    ensures { OnOk result (W.adds writer.old writer.new (value_tokens (line_data (line.MetaData (meta_of meta.now))))) }
+{
+    writer.begin_object()?;
+    writer.key("metaData")?;
+    meta_object(writer, &MetaParts::of_action(meta))?;
+    writer.end_object()
+}
+
+/// How many bytes `push_meta` appends, but for the line feed: 2^64 - 1 where they are more. It takes no
+/// memory.
+pub fn meta_len(meta: &MetaData) -> u64
+    ensures { result ≡ capped (length (line_text (line.MetaData (meta_of meta.now)))) }
+{
+    let mut length = Length::new();
+    let Ok(()) = meta_line_object(&mut length, meta);
+    length.bytes
+}
+
+fn end_object<W: Tokens>(writer: &mut W, end: &EndLine) -> Result<(), W::Error>
+    ensures { OnOk result (W.adds writer.old writer.new (value_tokens (line_data (line.End end.now)))) }
+{
+    writer.begin_object()?;
+    writer.key("endStreamAction")?;
+    end_line_object(writer, end)?;
+    writer.end_object()
+}
+
+/// How many bytes the line of the end of a stream has, but for the line feed: 2^64 - 1 where they are
+/// more. It takes no memory.
+pub fn end_len(end: &EndLine) -> u64
+    ensures { result ≡ capped (length (line_text (line.End end.now))) }
+{
+    let mut length = Length::new();
+    let Ok(()) = end_object(&mut length, end);
+    length.bytes
 }

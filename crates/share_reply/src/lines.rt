@@ -1,6 +1,7 @@
 // The lines of a reply.
 ghost use Rattle.std.specs.Prelude.{◌≡◌, ◌<◌, ◌+◌, ◌^◌, ◌++◌, ◌∷◌, [], IfOk, List, None, OnErr, OnOk, length, option_map, option_to_list, slice_get, ℕ};
 ghost use Rattle.json.specs.Print.{escape};
+ghost use Rattle.json_print.specs.Lengths.{capped};
 ghost use Rattle.page_token.specs.declared.cursor.TableAccess.{TableAccess};
 ghost use Rattle.share_lines.specs.Lines.{meta_of};
 ghost use Rattle.share_lines.specs.Parts.{file_in, line_of};
@@ -17,8 +18,8 @@ use change_feed::{Change, ChangeKind};
 use json_tree::{Millis, Pairs, Text, copy_text_or_none};
 use log_actions::{AddFile, MetaData};
 use share_lines::{
-    EndLine, FileKind, FileParts, Line, file_parts_len, push_file_parts, push_line, push_meta,
-    push_protocol,
+    EndLine, FileKind, FileParts, Line, end_len, file_parts_len, line_len, meta_len,
+    push_file_parts, push_line, push_meta, push_protocol,
 };
 use std::alloc::{AllocError, Global};
 use std::marker::Model;
@@ -227,22 +228,17 @@ fn change_len(
     linked_len(kind_of(change.kind()), &parts, link)
 }
 
-// How many bytes a line has that is made for it.
-fn made_len(
-    alloc: Global,
-    keys: &ReplyKeys,
-    access: &Access,
-    expires: Millis,
-    line: PlanLine<'_, '_>,
-) -> Result<u64, AllocError>
-    ensures { IfOk result (λ bytes. bytes ≡ length (fed (line_from keys.now access.now expires line.entry))) }
+// How many bytes a line has with its line feed that has so many without. The error is that there are 2^64 or more.
+fn fed_len(bytes: u64) -> Result<u64, AllocError>
+    ensures { (text : List ℕ) → bytes ≡ capped (length text) → IfOk result (λ fed. fed ≡ length (text ++ 10 ∷ [])) }
 {
-    let mut text = Vec::new(alloc);
-    push(alloc, &mut text, keys, access, expires, line)?;
-    Ok(text.len() as u64)
+    match bytes.checked_add(1) {
+        Some(bytes) => Ok(bytes),
+        None => Err(AllocError),
+    }
 }
 
-// How many bytes `push` appends. A line with a link isn't made for it.
+// How many bytes `push` appends. No line is made for it.
 fn len_of(
     alloc: Global,
     keys: &ReplyKeys,
@@ -255,9 +251,9 @@ fn len_of(
     match line {
         PlanLine::File(file) => file_len(alloc, keys, access, expires, file),
         PlanLine::Change(change) => change_len(alloc, keys, access, expires, change),
-        PlanLine::Protocol => made_len(alloc, keys, access, expires, PlanLine::Protocol),
-        PlanLine::Meta(meta) => made_len(alloc, keys, access, expires, PlanLine::Meta(meta)),
-        PlanLine::End(end) => made_len(alloc, keys, access, expires, PlanLine::End(end)),
+        PlanLine::Protocol => fed_len(line_len(&Line::Protocol)),
+        PlanLine::Meta(meta) => fed_len(meta_len(meta)),
+        PlanLine::End(end) => fed_len(end_len(end)),
     }
 }
 
