@@ -67,6 +67,7 @@ refusal_back why.BadMessage = refl
 refusal_back why.BodyTooLarge = refl
 refusal_back why.HeadTooLarge = refl
 refusal_back why.TransferCoding = refl
+refusal_back why.RangeNotSatisfiable = refl
 
 abbrev refusal_of_code : ℕ → Option Refusal
 refusal_of_code code = find (λ x. code == (refusal_row x).code) all_refusals
@@ -99,6 +100,7 @@ refusal_by_code why.BadMessage = refl
 refusal_by_code why.BodyTooLarge = refl
 refusal_by_code why.HeadTooLarge = refl
 refusal_by_code why.TransferCoding = refl
+refusal_by_code why.RangeNotSatisfiable = refl
 
 abbrev route_of_word : List ℕ → Option Route
 route_of_word word = find (λ x. bytes_eq word (route_row x).word) all_routes

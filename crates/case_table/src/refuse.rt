@@ -4,8 +4,8 @@ ghost use Rattle.case_table.specs.Refusals.{refusal_of_word, refusal_row};
 ghost use Rattle.std.specs.List.{find};
 ghost use Rattle.case_table.specs.Laws.{RefusalsDiffer};
 
-/// Why the server refuses a request (Delta Sharing PROTOCOL.md, the errors of the REST APIs; the last four, which refuse a message
-/// before it is known what it asks, are those of RFC 9112).
+/// Why the server refuses a request (Delta Sharing PROTOCOL.md, the errors of the REST APIs; the four before the last, which refuse a
+/// message before it is known what it asks, are those of RFC 9112; the last one is of RFC 9110, section 15.5.17).
 #[derive(Clone, Copy, Debug, PartialEq, Eq)]
 pub enum Refusal {
     /// The request has no bearer token that a recipient, a provider or the administrator has, or the recipient's time is over.
@@ -62,11 +62,13 @@ pub enum Refusal {
     HeadTooLarge,
     /// The transfer coding isn't `chunked` alone.
     TransferCoding,
+    /// The file has none of the bytes that are asked for.
+    RangeNotSatisfiable,
 }
 
 impl Refusal {
     /// All refusals, by number.
-    pub const ALL: [Refusal; 27] = [
+    pub const ALL: [Refusal; 28] = [
         Refusal::Unauthenticated,
         Refusal::NotFound,
         Refusal::MethodNotAllowed,
@@ -94,9 +96,10 @@ impl Refusal {
         Refusal::BodyTooLarge,
         Refusal::HeadTooLarge,
         Refusal::TransferCoding,
+        Refusal::RangeNotSatisfiable,
     ];
 
-    /// The number of the refusal in the documents, from 1 on. Numbers rise in the order of [`Refusal::ALL`].
+    /// The number of the refusal in the documents, from 1 on. Numbers rise in the order of [`Refusal::ALL`]; there is no 28 and no 29.
     pub fn code(self) -> u16
         ensures { result ≡ (refusal_row self).code }
     {
@@ -128,6 +131,7 @@ impl Refusal {
             Refusal::BodyTooLarge => 25,
             Refusal::HeadTooLarge => 26,
             Refusal::TransferCoding => 27,
+            Refusal::RangeNotSatisfiable => 30,
         }
     }
 
@@ -163,6 +167,7 @@ impl Refusal {
             Refusal::BodyTooLarge => "BODY_TOO_LARGE",
             Refusal::HeadTooLarge => "HEAD_TOO_LARGE",
             Refusal::TransferCoding => "TRANSFER_CODING",
+            Refusal::RangeNotSatisfiable => "RANGE_NOT_SATISFIABLE",
         }
     }
 
@@ -200,6 +205,7 @@ impl Refusal {
             Refusal::BodyTooLarge => 413,
             Refusal::HeadTooLarge => 431,
             Refusal::TransferCoding => 501,
+            Refusal::RangeNotSatisfiable => 416,
         }
     }
 
@@ -235,6 +241,7 @@ impl Refusal {
             Refusal::BodyTooLarge => "body too large",
             Refusal::HeadTooLarge => "head too large",
             Refusal::TransferCoding => "transfer coding",
+            Refusal::RangeNotSatisfiable => "range not satisfiable",
         }
     }
 

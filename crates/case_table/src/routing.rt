@@ -3,13 +3,15 @@ ghost use Rattle.std.specs.Prelude.{◌≡◌};
 ghost use Rattle.case_table.specs.Routes.{route_row};
 ghost use Rattle.case_table.specs.Laws.{RoutesDiffer};
 
-/// The method of a route's requests (RFC 9110, section 9.3).
+/// The methods of a route's requests (RFC 9110, section 9.3).
 #[derive(Clone, Copy, Debug, PartialEq, Eq)]
 pub enum Method {
-    /// GET.
+    /// GET alone.
     Get,
-    /// POST.
+    /// POST alone.
     Post,
+    /// GET, and HEAD, which is answered by the head alone of what GET is answered.
+    GetOrHead,
 }
 
 /// What a request can ask for. Paths stand below the endpoint's; the first nine are the REST APIs of Delta Sharing PROTOCOL.md, the others
@@ -34,7 +36,7 @@ pub enum Route {
     Query,
     /// `GET .../tables/{table}/changes`: the change data feed of a table.
     Changes,
-    /// `GET /files/...`: the bytes of a file, by a signed link (own).
+    /// `GET /files/...` and `HEAD /files/...`: the bytes of a file, or the head alone, by a signed link (own).
     File,
     /// `POST /provider/commit`: a provider's commit (own).
     Commit,
@@ -104,12 +106,13 @@ impl Route {
         }
     }
 
-    /// The method of the route's requests; another is refused.
+    /// The methods of the route's requests; another is refused.
     pub fn method(self) -> Method
         ensures { result ≡ (route_row self).method }
     {
         match self {
             Route::Query | Route::Commit | Route::Refresh | Route::Edit => Method::Post,
+            Route::File => Method::GetOrHead,
             _ => Method::Get,
         }
     }

@@ -1,5 +1,5 @@
 // The value of the field Content-Range.
-ghost use Rattle.std.specs.Prelude.{◌≡◌, ◌<◌, ◌^◌, Some, IfOk, IfSome, option_map};
+ghost use Rattle.std.specs.Prelude.{◌≡◌, ◌<◌, ◌≤◌, ◌^◌, Some, IfOk, IfSome, length, option_map};
 ghost use Rattle.file_ranges.specs.Ranges as spec;
 ghost use Rattle.file_ranges.specs.Ranges.{Range, IsRange, IsSpelled};
 
@@ -8,11 +8,12 @@ use crate::text::{cut_at, written_number};
 use json_tree::Text;
 use std::alloc::{AllocError, Global};
 
-/// `bytes FIRST-LAST/SIZE`, the value of Content-Range for a part (RFC 9110, section 14.4).
+/// `bytes FIRST-LAST/SIZE`, the value of Content-Range for a part (RFC 9110, section 14.4): at most 68 bytes.
 ///
 /// The error is want of memory.
 pub fn range_text(alloc: Global, range: ByteRange) -> Result<Text, AllocError>
-    ensures { IfOk result (λ text. text ≡ spec.range_text range) }
+    ensures text { IfOk result (λ text. text ≡ spec.range_text range) }
+    ensures short { IfOk result (λ text. length text ≤ 68) }
 {
     let first = range.first();
     let last = range.last();

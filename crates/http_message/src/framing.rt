@@ -18,8 +18,8 @@ pub enum Form {
     Chunked,
 }
 
-// The number that 1 to 18 digits write.
-fn length_in(value: &[u8]) -> Option<u64>
+/// The number that 1 to 18 digits write, as Content-Length has it (RFC 9110, section 8.6), or `None` where the value is another text.
+pub fn length_in(value: &[u8]) -> Option<u64>
     ensures { result ≡ length_in value.now }
 {
     if value.is_empty() {

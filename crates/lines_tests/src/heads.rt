@@ -1,6 +1,7 @@
 // Heads as they go out, with texts made by hand.
 use crate::texts::joined;
 use case_table::{Method, Refusal};
+use file_ranges::part::ByteRange;
 use response_text::head::{ContentType, ResponseHead};
 use response_text::head_text;
 use response_text::status::Status;
@@ -96,11 +97,72 @@ fn heads_of_each_form(rt: HostRuntime) {
             ContentType::Bytes,
             u128::MAX,
             false,
-            "HTTP/1.1 200 OK\r\nDate: Thu, 01 Jan 1970 00:00:00 GMT\r\nContent-Type: application/octet-stream\r\nContent-Length: 340282366920938463463374607431768211455\r\n\r\n",
+            "HTTP/1.1 200 OK\r\nDate: Thu, 01 Jan 1970 00:00:00 GMT\r\nAccept-Ranges: bytes\r\nContent-Type: application/octet-stream\r\nContent-Length: 340282366920938463463374607431768211455\r\n\r\n",
+        ),
+        (
+            Status::Ok(None),
+            ContentType::Bytes,
+            0,
+            false,
+            "HTTP/1.1 200 OK\r\nDate: Thu, 01 Jan 1970 00:00:00 GMT\r\nAccept-Ranges: bytes\r\nContent-Length: 0\r\n\r\n",
+        ),
+        (
+            Status::MethodNotAllowed(Method::GetOrHead),
+            ContentType::Json,
+            64,
+            false,
+            "HTTP/1.1 405 Method Not Allowed\r\nDate: Thu, 01 Jan 1970 00:00:00 GMT\r\nAllow: GET, HEAD\r\nContent-Type: application/json; charset=utf-8\r\nContent-Length: 64\r\n\r\n",
+        ),
+        (
+            Status::RangeNotSatisfiable(Some(10)),
+            ContentType::Json,
+            73,
+            false,
+            "HTTP/1.1 416 Range Not Satisfiable\r\nDate: Thu, 01 Jan 1970 00:00:00 GMT\r\nContent-Range: bytes */10\r\nContent-Type: application/json; charset=utf-8\r\nContent-Length: 73\r\n\r\n",
+        ),
+        (
+            Status::RangeNotSatisfiable(None),
+            ContentType::Json,
+            73,
+            false,
+            "HTTP/1.1 416 Range Not Satisfiable\r\nDate: Thu, 01 Jan 1970 00:00:00 GMT\r\nContent-Type: application/json; charset=utf-8\r\nContent-Length: 73\r\n\r\n",
         ),
     ] {
         let is_text = is_head(rt.alloc(), status, content_type, length, closes, text);
         assert!(rt; is_text == Some(true));
+    }
+}
+
+// The head of the first moment of a part, whose length is its own, or none where that is no part.
+fn is_part_head(alloc: Global, first: u64, last: u64, size: u64, text: &str) -> Option<bool> {
+    let range = ByteRange::of(first, last, size)?;
+    is_head(
+        alloc,
+        Status::PartialContent(range),
+        ContentType::Bytes,
+        range.len() as u128,
+        true,
+        text,
+    )
+}
+
+#[test]
+fn heads_of_parts(rt: HostRuntime) {
+    for (first, last, size, text) in [
+        (
+            2,
+            4,
+            10,
+            "HTTP/1.1 206 Partial Content\r\nDate: Thu, 01 Jan 1970 00:00:00 GMT\r\nContent-Range: bytes 2-4/10\r\nAccept-Ranges: bytes\r\nContent-Type: application/octet-stream\r\nContent-Length: 3\r\nConnection: close\r\n\r\n",
+        ),
+        (
+            18_446_744_073_709_551_613,
+            18_446_744_073_709_551_614,
+            u64::MAX,
+            "HTTP/1.1 206 Partial Content\r\nDate: Thu, 01 Jan 1970 00:00:00 GMT\r\nContent-Range: bytes 18446744073709551613-18446744073709551614/18446744073709551615\r\nAccept-Ranges: bytes\r\nContent-Type: application/octet-stream\r\nContent-Length: 2\r\nConnection: close\r\n\r\n",
+        ),
+    ] {
+        assert!(rt; is_part_head(rt.alloc(), first, last, size, text) == Some(true));
     }
 }
 
@@ -114,6 +176,7 @@ fn statuses_by_their_refusals(rt: HostRuntime) {
         (Refusal::MethodNotAllowed, 405, "Method Not Allowed"),
         (Refusal::Contended, 409, "Conflict"),
         (Refusal::BodyTooLarge, 413, "Content Too Large"),
+        (Refusal::RangeNotSatisfiable, 416, "Range Not Satisfiable"),
         (
             Refusal::HeadTooLarge,
             431,
@@ -129,4 +192,6 @@ fn statuses_by_their_refusals(rt: HostRuntime) {
     let wrong = Status::of_refusal(Refusal::MethodNotAllowed, Method::Post);
     assert!(rt; wrong == Status::MethodNotAllowed(Method::Post));
     assert!(rt; Status::Ok(None).code() == 200 && Status::Ok(None).reason() == "OK");
+    let unknown = Status::of_refusal(Refusal::RangeNotSatisfiable, Method::Get);
+    assert!(rt; unknown == Status::RangeNotSatisfiable(None));
 }

@@ -43,6 +43,13 @@ fn has_the_refusals(rt: HostRuntime) {
         (25, "BODY_TOO_LARGE", 413, "body too large", false),
         (26, "HEAD_TOO_LARGE", 431, "head too large", false),
         (27, "TRANSFER_CODING", 501, "transfer coding", false),
+        (
+            30,
+            "RANGE_NOT_SATISFIABLE",
+            416,
+            "range not satisfiable",
+            false,
+        ),
     ];
     let mut refusals = Refusal::ALL.into_iter();
     for (code, word, status, message, has_detail) in rows {
@@ -75,7 +82,7 @@ fn has_the_routes(rt: HostRuntime) {
         (7, "Metadata", Method::Get),
         (8, "Query", Method::Post),
         (9, "Changes", Method::Get),
-        (10, "File", Method::Get),
+        (10, "File", Method::GetOrHead),
         (11, "Commit", Method::Post),
         (12, "Refresh", Method::Post),
         (13, "Edit", Method::Post),

@@ -144,7 +144,7 @@ fn is_version(plan: &Plan, version: u64) -> bool {
 
 fn is_file(plan: &Plan, file: &str) -> bool {
     match plan {
-        Plan::File(name) => name.as_str() == file,
+        Plan::File(name, span) => span.is_none() && name.as_str() == file,
         _ => false,
     }
 }

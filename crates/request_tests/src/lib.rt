@@ -11,6 +11,8 @@ mod linked;
 #[cfg(test)]
 mod made;
 #[cfg(test)]
+mod parts;
+#[cfg(test)]
 mod queries;
 #[cfg(test)]
 mod turned;

@@ -49,7 +49,7 @@ static LINKS: [Link; 9] = [
 
 fn is_spelt(request: &Request, spelling: &str) -> bool {
     match request {
-        Request::ByLink(target) => target.as_str() == spelling,
+        Request::ByLink(by) => by.target.as_str() == spelling,
         _ => false,
     }
 }

@@ -11,7 +11,7 @@ struct Away {
     told: TurnedAway,
 }
 
-static AWAY: [Away; 38] = [
+static AWAY: [Away; 40] = [
     Away {
         method: "GET",
         target: "/",
@@ -187,10 +187,22 @@ static AWAY: [Away; 38] = [
         told: TurnedAway::WrongMethod(Method::Post),
     },
     Away {
-        method: "HEAD",
+        method: "POST",
         target: "/delta-sharing/files/a/b/c/d",
         authorization: "",
-        told: TurnedAway::WrongMethod(Method::Get),
+        told: TurnedAway::WrongMethod(Method::GetOrHead),
+    },
+    Away {
+        method: "head",
+        target: "/delta-sharing/files/",
+        authorization: "",
+        told: TurnedAway::WrongMethod(Method::GetOrHead),
+    },
+    Away {
+        method: "HEAD",
+        target: "/delta-sharing/shares/a/schemas/b/tables/c/query",
+        authorization: "Bearer abc",
+        told: TurnedAway::WrongMethod(Method::Post),
     },
     Away {
         method: "GET",

@@ -1,5 +1,5 @@
 -- No part of a head has a byte below 32.
-use Rattle.std.proofs.Common.{◌≡◌, ℕ, zero, suc, ◌+◌, ◌-◌, ◌≤◌, ◌==◌, ◌&&◌, ◌/◌, ◌%◌, List, [], ◌∷◌, ◌++◌, refl, ◌∙◌, Bool, true, false, cond, arith, nat_le, nat_lt, decimal, Some, None, codes}
+use Rattle.std.proofs.Common.{◌≡◌, ℕ, zero, suc, ◌+◌, ◌-◌, ◌≤◌, ◌==◌, ◌&&◌, ◌/◌, ◌%◌, List, [], ◌∷◌, ◌++◌, refl, ◌∙◌, Bool, true, false, cond, arith, nat_le, nat_lt, decimal, Option, Some, None, codes}
 use Rattle.std.specs.List.{list_all}
 use Rattle.std.specs.Prelude.{slice_index_or}
 use Rattle.std.specs.Fmt.{digits, digits_onto, digit_glyph}
@@ -7,8 +7,9 @@ use Rattle.std.proofs.lemmas.Bool.Decides.{nat_tests}
 use Rattle.std.proofs.lemmas.List.Folds.{list_all-append}
 use Rattle.response_text.specs.Contents.{content_type_name}
 use Rattle.response_text.specs.Dates.{date_at, day_at, weekday_name, month_name, two_digits, four_digits, time_text}
-use Rattle.response_text.specs.Heads.{Head, Fields, field_line, fields, is_one_line, status_line, status_fields, type_fields, close_fields}
-use Rattle.response_text.specs.Statuses.{code, reason, method_name}
+use Rattle.file_ranges.specs.Ranges.{Range, range_text}
+use Rattle.response_text.specs.Heads.{Head, Fields, field_line, fields, is_one_line, status_line, size_fields, status_fields, unit_fields, type_fields, form_fields, close_fields}
+use Rattle.response_text.specs.Statuses.{allowed_names, code, reason}
 use Rattle.response_text.specs.declared.head.ContentType.{ContentType}
 use Rattle.response_text.specs.declared.head.ContentType.TheVariants as content
 use Rattle.case_table.specs.declared.routing.Method.{Method}
@@ -102,6 +103,7 @@ date_clean now =
 
 reason_clean : (s : Status) → IsClean (reason s)
 reason_clean (status.Ok version) = refl
+reason_clean (status.PartialContent range) = refl
 reason_clean status.BadRequest = refl
 reason_clean status.Unauthorized = refl
 reason_clean status.Forbidden = refl
@@ -109,6 +111,7 @@ reason_clean status.NotFound = refl
 reason_clean (status.MethodNotAllowed allowed) = refl
 reason_clean status.Conflict = refl
 reason_clean status.ContentTooLarge = refl
+reason_clean (status.RangeNotSatisfiable size) = refl
 reason_clean status.RequestHeaderFieldsTooLarge = refl
 reason_clean status.InternalServerError = refl
 reason_clean status.NotImplemented = refl
@@ -133,36 +136,61 @@ both_clean a b p q = list_all-append (λ field. is_one_line (field_line field)) 
 one_clean : (name value : List ℕ) (more : Fields) → IsClean name → IsClean value → AreClean more → AreClean ((name, value) ∷ more)
 one_clean name value more p q r = both_true _ _ (field_clean name value p q) r
 
-method_clean : (m : Method) → IsClean (method_name m)
-method_clean method.Get = refl
-method_clean method.Post = refl
+allowed_clean : (m : Method) → IsClean (allowed_names m)
+allowed_clean method.Get = refl
+allowed_clean method.Post = refl
+allowed_clean method.GetOrHead = refl
+
+range_clean : (r : Range) → IsClean (range_text r)
+range_clean r =
+    let behind_last = codes "/" ++ decimal r.size in
+    let behind_first = codes "-" ++ (decimal r.last ++ behind_last) in
+    join (codes "bytes ") (decimal r.first ++ behind_first) refl
+    (join (decimal r.first) behind_first (decimal_clean r.first)
+    (join (codes "-") (decimal r.last ++ behind_last) refl
+    (join (decimal r.last) behind_last (decimal_clean r.last) (join (codes "/") (decimal r.size) refl (decimal_clean r.size)))))
+
+size_clean : (size : Option ℕ) → AreClean (size_fields size)
+size_clean None = refl
+size_clean (Some size) =
+    one_clean (codes "Content-Range") (codes "bytes */" ++ decimal size) [] refl (join (codes "bytes */") (decimal size) refl (decimal_clean size)) refl
 
 status_clean : (s : Status) → AreClean (status_fields s)
 status_clean (status.Ok None) = refl
 status_clean (status.Ok (Some version)) = one_clean (codes "Delta-Table-Version") (decimal version) [] refl (decimal_clean version) refl
+status_clean (status.PartialContent range) = one_clean (codes "Content-Range") (range_text range) [] refl (range_clean range) refl
 status_clean status.BadRequest = refl
 status_clean status.Unauthorized = refl
 status_clean status.Forbidden = refl
 status_clean status.NotFound = refl
-status_clean (status.MethodNotAllowed allowed) = one_clean (codes "Allow") (method_name allowed) [] refl (method_clean allowed) refl
+status_clean (status.MethodNotAllowed allowed) = one_clean (codes "Allow") (allowed_names allowed) [] refl (allowed_clean allowed) refl
 status_clean status.Conflict = refl
 status_clean status.ContentTooLarge = refl
+status_clean (status.RangeNotSatisfiable size) = size_clean size
 status_clean status.RequestHeaderFieldsTooLarge = refl
 status_clean status.InternalServerError = refl
 status_clean status.NotImplemented = refl
 status_clean status.ServiceUnavailable = refl
 
-form_clean : (form : ContentType) → IsClean (content_type_name form)
-form_clean content.Json = refl
-form_clean content.JsonLines = refl
-form_clean content.Bytes = refl
+name_clean : (form : ContentType) → IsClean (content_type_name form)
+name_clean content.Json = refl
+name_clean content.JsonLines = refl
+name_clean content.Bytes = refl
+
+unit_clean : (form : ContentType) → AreClean (unit_fields form)
+unit_clean content.Json = refl
+unit_clean content.JsonLines = refl
+unit_clean content.Bytes = one_clean (codes "Accept-Ranges") (codes "bytes") [] refl refl refl
 
 cond_clean : (b : Bool) (x y : Fields) → AreClean x → AreClean y → AreClean (cond b x y)
 cond_clean true x y p q = p
 cond_clean false x y p q = q
 
 type_clean : (form : ContentType) (length : ℕ) → AreClean (type_fields form length)
-type_clean form length = cond_clean (length == 0) [] ((codes "Content-Type", content_type_name form) ∷ []) refl (one_clean (codes "Content-Type") (content_type_name form) [] refl (form_clean form) refl)
+type_clean form length = cond_clean (length == 0) [] ((codes "Content-Type", content_type_name form) ∷ []) refl (one_clean (codes "Content-Type") (content_type_name form) [] refl (name_clean form) refl)
+
+form_clean : (form : ContentType) (length : ℕ) → AreClean (form_fields form length)
+form_clean form length = both_clean (unit_fields form) (type_fields form length) (unit_clean form) (type_clean form length)
 
 close_clean : (closes : Bool) → AreClean (close_fields closes)
 close_clean closes = cond_clean closes ((codes "Connection", codes "close") ∷ []) [] refl refl
@@ -170,8 +198,8 @@ close_clean closes = cond_clean closes ((codes "Connection", codes "close") ∷ 
 pub fields_clean : (head : Head) → AreClean (fields head)
 fields_clean head =
     let behind_type = (codes "Content-Length", decimal head.length) ∷ close_fields head.closes in
-    let behind_status = type_fields head.content_type head.length ++ behind_type in
+    let behind_status = form_fields head.content_type head.length ++ behind_type in
     one_clean (codes "Date") (date_at head.moment) (status_fields head.status ++ behind_status) refl (date_clean head.moment)
     (both_clean (status_fields head.status) behind_status (status_clean head.status)
-    (both_clean (type_fields head.content_type head.length) behind_type (type_clean head.content_type head.length)
+    (both_clean (form_fields head.content_type head.length) behind_type (form_clean head.content_type head.length)
     (one_clean (codes "Content-Length") (decimal head.length) (close_fields head.closes) refl (decimal_clean head.length) (close_clean head.closes))))

@@ -2,10 +2,12 @@
 use Rattle.std.specs.Prelude.{ℕ, nat_le, IsTrue, Bool, ◌==◌, List, [], ◌∷◌, ◌++◌, Option, Some, None, codes, if◌then◌else◌}
 use Rattle.std.specs.List.{flat_map, list_all}
 use Rattle.std.specs.Fmt.{decimal}
+use Rattle.file_ranges.specs.Ranges.{range_text}
 use Rattle.response_text.specs.Contents.{content_type_name}
 use Rattle.response_text.specs.Dates.{date_at}
-use Rattle.response_text.specs.Statuses.{code, reason, method_name}
+use Rattle.response_text.specs.Statuses.{allowed_names, code, reason}
 use Rattle.response_text.specs.declared.head.ContentType.{ContentType}
+use Rattle.response_text.specs.declared.head.ContentType.TheVariants as content
 use Rattle.response_text.specs.declared.head.ResponseHead.{ResponseHead}
 use Rattle.response_text.specs.declared.status.Status.{Status}
 use Rattle.response_text.specs.declared.status.Status.TheVariants as status
@@ -46,26 +48,43 @@ abbrev pub version_fields : Option ℕ → Fields
 version_fields None = []
 version_fields (Some version) = (codes "Delta-Table-Version", decimal version) ∷ []
 
--- what the status calls for: the table's version, a challenge (RFC 9110, section 11.6.1; RFC 6750, section 3), the allowed
--- method (RFC 9110, section 10.2.1)
+-- the size of an object of which none of the bytes that are asked for is there (RFC 9110, section 14.4)
+abbrev pub size_fields : Option ℕ → Fields
+size_fields None = []
+size_fields (Some size) = (codes "Content-Range", codes "bytes */" ++ decimal size) ∷ []
+
+-- what the status calls for: the table's version, the part that is sent (RFC 9110, section 14.4), a challenge (RFC 9110, section
+-- 11.6.1; RFC 6750, section 3), the allowed methods (RFC 9110, section 10.2.1)
 abbrev pub status_fields : Status → Fields
 status_fields (status.Ok version) = version_fields version
+status_fields (status.PartialContent range) = (codes "Content-Range", range_text range) ∷ []
 status_fields status.BadRequest = []
 status_fields status.Unauthorized = (codes "WWW-Authenticate", codes "Bearer") ∷ []
 status_fields status.Forbidden = []
 status_fields status.NotFound = []
-status_fields (status.MethodNotAllowed method) = (codes "Allow", method_name method) ∷ []
+status_fields (status.MethodNotAllowed method) = (codes "Allow", allowed_names method) ∷ []
 status_fields status.Conflict = []
 status_fields status.ContentTooLarge = []
+status_fields (status.RangeNotSatisfiable size) = size_fields size
 status_fields status.RequestHeaderFieldsTooLarge = []
 status_fields status.InternalServerError = []
 status_fields status.NotImplemented = []
 status_fields status.ServiceUnavailable = []
 
+-- of the bytes of a file parts may be asked for (RFC 9110, section 14.3)
+abbrev pub unit_fields : ContentType → Fields
+unit_fields content.Json = []
+unit_fields content.JsonLines = []
+unit_fields content.Bytes = (codes "Accept-Ranges", codes "bytes") ∷ []
+
 -- an empty body has no type (RFC 9110, section 8.3)
 abbrev pub type_fields : ContentType → ℕ → Fields
 type_fields form length =
     if length == 0 then [] else (codes "Content-Type", content_type_name form) ∷ []
+
+-- what is told of the body but its length
+abbrev pub form_fields : ContentType → ℕ → Fields
+form_fields form length = unit_fields form ++ type_fields form length
 
 -- RFC 9112, section 9.6
 abbrev pub close_fields : Bool → Fields
@@ -76,7 +95,7 @@ abbrev pub fields : Head → Fields
 fields head =
     (codes "Date", date_at head.moment)
     ∷ (status_fields head.status
-    ++ (type_fields head.content_type head.length
+    ++ (form_fields head.content_type head.length
     ++ ((codes "Content-Length", decimal head.length) ∷ close_fields head.closes)))
 
 -- the status line, a line for each field, and the empty line

@@ -32,14 +32,14 @@ impl ContentType {
 /// The head of a response (RFC 9112, section 2.1). Which fields it has, it says alone.
 #[derive(Clone, Copy, Debug, PartialEq, Eq)]
 pub struct ResponseHead {
-    /// The status, with the table's version, the challenge or the allowed method that goes with it.
+    /// The status, with the table's version, the part, the size, the challenge or the allowed methods that go with it.
     pub status: Status,
     /// The moment at which the response is made, in milliseconds since the start of 1970 in UTC: at most 253402300799999,
     /// the end of the year 9999, since no later year has a date.
     pub moment: u64,
     /// The form of the body. An empty body has none: where `length` is 0 the head doesn't tell it.
     pub content_type: ContentType,
-    /// How many bytes the body has; in a response to HEAD, those of the body that isn't sent.
+    /// How many bytes the body has; in a response to HEAD, those of the body that isn't sent (RFC 9110, section 9.3.2).
     pub length: u128,
     /// Whether the connection is closed behind the response.
     pub closes: bool,

@@ -16,8 +16,8 @@ pub(crate) fn push_end(text: &mut Vec<u8>) -> Result<(), AllocError>
 }
 
 /// The status line.
-pub(crate) fn push_status(text: &mut Vec<u8>, status: Status) -> Result<(), AllocError>
-    ensures text { OnOk result (text.new.items ≡ text.old.items ++ line (status_line status)) }
+pub(crate) fn push_status(text: &mut Vec<u8>, status: &Status) -> Result<(), AllocError>
+    ensures text { OnOk result (text.new.items ≡ text.old.items ++ line (status_line status.now)) }
     ensures size { OnOk result (vec_len text.new ≤ vec_len text.old + 46) }
 {
     text.extend_from_slice(b"HTTP/1.1 ")?;

@@ -1,18 +1,20 @@
 // The statuses that are answered.
 ghost use Rattle.std.specs.Prelude.{◌≡◌, ◌≤◌, ◌<◌, length};
 ghost use Rattle.case_table.specs.Refusals.{refusal_row};
-ghost use Rattle.response_text.specs.Statuses.{code, reason, method_name as name_of_method, IsBare};
+ghost use Rattle.response_text.specs.Statuses.{code, reason, allowed_names as names_of, IsBare};
 
 use case_table::{Method, Refusal};
+use file_ranges::part::ByteRange;
 
-/// The name of a method (RFC 9110, section 9.1).
-pub(crate) fn method_name(method: Method) -> &'static str
-    ensures name { result.now ≡ name_of_method method }
-    ensures short { length result.now ≤ 4 }
+/// The names of the methods that are allowed, as the field Allow has them (RFC 9110, section 10.2.1).
+pub(crate) fn allowed_names(method: Method) -> &'static str
+    ensures names { result.now ≡ names_of method }
+    ensures short { length result.now ≤ 9 }
 {
     match method {
         Method::Get => "GET",
         Method::Post => "POST",
+        Method::GetOrHead => "GET, HEAD",
     }
 }
 
@@ -21,6 +23,8 @@ pub(crate) fn method_name(method: Method) -> &'static str
 pub enum Status {
     /// 200, with the version of the table where the answer tells one.
     Ok(Option<u64>),
+    /// 206, with the part that is sent.
+    PartialContent(ByteRange),
     /// 400.
     BadRequest,
     /// 401, which has the challenge `Bearer`.
@@ -29,12 +33,14 @@ pub enum Status {
     Forbidden,
     /// 404.
     NotFound,
-    /// 405, with the method that is allowed.
+    /// 405, with the methods that are allowed.
     MethodNotAllowed(Method),
     /// 409.
     Conflict,
     /// 413.
     ContentTooLarge,
+    /// 416, with how many bytes the object has, where the answer tells it.
+    RangeNotSatisfiable(Option<u64>),
     /// 431 (RFC 6585, section 5).
     RequestHeaderFieldsTooLarge,
     /// 500.
@@ -46,7 +52,8 @@ pub enum Status {
 }
 
 impl Status {
-    /// The status with which a refusal is answered; that of a wrong method tells the method that is allowed.
+    /// The status with which a refusal is answered; that of a wrong method tells the methods that are allowed, and that of a range
+    /// tells no size.
     pub fn of_refusal(refusal: Refusal, allowed: Method) -> Status
         ensures code { code result ≡ (refusal_row refusal).status }
         ensures bare { IsBare allowed result }
@@ -58,6 +65,7 @@ impl Status {
             Refusal::MethodNotAllowed => Status::MethodNotAllowed(allowed),
             Refusal::Conflict | Refusal::Contended => Status::Conflict,
             Refusal::BodyTooLarge => Status::ContentTooLarge,
+            Refusal::RangeNotSatisfiable => Status::RangeNotSatisfiable(None),
             Refusal::HeadTooLarge => Status::RequestHeaderFieldsTooLarge,
             Refusal::CatalogBlocked => Status::InternalServerError,
             Refusal::TransferCoding => Status::NotImplemented,
@@ -67,12 +75,13 @@ impl Status {
     }
 
     /// Its code of three digits.
-    pub fn code(self) -> u16
-        ensures value { result ≡ code self }
+    pub fn code(&self) -> u16
+        ensures value { result ≡ code self.now }
         ensures short { result < 1000 }
     {
         match self {
             Status::Ok(_) => 200,
+            Status::PartialContent(_) => 206,
             Status::BadRequest => 400,
             Status::Unauthorized => 401,
             Status::Forbidden => 403,
@@ -80,6 +89,7 @@ impl Status {
             Status::MethodNotAllowed(_) => 405,
             Status::Conflict => 409,
             Status::ContentTooLarge => 413,
+            Status::RangeNotSatisfiable(_) => 416,
             Status::RequestHeaderFieldsTooLarge => 431,
             Status::InternalServerError => 500,
             Status::NotImplemented => 501,
@@ -88,12 +98,13 @@ impl Status {
     }
 
     /// Its reason phrase (RFC 9110, section 15; RFC 6585, section 5).
-    pub fn reason(self) -> &'static str
-        ensures text { result.now ≡ reason self }
+    pub fn reason(&self) -> &'static str
+        ensures text { result.now ≡ reason self.now }
         ensures short { length result.now ≤ 31 }
     {
         match self {
             Status::Ok(_) => "OK",
+            Status::PartialContent(_) => "Partial Content",
             Status::BadRequest => "Bad Request",
             Status::Unauthorized => "Unauthorized",
             Status::Forbidden => "Forbidden",
@@ -101,6 +112,7 @@ impl Status {
             Status::MethodNotAllowed(_) => "Method Not Allowed",
             Status::Conflict => "Conflict",
             Status::ContentTooLarge => "Content Too Large",
+            Status::RangeNotSatisfiable(_) => "Range Not Satisfiable",
             Status::RequestHeaderFieldsTooLarge => "Request Header Fields Too Large",
             Status::InternalServerError => "Internal Server Error",
             Status::NotImplemented => "Not Implemented",

@@ -6,8 +6,8 @@ use crate::requests::{
     VERSION,
 };
 use crate::responses::{
-    FILES_AT_4, NOT_FOUND, NOT_FOUND_CLOSING, NOT_FOUND_HEAD, ONLY_GET_HEAD, ONLY_POST_HEAD,
-    SHARES_S1, UNAUTHENTICATED, VERSION_0, VERSION_4,
+    FILE_A_HEAD, FILES_AT_4, NOT_FOUND, NOT_FOUND_CLOSING, NOT_FOUND_HEAD, ONLY_GET_HEAD,
+    ONLY_POST_HEAD, SHARES_S1, UNAUTHENTICATED, VERSION_0, VERSION_4,
 };
 use crate::rows::{Row, UNANSWERED, holds};
 use crate::worlds::{DAYS, FIVE};
@@ -71,7 +71,7 @@ static CONNECTIONS: [Row; 7] = [
             (SHARES, SHARES_S1),
             (HEAD_QUERY, ONLY_POST_HEAD),
             (HEAD_ROOT, NOT_FOUND_HEAD),
-            (HEAD_LINK, ONLY_GET_HEAD),
+            (HEAD_LINK, FILE_A_HEAD),
             (SHARES, SHARES_S1),
         ],
     },

@@ -13,6 +13,8 @@ mod files;
 #[cfg(test)]
 mod messages;
 #[cfg(test)]
+mod parts;
+#[cfg(test)]
 mod providers;
 #[cfg(test)]
 mod recipients;

@@ -176,6 +176,12 @@ pub(crate) const ONLY_POST_HEAD: &str = "HTTP/1.1 405 Method Not Allowed\r\n\
     Content-Type: application/json; charset=utf-8\r\n\
     Content-Length: 65\r\n\r\n";
 
+pub(crate) const FILE_A_HEAD: &str = "HTTP/1.1 200 OK\r\n\
+    Date: Thu, 01 Jan 1970 00:00:00 GMT\r\n\
+    Accept-Ranges: bytes\r\n\
+    Content-Type: application/octet-stream\r\n\
+    Content-Length: 10\r\n\r\n";
+
 pub(crate) const NOT_FOUND_HEAD: &str = "HTTP/1.1 404 Not Found\r\n\
     Date: Thu, 01 Jan 1970 00:00:00 GMT\r\n\
     Content-Type: application/json; charset=utf-8\r\n\
@@ -241,6 +247,7 @@ pub(crate) const UNAUTHENTICATED_AT_5000: &str = "HTTP/1.1 401 Unauthorized\r\n\
 
 pub(crate) const FILE_A_AT_3599999: &str = "HTTP/1.1 200 OK\r\n\
     Date: Thu, 01 Jan 1970 00:59:59 GMT\r\n\
+    Accept-Ranges: bytes\r\n\
     Content-Type: application/octet-stream\r\n\
     Content-Length: 10\r\n\r\n\
     0123456789";
@@ -370,18 +377,21 @@ pub(crate) const VERSION_69: &str = "HTTP/1.1 200 OK\r\n\
 
 pub(crate) const FILE_A: &str = "HTTP/1.1 200 OK\r\n\
     Date: Thu, 01 Jan 1970 00:00:00 GMT\r\n\
+    Accept-Ranges: bytes\r\n\
     Content-Type: application/octet-stream\r\n\
     Content-Length: 10\r\n\r\n\
     0123456789";
 
 pub(crate) const FILE_B: &str = "HTTP/1.1 200 OK\r\n\
     Date: Thu, 01 Jan 1970 00:00:00 GMT\r\n\
+    Accept-Ranges: bytes\r\n\
     Content-Type: application/octet-stream\r\n\
     Content-Length: 20\r\n\r\n\
     abcdefghijklmnopqrst";
 
 pub(crate) const LARGE_HEAD: &str = "HTTP/1.1 200 OK\r\n\
     Date: Thu, 01 Jan 1970 00:00:00 GMT\r\n\
+    Accept-Ranges: bytes\r\n\
     Content-Type: application/octet-stream\r\n\
     Content-Length: 200000\r\n\r\n";
 

@@ -26,11 +26,13 @@ struct Failing {
 
 const HEAD_OF_A: &str = "HTTP/1.1 200 OK\r\n\
     Date: Thu, 01 Jan 1970 00:00:00 GMT\r\n\
+    Accept-Ranges: bytes\r\n\
     Content-Type: application/octet-stream\r\n\
     Content-Length: 10\r\n\r\n";
 
 const HEAD_OF_B: &str = "HTTP/1.1 200 OK\r\n\
     Date: Thu, 01 Jan 1970 00:00:00 GMT\r\n\
+    Accept-Ranges: bytes\r\n\
     Content-Type: application/octet-stream\r\n\
     Content-Length: 20\r\n\r\n";
 

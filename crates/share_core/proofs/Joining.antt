@@ -42,7 +42,7 @@ answer_read keys (only x) r = absurd r
 answer_read keys (names x) r = absurd r
 answer_read keys (one_share x) r = absurd r
 answer_read keys (at_version x) r = absurd r
-answer_read keys (object x) r = absurd r
+answer_read keys (object x span) r = absurd r
 
 with_rest : (here rest : Option (List Line)) (xs ys : List Line) → here ≡ Some xs → rest ≡ Some ys → option_and_then (before_rest rest) here ≡ Some (xs ++ ys)
 with_rest here rest xs ys p q = (λ i. option_and_then (before_rest (q i)) (p i))

@@ -20,14 +20,14 @@ use Rattle.share_core.specs.declared.reply.Reply.{Reply}
 abbrev pub refusal_reply : Refused → Reply
 refusal_reply r = record { status = (refusal_row r.refusal).status; version = None; allow = None; body = body.Json (error_body r.refusal r.detail) }
 
--- what is sent of a plan
+-- What is sent of a plan. Of a file, whose size no view shows, that it is given: whether a part of it is a 206 or a 416 depends on the size.
 abbrev pub sent : Plan → Reply
 sent (plan.Refused r) = refusal_reply r
 sent (plan.Only allowed) = record (refusal_reply (plain refusal.MethodNotAllowed)) { allow = Some allowed }
 sent (plan.Json text) = record { status = 200; version = None; allow = None; body = body.Json text }
 sent (plan.Version v) = record { status = 200; version = Some v; allow = None; body = body.Empty }
 sent (plan.Lines v lines) = record { status = 200; version = Some v; allow = None; body = body.Lines (body_text lines) }
-sent (plan.File name) = record { status = 200; version = None; allow = None; body = body.File name }
+sent (plan.File name span) = record { status = 200; version = None; allow = None; body = body.File name span }
 
 abbrev pub answer_of : ReplyKeys → Asked → Answer
 answer_of keys a = answered keys a.view a.moment a.request

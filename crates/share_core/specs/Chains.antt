@@ -27,7 +27,7 @@ abbrev pub content_in : Body → Option (List Line)
 content_in (body.Lines text) = content_read (lines_in text)
 content_in body.Empty = None
 content_in (body.Json text) = None
-content_in (body.File name) = None
+content_in (body.File name span) = None
 
 -- the files or changes of a page of status 200, none where a reply isn't one
 abbrev pub page_in : Reply → Option (List Line)

@@ -26,7 +26,7 @@ IsPage keys (only allowed) = ⊥
 IsPage keys (names n) = ⊥
 IsPage keys (one_share s) = ⊥
 IsPage keys (at_version v) = ⊥
-IsPage keys (object name) = ⊥
+IsPage keys (object name span) = ⊥
 
 abbrev pub ArePages : ReplyKeys → List Answer → Type 0
 ArePages keys [] = ⊤

@@ -42,7 +42,7 @@ fn lines_in_body(alloc: Global, body: &Body) -> Result<Option<Lines>, AllocError
         Body::Lines(text) => lines_in_text(alloc, text.get()),
         Body::Empty => Ok(None),
         Body::Json(_) => Ok(None),
-        Body::File(_) => Ok(None),
+        Body::File(..) => Ok(None),
     }
 }
 

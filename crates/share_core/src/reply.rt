@@ -6,6 +6,7 @@ ghost use Rattle.share_reply.specs.declared.plan.Plan.TheVariants as plan_is;
 
 use case_table::{Method, Refusal};
 use edge_core::Name;
+use file_ranges::span::Span;
 use json_tree::Text;
 use share_lines::error_text;
 use share_reply::{LinePlan, Plan, Refused};
@@ -53,8 +54,9 @@ pub enum Body {
     Json(Text),
     /// Lines of JSON, each with its line feed.
     Lines(Bytes),
-    /// The object of that name in the store.
-    File(Name),
+    /// The object of that name in the store, or the part of it that is asked for. No view shows its size, by which a part is given
+    /// with status 206, or refused with 416.
+    File(Name, Option<Span>),
 }
 
 /// What a request is answered.
@@ -64,7 +66,7 @@ pub struct Reply {
     pub status: u16,
     /// The version of the table, where the reply tells one.
     pub version: Option<u64>,
-    /// The method that the path's route has, where the request had another one.
+    /// The methods that the path's route has, where the request had another one.
     pub allow: Option<Method>,
     /// What stands after the head.
     pub body: Body,
@@ -127,6 +129,6 @@ pub(crate) fn reply_by(alloc: Global, plan: Plan<'_>) -> Result<Reply, AllocErro
             let text = text_of(alloc, &lines)?;
             Ok(given(Some(version), Body::Lines(text)))
         }
-        Plan::File(name) => Ok(given(None, Body::File(name))),
+        Plan::File(name, span) => Ok(given(None, Body::File(name, span))),
     }
 }

@@ -70,6 +70,7 @@ word_is_text why.BadMessage = IsUtf8-are_ascii _ refl
 word_is_text why.BodyTooLarge = IsUtf8-are_ascii _ refl
 word_is_text why.HeadTooLarge = IsUtf8-are_ascii _ refl
 word_is_text why.TransferCoding = IsUtf8-are_ascii _ refl
+word_is_text why.RangeNotSatisfiable = IsUtf8-are_ascii _ refl
 
 message_is_text : (refusal : Refusal) → IsUtf8 (refusal_row refusal).message
 message_is_text why.Unauthenticated = IsUtf8-are_ascii _ refl
@@ -99,6 +100,7 @@ message_is_text why.BadMessage = IsUtf8-are_ascii _ refl
 message_is_text why.BodyTooLarge = IsUtf8-are_ascii _ refl
 message_is_text why.HeadTooLarge = IsUtf8-are_ascii _ refl
 message_is_text why.TransferCoding = IsUtf8-are_ascii _ refl
+message_is_text why.RangeNotSatisfiable = IsUtf8-are_ascii _ refl
 
 led_back : (refusal : Refusal) → refusal_by_word (refusal_row refusal).word ≡ Some refusal
 unfolding refusal_by_word

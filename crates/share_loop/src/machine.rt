@@ -95,7 +95,7 @@ fn is_body(body: &Body, bytes: &[u8]) -> bool {
         Body::Empty => bytes.is_empty(),
         Body::Json(text) => text.as_str().as_bytes() == bytes,
         Body::Lines(text) => text.get() == bytes,
-        Body::File(_) => false,
+        Body::File(..) => false,
     }
 }
 

@@ -55,7 +55,7 @@ const RECORD: &str =
     "HTTP/1.1 200 OK\r\nDate: Thu, 01 Jan 1970 00:00:00 GMT\r\nContent-Type: application/json; charset=utf-8\r\nContent-Length: 12\r\n\r\n{\"record\":4}";
 
 const FILE_HEAD: &str =
-    "HTTP/1.1 200 OK\r\nDate: Thu, 01 Jan 1970 00:00:00 GMT\r\nContent-Type: application/octet-stream\r\nContent-Length: 10\r\n\r\n";
+    "HTTP/1.1 200 OK\r\nDate: Thu, 01 Jan 1970 00:00:00 GMT\r\nAccept-Ranges: bytes\r\nContent-Type: application/octet-stream\r\nContent-Length: 10\r\n\r\n";
 
 const GET_FILE: &str =
     "GET /delta-sharing/files/s1/sc/t1/a?b=1&e=3600000&g=1&r=r1&t=0ff11fb3bbaeefa6a0399bca8526e68e949d35e5b810cf4f364d36fceb9651aa HTTP/1.1\r\nHost: a\r\n\r\n";

@@ -1,10 +1,10 @@
 -- What an answer that is a page tells of the view that it was answered from.
-use Rattle.std.proofs.Common.{◌≡◌, ℕ, List, [], ◌∷◌, Bool, true, false, Option, Some, None, Result, Ok, Err, option_map, refl, sym, ap, ◌∙◌}
-use Rattle.std.specs.Prelude.{not, unwrap_or}
+use Rattle.std.proofs.Common.{◌≡◌, ℕ, List, [], ◌∷◌, Bool, true, false, Option, Some, None, Result, Ok, Err, refl, sym, ◌∙◌}
+use Rattle.std.specs.Prelude.{not}
 use Rattle.std.specs.FinMap as maps
 use Rattle.case_table.specs.declared.refuse.Refusal.{Refusal}
 use Rattle.page_token.specs.declared.cursor.TableAccess.{TableAccess}
-use Rattle.share_book.specs.Looks.{log_in, look_of, seen_in, table_found}
+use Rattle.share_book.specs.Looks.{log_in, look_of, table_found}
 use Rattle.share_book.specs.Parts.{found_of}
 use Rattle.share_book.specs.Views.{View, view_by}
 use Rattle.share_book.specs.declared.entry.Entry.{Entry}
@@ -13,12 +13,12 @@ use Rattle.share_book.specs.declared.look.Part.{Part}
 use Rattle.share_book.specs.declared.look.PartFound.{PartFound}
 use Rattle.share_book.specs.declared.look.Want.TheVariants as want
 use Rattle.share_catalog.specs.TableNames.{parts_of}
-use Rattle.share_catalog.specs.Views.{Spot, Who, token}
+use Rattle.share_catalog.specs.Views.{Spot, Who}
 use Rattle.share_catalog.specs.declared.table_name.TableName.{TableName}
 use Rattle.share_request.specs.declared.asked.What.{What}
 use Rattle.share_reply.specs.Access.{access}
-use Rattle.share_reply.specs.Answer.{Answer, Page, of, page, refused}
-use Rattle.share_reply.specs.Refusing.{Refused, plain, where_all}
+use Rattle.share_reply.specs.Answer.{Answer, Page, of, page}
+use Rattle.share_reply.specs.Refusing.{Refused, where_all}
 use Rattle.share_reply.specs.Replies.{answer_asked, answer_to, answer_what, is_expired, of_table}
 use Rattle.share_reply.specs.declared.keys.ReplyKeys.{ReplyKeys}
 

@@ -1,5 +1,5 @@
 -- What chains of files and chains of changes have in common.
-use Rattle.std.proofs.Common.{◌≡◌, ℕ, zero, suc, ◌+◌, ◌^◌, ◌<◌, ◌≤◌, List, [], ◌∷◌, ◌++◌, Bool, true, false, cond, ◌||◌, Option, Some, None, refl, sym, ap, ◌∙◌, subst, arith, length, map, drop, filter, option_map}
+use Rattle.std.proofs.Common.{◌≡◌, ℕ, zero, suc, ◌+◌, ◌^◌, ◌<◌, ◌≤◌, List, [], ◌∷◌, Bool, true, false, cond, ◌||◌, Option, Some, None, refl, sym, ap, ◌∙◌, subst, arith, length, map, drop, filter, option_map}
 use Rattle.std.specs.Prelude.{is_some, IfSome, option_and_then, ⊤}
 use Rattle.std.proofs.lemmas.List.{append-nil, length-drop}
 use Rattle.page_token.specs.Cursors.{cursor_of}
@@ -10,7 +10,7 @@ use Rattle.share_book.specs.declared.entry.Entry.{Entry}
 use Rattle.share_catalog.specs.declared.table_name.TableName.{TableName}
 use Rattle.share_lines.specs.declared.kinds.Line.{Line}
 use Rattle.share_reply.specs.Answer.{Ending, Page, page}
-use Rattle.share_reply.specs.Chains.{Gives, IsChainAfter, Paging, Turn, answer_at, content_of, next_in, next_token}
+use Rattle.share_reply.specs.Chains.{Gives, IsChainAfter, Paging, Turn, answer_at, content_of, next_in}
 use Rattle.share_reply.specs.Pages.{given, next_place, up_to}
 use Rattle.share_reply.specs.declared.keys.ReplyKeys.{ReplyKeys}
 use Rattle.share_reply.proofs.PageLemmas.{last_page, more_pages}

@@ -1,6 +1,6 @@
 -- The pages of a chain of changes are the changes of the range that the first one was of.
-use Rattle.std.proofs.Common.{◌≡◌, ℕ, ◌+◌, ◌^◌, ◌<◌, ◌≤◌, List, [], ◌∷◌, ◌++◌, Bool, true, false, Option, Some, None, Result, Ok, refl, sym, ap, ◌∙◌, subst, arith, length, drop, filter, option_map}
-use Rattle.std.specs.Prelude.{is_some, IfSome, ⊤}
+use Rattle.std.proofs.Common.{◌≡◌, ℕ, ◌^◌, ◌<◌, ◌≤◌, List, [], ◌∷◌, Option, Some, None, Result, Ok, refl, sym, ap, ◌∙◌, subst, arith, length, drop, filter}
+use Rattle.std.specs.Prelude.{is_some, IfSome}
 use Rattle.std.specs.Str.{IsUtf8}
 use Rattle.change_feed.specs.Changes.{ChangedFile}
 use Rattle.change_feed.specs.Feed.{feed_of}
@@ -14,7 +14,7 @@ use Rattle.page_token.specs.declared.cursor.Cursor.TheVariants as cursor
 use Rattle.page_token.specs.declared.cursor.FeedCursor.{FeedCursor}
 use Rattle.page_token.specs.declared.cursor.TableAccess.{TableAccess}
 use Rattle.share_book.specs.Looks.{log_in}
-use Rattle.share_book.specs.Views.{Log, View, view_by}
+use Rattle.share_book.specs.Views.{Log, view_by}
 use Rattle.share_book.specs.declared.entry.Entry.{Entry}
 use Rattle.share_catalog.specs.Views.{Spot, token}
 use Rattle.share_catalog.specs.declared.table_name.TableName.{TableName}
@@ -22,14 +22,14 @@ use Rattle.share_request.specs.declared.asked.What.TheVariants as what
 use Rattle.share_reply.specs.Access.{access}
 use Rattle.share_reply.specs.Answer.{Page, page}
 use Rattle.share_reply.specs.Asking.{asked_at, feed_part}
-use Rattle.share_reply.specs.Chains.{AreTypedFeeds, Continues, FeedChainsAreWhole, Gives, IsChain, IsChainAfter, IsTypedFeed, PinsRange, Sees, Turn, answer_at, by_changes, linked_change, next_in, next_token}
+use Rattle.share_reply.specs.Chains.{AreTypedFeeds, FeedChainsAreWhole, Gives, IsChain, IsChainAfter, IsTypedFeed, PinsRange, Sees, Turn, answer_at, by_changes, linked_change, next_in, next_token}
 use Rattle.share_reply.specs.Feeds.{ChangesQuery, FeedStart, changes_page, feed_cursor, feed_page, lists_all, start_at}
 use Rattle.share_reply.specs.Pages.{next_place}
 use Rattle.share_reply.specs.declared.keys.ReplyKeys.{ReplyKeys}
 use Rattle.share_reply.proofs.AtTable.{AtTable, at_table}
 use Rattle.share_reply.proofs.ChainCore.{AreSpelt, IsSpelt, NextIs, end_says, every_page, next_within, one_page, read_again, rest_spelt, short_of}
 use Rattle.share_reply.proofs.FeedPaged.{FirstFeed, LaterFeed, Ranged, first, later as later_page}
-use Rattle.share_reply.proofs.SeenTable.{Grown, IsBound, is_bound, same_log}
+use Rattle.share_reply.proofs.SeenTable.{IsBound, is_bound, same_log}
 
 says_next : (keys : ReplyKeys) (a : TableAccess) (now : ℕ) (q : ChangesQuery) (start : FeedStart) (meta : MetaData) (changes : List ChangedFile)
     → NextIs (feed_cursor a start) (next_place lists_all q.max start.place changes) (next_in (feed_page keys a now q start meta changes))

@@ -1,5 +1,5 @@
 -- What a page of changes tells of the log that it was answered from.
-use Rattle.std.proofs.Common.{◌≡◌, ℕ, ◌+◌, ◌<◌, ◌≤◌, List, [], ◌∷◌, ◌++◌, Bool, true, false, cond, Option, Some, None, Result, Ok, Err, refl, sym, ap, ◌∙◌, arith, length}
+use Rattle.std.proofs.Common.{◌≡◌, ℕ, ◌<◌, ◌≤◌, List, [], Bool, true, false, cond, Option, Some, None, Result, Ok, Err, refl, sym, ap, ◌∙◌, arith, length}
 use Rattle.std.specs.Prelude.{nat_le, nat_lt, not}
 use Rattle.std.proofs.lemmas.Bool.Decides.{nat_tests}
 use Rattle.change_feed.specs.Changes.{ChangedFile}
@@ -19,7 +19,6 @@ use Rattle.share_book.specs.Parts as parts
 use Rattle.share_book.specs.Parts.{feed_between, feed_by, feed_found, found_of, pinned_feed, resolved_at}
 use Rattle.share_book.specs.Views.{Log}
 use Rattle.share_book.specs.declared.look.FeedPart.{FeedPart}
-use Rattle.share_book.specs.declared.look.PartFound.{PartFound}
 use Rattle.share_book.specs.declared.look.PartFound.TheVariants as part_found
 use Rattle.share_book.specs.declared.look.TableRefusal.TheVariants as refusal
 use Rattle.share_reply.specs.Access.{is_same_edition, is_same_table}
@@ -27,7 +26,6 @@ use Rattle.share_reply.specs.Answer.{Page}
 use Rattle.share_reply.specs.Asking.{asked_at, feed_by as part_by, feed_part, first_bound, last_bound}
 use Rattle.share_reply.specs.Feeds as feeds
 use Rattle.share_reply.specs.Feeds.{ChangesQuery, FeedStart, agrees, changes_page, feed_from, feed_page, feed_with, first_start, later_feed, or_off, or_unsupported, start_at}
-use Rattle.share_reply.specs.Refusing.{Refused, where_all}
 use Rattle.share_reply.specs.declared.keys.ReplyKeys.{ReplyKeys}
 use Rattle.share_reply.proofs.FilesPaged.{ok_is, passed, same_access}
 use Rattle.share_reply.proofs.ResolvedLemmas.{marks_few, resolved_below}

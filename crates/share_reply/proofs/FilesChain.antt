@@ -1,14 +1,10 @@
 -- The pages of a chain are the files of the version that the first one was of.
-use Rattle.std.proofs.Common.{◌≡◌, ℕ, zero, suc, ◌+◌, ◌^◌, ◌<◌, ◌≤◌, List, [], ◌∷◌, ◌++◌, Bool, true, false, cond, ◌||◌, Option, Some, None, Ok, refl, sym, ap, ◌∙◌, subst, arith, length, take, drop, filter, option_map}
-use Rattle.std.specs.Prelude.{is_some, IfSome, option_and_then}
-use Rattle.std.proofs.lemmas.List.{append-nil, length-drop}
+use Rattle.std.proofs.Common.{◌≡◌, ℕ, ◌^◌, ◌<◌, ◌≤◌, List, [], ◌∷◌, true, false, cond, Option, Some, None, Ok, refl, sym, ap, ◌∙◌, subst, arith, length, drop, filter}
+use Rattle.std.specs.Prelude.{is_some, IfSome}
 use Rattle.std.specs.Str.{IsUtf8}
-use Rattle.case_table.specs.declared.routing.Route.TheVariants as route
 use Rattle.log_actions.specs.declared.actions.Action.{Action}
-use Rattle.log_actions.specs.declared.actions.AddFile.{AddFile}
 use Rattle.log_replay.specs.State.{State, state_of}
-use Rattle.page_token.specs.Cursors.{cursor_of}
-use Rattle.page_token.specs.Payload.{IsAskedInRange, IsAskedValue, IsInRange, IsValue}
+use Rattle.page_token.specs.Payload.{IsAskedInRange, IsAskedValue}
 use Rattle.page_token.specs.Token.{token_text}
 use Rattle.page_token.specs.declared.cursor.Cursor.{Cursor}
 use Rattle.page_token.specs.declared.cursor.Cursor.TheVariants as cursor
@@ -16,18 +12,18 @@ use Rattle.page_token.specs.declared.cursor.FilesCursor.{FilesCursor}
 use Rattle.page_token.specs.declared.cursor.TableAccess.{TableAccess}
 use Rattle.pred_tree.specs.Grammar.{predicate_in}
 use Rattle.share_book.specs.Looks.{log_in}
-use Rattle.share_book.specs.Parts.{found_of, up_to}
-use Rattle.share_book.specs.Views.{Log, View, view_by}
+use Rattle.share_book.specs.Parts.{up_to}
+use Rattle.share_book.specs.Views.{Log, view_by}
 use Rattle.share_book.specs.declared.entry.Entry.{Entry}
 use Rattle.share_catalog.specs.Views.{Spot, token}
 use Rattle.share_catalog.specs.declared.table_name.TableName.{TableName}
 use Rattle.share_request.specs.declared.asked.What.TheVariants as what
 use Rattle.share_request.specs.declared.query.QueryBody.{QueryBody}
-use Rattle.share_reply.specs.Access.{access, expiry}
-use Rattle.share_reply.specs.Answer.{Ending, Page, page}
-use Rattle.share_reply.specs.Asking.{asked_by, files_part, last_bound}
-use Rattle.share_reply.specs.Chains.{AreTypedQueries, ChainsAreWhole, Continues, Gives, IsChain, IsChainAfter, IsTypedQuery, Pins, Sees, Turn, answer_at, by_files, linked_file, next_in, next_token}
-use Rattle.share_reply.specs.Files.{FilesStart, files_cursor, files_page, first_start, is_paged, listed_files, lists, query_page, start_at, used_hint}
+use Rattle.share_reply.specs.Access.{access}
+use Rattle.share_reply.specs.Answer.{Page, page}
+use Rattle.share_reply.specs.Asking.{files_part}
+use Rattle.share_reply.specs.Chains.{AreTypedQueries, ChainsAreWhole, Gives, IsChain, IsChainAfter, IsTypedQuery, Pins, Sees, Turn, answer_at, by_files, linked_file, next_in, next_token}
+use Rattle.share_reply.specs.Files.{FilesStart, files_cursor, files_page, first_start, listed_files, lists, query_page, start_at, used_hint}
 use Rattle.share_reply.specs.Pages.{next_place}
 use Rattle.share_reply.specs.declared.keys.ReplyKeys.{ReplyKeys}
 use Rattle.share_reply.proofs.AtTable.{AtTable, at_table}

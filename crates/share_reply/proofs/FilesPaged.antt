@@ -1,5 +1,5 @@
 -- What a page of files tells of the log that it was answered from.
-use Rattle.std.proofs.Common.{◌≡◌, ℕ, ◌+◌, ◌<◌, ◌≤◌, List, [], ◌∷◌, ◌++◌, Bool, true, false, cond, ◌&&◌, Option, Some, None, Result, Ok, Err, refl, sym, ap, ◌∙◌, subst, arith, length, bytes_eq}
+use Rattle.std.proofs.Common.{◌≡◌, ℕ, ◌<◌, ◌≤◌, List, [], ◌∷◌, Bool, true, false, cond, ◌&&◌, Option, Some, None, Result, Ok, Err, refl, sym, ap, ◌∙◌, arith, length, bytes_eq}
 use Rattle.std.specs.Prelude.{nat_le, nat_lt, not, ◌==◌}
 use Rattle.std.proofs.lemmas.Bool.Decides.{nat_tests}
 use Rattle.std.proofs.lemmas.Slice.Eq.{bytes_eq-Decides}
@@ -7,25 +7,20 @@ use Rattle.case_table.specs.declared.refuse.Refusal.{Refusal}
 use Rattle.log_replay.specs.State.{State, state_of}
 use Rattle.log_replay.specs.Times.{marks_in}
 use Rattle.log_replay.specs.declared.refusal.ReplayRefusal.{ReplayRefusal}
-use Rattle.log_replay.specs.declared.times.Bound.{Bound}
 use Rattle.log_replay.specs.declared.times.Unresolved.{Unresolved}
 use Rattle.page_token.specs.Cursors.{cursor_of}
 use Rattle.page_token.specs.declared.cursor.Cursor.{Cursor}
 use Rattle.page_token.specs.declared.cursor.Cursor.TheVariants as cursor
 use Rattle.page_token.specs.declared.cursor.FilesCursor.{FilesCursor}
 use Rattle.page_token.specs.declared.cursor.TableAccess.{TableAccess}
-use Rattle.share_book.specs.Parts as parts
 use Rattle.share_book.specs.Parts.{files_of, found_of, head_found, is_latest, pinned_found, resolved_at, up_to, version_found, with_files}
 use Rattle.share_book.specs.Views.{Log}
-use Rattle.share_book.specs.declared.look.Part.{Part}
-use Rattle.share_book.specs.declared.look.Part.TheVariants as part
-use Rattle.share_book.specs.declared.look.PartFound.{PartFound}
 use Rattle.share_book.specs.declared.look.PartFound.TheVariants as part_found
 use Rattle.share_book.specs.declared.look.TableRefusal.TheVariants as refusal
 use Rattle.share_request.specs.declared.query.QueryBody.{QueryBody}
 use Rattle.share_reply.specs.Answer.{Page}
 use Rattle.share_reply.specs.Asking.{asked_by, files_by as part_by, files_part, last_bound}
-use Rattle.share_reply.specs.Files.{FilesStart, agrees, files_by, files_from, files_page, files_with, first_start, later_files, page_of_state, query_page, start_at}
+use Rattle.share_reply.specs.Files.{FilesStart, agrees, files_by, files_from, files_page, files_with, first_start, later_files, query_page, start_at}
 use Rattle.share_reply.specs.Access.{is_same_edition, is_same_table}
 use Rattle.share_reply.specs.Refusing.{Refused, where_all}
 use Rattle.share_reply.specs.declared.keys.ReplyKeys.{ReplyKeys}

@@ -1,22 +1,17 @@
 -- The laws of replies.
-use Rattle.std.proofs.Common.{◌≡◌, ℕ, List, [], ◌∷◌, Bool, true, false, Option, Some, None, Result, Ok, Err, refl, sym, ap, ◌∙◌, subst}
+use Rattle.std.proofs.Common.{◌≡◌, ℕ, List, [], ◌∷◌, Bool, true, false, Option, Result, Ok, refl, sym, ap, ◌∙◌, subst}
 use Rattle.std.specs.Prelude.{IsErr}
 use Rattle.case_table.specs.declared.refuse.Refusal.{Refusal}
 use Rattle.case_table.specs.declared.refuse.Refusal.TheVariants.{NotFound}
 use Rattle.share_reply.specs.Lists.{has_share}
-use Rattle.page_token.specs.Cursors.{cursor_of}
 use Rattle.page_token.specs.declared.cursor.Cursor.{Cursor}
-use Rattle.page_token.specs.declared.cursor.Cursor.TheVariants as cursor
-use Rattle.page_token.specs.declared.cursor.TableAccess.{TableAccess}
-use Rattle.share_book.specs.declared.look.Found.TheVariants as found
 use Rattle.share_reply.specs.Access.{is_same_edition, is_same_table}
-use Rattle.share_reply.specs.Answer.{Page, of, one_share}
+use Rattle.share_reply.specs.Answer.{of, one_share}
 use Rattle.share_reply.specs.Feeds as feeds
 use Rattle.share_reply.specs.Files as files
-use Rattle.share_reply.specs.Laws.{AsksFor, EqualViewsAnswerAlike, StaleTokensGiveNothing, UngrantedSharesAreAlike, UnseenTablesAreAlike, changes, metadata, query, version}
+use Rattle.share_reply.specs.Laws.{EqualViewsAnswerAlike, StaleTokensGiveNothing, UngrantedSharesAreAlike, UnseenTablesAreAlike, changes, metadata, query, version}
 use Rattle.share_reply.specs.Refusing.{Refused, where_all}
 use Rattle.share_reply.specs.Replies.{answered}
-use Rattle.share_reply.specs.declared.keys.ReplyKeys.{ReplyKeys}
 
 pub equal_views_answer_alike : EqualViewsAnswerAlike
 equal_views_answer_alike keys history other now req same = ap (λ v. answered keys v now req) same

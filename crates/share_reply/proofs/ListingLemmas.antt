@@ -1,10 +1,9 @@
 -- The texts of listings.
-use Rattle.std.proofs.Common.{◌≡◌, ℕ, ◌+◌, ◌<◌, List, [], ◌∷◌, ◌++◌, length, get_or, drop, take, map, Bool, true, false, cond, Option, Some, None, refl, sym, ap, ◌∙◌, arith, append_assoc, drop-cons, add-one}
+use Rattle.std.proofs.Common.{◌≡◌, ℕ, ◌+◌, ◌<◌, List, [], ◌∷◌, ◌++◌, length, get_or, drop, take, Bool, true, false, cond, Option, Some, None, refl, sym, ap, ◌∙◌, arith, append_assoc, drop-cons, add-one}
 use Rattle.std.specs.Prelude.{nat_lt, option_map}
 use Rattle.json.specs.Token.{Token}
 use Rattle.json.specs.Tree.{items_tokens}
-use Rattle.serde_json.specs.Data.{string}
-use Rattle.serde_json.specs.Written.{compact_text, items_outline}
+use Rattle.serde_json.specs.Written.{items_outline}
 use Rattle.json_print.specs.Fields.{object_of}
 use Rattle.json_print.specs.Tokens.{value_tokens}
 use Rattle.page_token.specs.Token.{token_text}

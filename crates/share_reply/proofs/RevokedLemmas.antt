@@ -1,5 +1,5 @@
 -- What was given under a grant that is over is good no more.
-use Rattle.std.proofs.Common.{◌≡◌, ℕ, zero, suc, ◌+◌, ◌<◌, ◌≤◌, List, [], ◌∷◌, ◌++◌, Bool, true, false, cond, ◌&&◌, Option, Some, None, Result, Ok, Err, option_map, inl, inr, refl, sym, ap, ◌∙◌, subst, arith}
+use Rattle.std.proofs.Common.{◌≡◌, ℕ, zero, suc, ◌+◌, ◌<◌, List, [], ◌∷◌, ◌++◌, Bool, true, false, cond, ◌&&◌, Option, Some, None, Result, Ok, Err, inl, inr, refl, sym, ap, ◌∙◌, arith}
 use Rattle.std.specs.Prelude.{◌⊎◌, ◌==◌, count_by, filter_map, not, nat_le, option_and_then, unwrap_or}
 use Rattle.std.specs.FinMap as maps
 use Rattle.std.specs.List.{cons_option, last_or}
@@ -7,8 +7,6 @@ use Rattle.std.proofs.lemmas.Bool.Decides.{nat_tests}
 use Rattle.std.proofs.lemmas.List.Elements.{filter_map-append}
 use Rattle.std.proofs.lemmas.List.Sums.{sum_by-append}
 use Rattle.case_table.specs.declared.refuse.Refusal.{Refusal}
-use Rattle.page_token.specs.declared.cursor.FeedCursor.{FeedCursor}
-use Rattle.page_token.specs.declared.cursor.FilesCursor.{FilesCursor}
 use Rattle.page_token.specs.declared.cursor.TableAccess.{TableAccess}
 use Rattle.share_catalog.specs.Catalogue.{grant_edition, granted, grants_pair, last_word, said, says_grant}
 use Rattle.share_catalog.specs.TableNames.{parts_of}
@@ -25,7 +23,8 @@ use Rattle.share_book.specs.declared.look.Part.TheVariants as part
 use Rattle.share_book.specs.declared.look.Want.TheVariants as want
 use Rattle.signed_link.specs.declared.parts.LinkParts.{LinkParts}
 use Rattle.share_reply.specs.Access.{access}
-use Rattle.share_reply.specs.Answer.{Answer, object, of}
+use Rattle.file_ranges.specs.declared.span.Span.{Span}
+use Rattle.share_reply.specs.Answer.{Answer, object, of_object}
 use Rattle.share_reply.specs.Asking.{ask_by}
 use Rattle.share_reply.specs.Chains.{Turn}
 use Rattle.share_reply.specs.Feeds.{ChangesQuery}
@@ -33,7 +32,6 @@ use Rattle.share_reply.specs.Laws.{IsRevoked, RevokedGrantsGiveNothing}
 use Rattle.share_reply.specs.Links.{linked_object, object_at, object_in, object_or}
 use Rattle.share_reply.specs.Refusing.{Refused, where_all}
 use Rattle.share_reply.specs.Replies.{seen_in, view_asked}
-use Rattle.share_reply.specs.declared.keys.ReplyKeys.{ReplyKeys}
 use Rattle.share_request.specs.declared.query.QueryBody.{QueryBody}
 use Rattle.share_reply.proofs.FeedChain as feed_chain
 use Rattle.share_reply.proofs.FeedPaged as feed_paged
@@ -119,10 +117,10 @@ split true b e = (refl, e)
 split false b e = absurd cc
 
 -- a test that an object passed
-object_past : (b : Bool) (refusal : Refusal) (r : Result (List ℕ) Refused) (x : List ℕ) → of object (where_all ((b, refusal) ∷ []) r) ≡ object x → r ≡ Ok x
-object_past true refusal (Ok y) x e = cc
-object_past true refusal (Err y) x e = absurd cc
-object_past false refusal r x e = absurd cc
+object_past : (s span : Option Span) (b : Bool) (refusal : Refusal) (r : Result (List ℕ) Refused) (x : List ℕ) → of_object s (where_all ((b, refusal) ∷ []) r) ≡ object x span → r ≡ Ok x
+object_past s span true refusal (Ok y) x e = cc
+object_past s span true refusal (Err y) x e = absurd cc
+object_past s span false refusal r x e = absurd cc
 
 both_same : (spot : Spot) (parts : LinkParts) (x : List ℕ) → object_at parts spot ≡ Ok x → spot.grant ≡ parts.grant
 both_same spot parts x e =
@@ -137,14 +135,14 @@ spot_case before later parts view x (Some spot) over is_view is e =
     let (on, edition) = named_granted (before ++ later) parts.recipient view parts.table spot is_view is in
     not_again before later parts.recipient parts.table.share parts.grant over on (sym (both_same spot parts x e) ∙ edition)
 
-view_case : (before later : List Entry) (parts : LinkParts) (now : ℕ) (x : List ℕ) (o : Option View) → IsRevoked before parts.recipient parts.table.share parts.grant → view_by (before ++ later) (named parts.recipient) ≡ o
-    → of object (linked_object (look_of o (want.Table parts.table part.Place)) now (Some parts)) ≡ object x → ⊥
-view_case before later parts now x None over is e = let r = object_past (not (nat_le parts.expires now)) _ _ x e in absurd (cc r)
-view_case before later parts now x (Some view) over is e =
-    spot_case before later parts view x (maps.get view.catalog.tables (parts_of parts.table)) over is refl (object_past (not (nat_le parts.expires now)) _ _ x e)
+view_case : (before later : List Entry) (parts : LinkParts) (now : ℕ) (s span : Option Span) (x : List ℕ) (o : Option View) → IsRevoked before parts.recipient parts.table.share parts.grant → view_by (before ++ later) (named parts.recipient) ≡ o
+    → of_object s (linked_object (look_of o (want.Table parts.table part.Place)) now (Some parts)) ≡ object x span → ⊥
+view_case before later parts now s span x None over is e = let r = object_past s span (not (nat_le parts.expires now)) _ _ x e in absurd (cc r)
+view_case before later parts now s span x (Some view) over is e =
+    spot_case before later parts view x (maps.get view.catalog.tables (parts_of parts.table)) over is refl (object_past s span (not (nat_le parts.expires now)) _ _ x e)
 
-abbrev linked : List Entry → ℕ → Option LinkParts → Answer
-linked history now o = of object (linked_object (option_and_then (seen_in (option_and_then (view_asked history) (ask_by o))) (ask_by o)) now o)
+abbrev linked : List Entry → ℕ → Option Span → Option LinkParts → Answer
+linked history now s o = of_object s (linked_object (option_and_then (seen_in (option_and_then (view_asked history) (ask_by o))) (ask_by o)) now o)
 
 pub revoked_grants_give_nothing : RevokedGrantsGiveNothing
 revoked_grants_give_nothing = record {
@@ -160,6 +158,6 @@ revoked_grants_give_nothing = record {
       let P : feed_paged.LaterFeed keys (access T.view.catalog.recipient name T.spot) now q c (log_in T.view name) p =
       feed_paged.later keys (access T.view.catalog.recipient name T.spot) now q c text T.spot.history (log_in T.view name) p read has T.page_is in
       stale before later T.view.catalog.recipient name T.spot c.access over P.same (is_granted (before ++ later) (token digest) T.view name T.spot T.is_view T.is_spot);
-  links = λ keys before later now target parts read over x e.
-      view_case before later parts now x (view_by (before ++ later) (named parts.recipient)) over refl (sym (ap (linked (before ++ later) now) read) ∙ e);
+  links = λ keys before later now by parts read over x span e.
+      view_case before later parts now by.span span x (view_by (before ++ later) (named parts.recipient)) over refl (sym (ap (linked (before ++ later) now by.span) read) ∙ e);
 }

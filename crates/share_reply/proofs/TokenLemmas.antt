@@ -1,7 +1,6 @@
 -- The token of a cursor is read as it.
 use Rattle.std.proofs.Common.{◌≡◌, ℕ, ◌^◌, ◌<◌, List, Some, refl, length}
 use Rattle.page_token.specs.Cursors.{cursor_of}
-use Rattle.page_token.specs.Laws.{SpellingsAreRead}
 use Rattle.page_token.specs.Payload.{IsInRange, IsValue}
 use Rattle.page_token.specs.Token.{token_text}
 use Rattle.page_token.specs.declared.cursor.Cursor.{Cursor}

@@ -1,6 +1,7 @@
 -- What a recipient's request is answered, as a value: before any text is made of it.
 use Rattle.std.specs.Prelude.{ℕ, List, [], ◌∷◌, Option, Some, None, Result, Ok, Err}
 use Rattle.case_table.specs.declared.routing.Method.{Method}
+use Rattle.file_ranges.specs.declared.span.Span.{Span}
 use Rattle.page_token.specs.declared.cursor.Cursor.{Cursor}
 use Rattle.page_token.specs.declared.cursor.ListCursor.{ListCursor}
 use Rattle.page_token.specs.declared.cursor.ListKind.{ListKind}
@@ -31,19 +32,23 @@ pub record NamesPage : Type 0 where
 pub data Answer : Type 0 where
   -- a refusal, with its detail
   refused : Refused → Answer
-  -- the path's route has another method
+  -- the path's route has other methods
   only : Method → Answer
   names : NamesPage → Answer
   one_share : List ℕ → Answer
   at_version : ℕ → Answer
   page : Page → Answer
-  -- the object of that name in the store
-  object : List ℕ → Answer
+  -- the object of that name in the store, or the part of it that is asked for
+  object : List ℕ → Option Span → Answer
 
 -- what is given, or the refusal
 abbrev pub of : {X : Type 0} → (X → Answer) → Result X Refused → Answer
 of answer (Ok x) = answer x
 of answer (Err r) = refused r
+
+-- an object of which that part is asked for, or the refusal
+abbrev pub of_object : Option Span → Result (List ℕ) Refused → Answer
+of_object span r = of (λ name. object name span) r
 
 -- when the links of a page end, where it has any
 abbrev pub ends_with : {X : Type 0} → ℕ → List X → Option ℕ

@@ -108,4 +108,4 @@ ask_by (Some parts) = Some (record { who = who.Named parts.recipient; want = wan
 abbrev pub ask_of : ReplyKeys → Request → Option Ask
 ask_of keys (request.TurnedAway why) = None
 ask_of keys (request.ByToken r) = Some (record { who = who.Token r.digest; want = want_or_names keys r.asked })
-ask_of keys (request.ByLink target) = ask_by (parts_of keys.link target)
+ask_of keys (request.ByLink by) = ask_by (parts_of keys.link by.target)

@@ -1,5 +1,5 @@
 -- The body of a response, and what its head tells, of an answer (Delta Sharing PROTOCOL.md, "REST APIs" and "API Response Format in Parquet").
-use Rattle.std.specs.Prelude.{ℕ, List, [], ◌∷◌, ◌++◌, Option, Some, None, codes, map, option_map, option_to_list}
+use Rattle.std.specs.Prelude.{ℕ, List, [], ◌∷◌, ◌++◌, Some, codes, option_map, option_to_list}
 use Rattle.json_print.specs.Fields.{Field, object_of}
 use Rattle.page_token.specs.Token.{token_text}
 use Rattle.page_token.specs.declared.cursor.Cursor.TheVariants as cursor
@@ -53,4 +53,4 @@ reply_of keys (names n) = plan.Json (compact_text (names_data keys n))
 reply_of keys (one_share s) = plan.Json (compact_text (share_data s))
 reply_of keys (at_version v) = plan.Version v
 reply_of keys (page p) = plan.Lines p.version (page_lines keys p)
-reply_of keys (object name) = plan.File name
+reply_of keys (object name span) = plan.File name span

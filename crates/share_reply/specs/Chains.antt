@@ -1,5 +1,5 @@
 -- Chains of pages: a recipient asks for a table's files, or for its changes, page by page, while others commit, grant and bind between its pages. What the pages give together is what the version that the first one was of, or the range, has: each once, in order.
-use Rattle.std.specs.Prelude.{◌≡◌, ℕ, ◌^◌, ◌<◌, ⊤, List, [], ◌∷◌, ◌++◌, Option, Some, None, IfSome, Result, Ok, length, map, option_and_then, option_map, take}
+use Rattle.std.specs.Prelude.{◌≡◌, ℕ, ◌^◌, ◌<◌, ⊤, List, [], ◌∷◌, ◌++◌, Option, Some, None, IfSome, Ok, length, map, option_and_then, option_map}
 use Rattle.std.specs.FinMap as maps
 use Rattle.std.specs.Str.{IsUtf8}
 use Rattle.case_table.specs.declared.routing.Route.{Route}
@@ -92,7 +92,7 @@ content_of (names n) = []
 content_of (one_share s) = []
 content_of (at_version v) = []
 content_of (page p) = p.content
-content_of (object name) = []
+content_of (object name span) = []
 
 -- Elements stand in the pages one after another, each as the line that is given of it at its own page's moment.
 abbrev pub Gives : {Q X : Type 0} → Paging Q → ReplyKeys → TableName → (ℕ → X → Line) → List (Turn Q) → List X → Type 0

@@ -1,8 +1,7 @@
 -- What a query of a table's files is answered (Delta Sharing PROTOCOL.md, "Read Data from a Table").
-use Rattle.std.specs.Prelude.{ℕ, ◌+◌, ◌==◌, ◌&&◌, ◌||◌, ℤ, List, [], ◌∷◌, ◌++◌, Bool, true, false, Option, Some, None, Result, Ok, Err, filter, is_some, length, map, option_map, bytes_eq, nat_le, if◌then◌else◌}
+use Rattle.std.specs.Prelude.{ℕ, ◌==◌, ◌&&◌, ◌||◌, ℤ, List, [], ◌∷◌, ◌++◌, Bool, true, false, Option, Some, None, Result, Ok, Err, filter, is_some, length, map, option_map, bytes_eq, nat_le, if◌then◌else◌}
 use Rattle.std.specs.Ordering.{int_eq}
 use Rattle.case_table.specs.declared.refuse.Refusal.TheVariants.{HistoryNotShared, NotFound, TimestampRange, TokenAhead, TokenInvalid, TokenMismatch, UnsupportedTable, VersionRange}
-use Rattle.json_tree.specs.Results.{◌>>=◌}
 use Rattle.log_actions.specs.declared.actions.AddFile.{AddFile}
 use Rattle.log_replay.specs.State.{State}
 use Rattle.page_token.specs.Cursors.{cursor_of}

@@ -1,5 +1,5 @@
 -- Laws of replies, over the definitions alone.
-use Rattle.std.specs.Prelude.{◌≡◌, ◌≢◌, ◌≤◌, ◌++◌, ℕ, List, Bool, false, Some, Ok, IsErr}
+use Rattle.std.specs.Prelude.{◌≡◌, ◌≢◌, ◌≤◌, ◌++◌, ℕ, List, false, Option, Some, Ok, IsErr}
 use Rattle.case_table.specs.declared.refuse.Refusal.TheVariants.{NotFound}
 use Rattle.case_table.specs.declared.routing.Route.TheVariants as route
 use Rattle.page_token.specs.Cursors.{cursor_of}
@@ -13,6 +13,8 @@ use Rattle.share_book.specs.declared.look.PartFound.{PartFound}
 use Rattle.share_book.specs.declared.look.Found.TheVariants as found
 use Rattle.share_catalog.specs.declared.table_name.TableName.{TableName}
 use Rattle.share_catalog.specs.Catalogue.{grant_edition, granted}
+use Rattle.file_ranges.specs.declared.span.Span.{Span}
+use Rattle.share_request.specs.declared.asked.ByLink.{ByLink}
 use Rattle.share_request.specs.declared.asked.Request.{Request}
 use Rattle.share_request.specs.declared.asked.Request.TheVariants as request
 use Rattle.share_request.specs.declared.asked.What.{What}
@@ -64,5 +66,5 @@ pub record RevokedGrantsGiveNothing : Type 0 where
       → IsRevoked before c.access.recipient c.access.share c.access.grant → (p : Page) → answered_at keys (before ++ later) now (request.ByToken (record { digest = digest; route = route.Query; asked = Ok (what.Query name q) })) ≢ page p
   pub changes : (keys : ReplyKeys) (before later : List Entry) (now : ℕ) (digest text : List ℕ) (name : TableName) (q : ChangesQuery) (c : FeedCursor) → q.token ≡ Some text → cursor_of keys.token text ≡ Some (cursor.Feed c)
       → IsRevoked before c.access.recipient c.access.share c.access.grant → (p : Page) → answered_at keys (before ++ later) now (request.ByToken (record { digest = digest; route = route.Changes; asked = Ok (what.Changes name q.from q.to q.max q.token) })) ≢ page p
-  pub links : (keys : ReplyKeys) (before later : List Entry) (now : ℕ) (target : List ℕ) (parts : LinkParts) → parts_of keys.link target ≡ Some parts
-      → IsRevoked before parts.recipient parts.table.share parts.grant → (name : List ℕ) → answered_at keys (before ++ later) now (request.ByLink target) ≢ object name
+  pub links : (keys : ReplyKeys) (before later : List Entry) (now : ℕ) (by : ByLink) (parts : LinkParts) → parts_of keys.link by.target ≡ Some parts
+      → IsRevoked before parts.recipient parts.table.share parts.grant → (name : List ℕ) (span : Option Span) → answered_at keys (before ++ later) now (request.ByLink by) ≢ object name span

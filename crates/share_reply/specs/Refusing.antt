@@ -1,5 +1,5 @@
 -- A refusal as it is told, and tests in the order in which their refusals are told.
-use Rattle.std.specs.Prelude.{ℕ, List, [], ◌∷◌, Bool, true, false, Result, Ok, Err}
+use Rattle.std.specs.Prelude.{ℕ, List, [], ◌∷◌, Bool, true, false, Result, Err}
 use Rattle.case_table.specs.declared.refuse.Refusal.{Refusal}
 
 -- a refusal with the variable part of its message, which is empty where the message has none

@@ -23,7 +23,7 @@ use Rattle.share_request.specs.declared.fault.TurnedAway.{TurnedAway}
 use Rattle.share_request.specs.declared.fault.TurnedAway.TheVariants as early
 use Rattle.signed_link.specs.Parts.{parts_of}
 use Rattle.share_reply.specs.Access.{access}
-use Rattle.share_reply.specs.Answer.{Answer, at_version, names, object, of, one_share, only, page, refused}
+use Rattle.share_reply.specs.Answer.{Answer, at_version, names, of, of_object, one_share, only, page, refused}
 use Rattle.share_reply.specs.Asking.{ask_of}
 use Rattle.share_reply.specs.Feeds.{changes_page}
 use Rattle.share_reply.specs.Files.{metadata_page, query_page, version_in}
@@ -86,7 +86,7 @@ answer_early early.NoBearer = refused (plain (early_refusal early.NoBearer))
 abbrev pub answer_from : ReplyKeys → ℕ → Request → Option Seen → Answer
 answer_from keys now (request.TurnedAway why) seen = answer_early why
 answer_from keys now (request.ByToken r) seen = answer_to keys now r.asked seen
-answer_from keys now (request.ByLink target) seen = of object (linked_object seen now (parts_of keys.link target))
+answer_from keys now (request.ByLink by) seen = of_object by.span (linked_object seen now (parts_of keys.link by.target))
 
 -- ---- of a view
 

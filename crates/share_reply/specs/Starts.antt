@@ -1,5 +1,5 @@
 -- Where pages begin, as private functions have it.
-use Rattle.std.specs.Prelude.{◌≡◌, ℕ, ◌+◌, ◌-◌, List, [], ◌∷◌, Bool, Option, Some, None, Result, Ok, length, nat_le, nat_lt, option_map, if◌then◌else◌}
+use Rattle.std.specs.Prelude.{ℕ, ◌+◌, ◌-◌, List, [], ◌∷◌, Bool, Option, Some, None, Result, Ok, length, nat_le, nat_lt, if◌then◌else◌}
 use Rattle.std.specs.Fmt.{decimal}
 use Rattle.case_table.specs.declared.refuse.Refusal.TheVariants.{ChangesNotEnabled, TokenAhead}
 use Rattle.change_feed.specs.Changes.{ChangedFile}

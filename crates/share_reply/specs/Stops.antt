@@ -1,7 +1,6 @@
 -- What private functions answer.
-use Rattle.std.specs.Prelude.{◌≡◌, ℕ, ⊤, List, Result, Ok, Err, Vec}
+use Rattle.std.specs.Prelude.{◌≡◌, ⊤, List, Result, Ok, Err, Vec}
 use Rattle.std.specs.declared.alloc.Global.{Global}
-use Rattle.share_lines.specs.declared.kinds.Line.{Line}
 use Rattle.share_reply.specs.Answer.{Page}
 use Rattle.share_reply.specs.Bodies.{page_lines}
 use Rattle.share_reply.specs.declared.keys.ReplyKeys.{ReplyKeys}

@@ -1,5 +1,5 @@
 -- How the names of a listing are gathered, one table or share after another.
-use Rattle.std.specs.Prelude.{◌≡◌, ℕ, ◌≤◌, ◌&&◌, List, [], ◌∷◌, ◌++◌, Bool, true, false, Option, Some, None, filter, length, map, take, bytes_eq, nat_lt, option_map, option_to_list, if◌then◌else◌}
+use Rattle.std.specs.Prelude.{◌≡◌, ℕ, ◌≤◌, List, [], ◌∷◌, ◌++◌, Bool, true, false, Option, Some, None, filter, length, map, take, bytes_eq, nat_lt, option_to_list, if◌then◌else◌}
 use Rattle.page_token.specs.declared.cursor.ListKind.{ListKind}
 use Rattle.page_token.specs.declared.cursor.ListKind.TheVariants as kind
 use Rattle.share_catalog.specs.declared.table_name.TableName.{TableName}

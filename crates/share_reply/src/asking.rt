@@ -186,8 +186,6 @@ pub fn ask_of(alloc: Global, keys: &ReplyKeys, request: &Request) -> Result<Opti
     match request {
         Request::TurnedAway(_) => Ok(None),
         Request::ByToken(request) => ask_of_token(alloc, keys, request),
-        Request::ByLink(target) => {
-            Ok(ask_of_link(parts_of(alloc, &keys.link, target.as_str())?))
-        }
+        Request::ByLink(by) => { Ok(ask_of_link(parts_of(alloc, &keys.link, by.target.as_str())?)) }
     }
 }

@@ -29,11 +29,12 @@ use crate::refused::Refused;
 use crate::stop::Stop;
 use case_table::{Method, Refusal};
 use edge_core::Name;
+use file_ranges::span::Span;
 use json_tree::{Millis, Text};
 use page_token::ListKind;
 use share_book::{Found, Names, Seen};
 use share_catalog::{CatalogName, TableName};
-use share_request::{QueryBody, Request, RequestFault, TurnedAway, What};
+use share_request::{ByLink, QueryBody, Request, RequestFault, TurnedAway, What};
 use signed_link::parts_of;
 use std::alloc::{AllocError, Global};
 
@@ -42,7 +43,7 @@ use std::alloc::{AllocError, Global};
 pub enum Plan<'a> {
     /// It is refused.
     Refused(Refused),
-    /// The path's route has this method alone.
+    /// The path's route has these methods alone.
     Only(Method),
     /// A JSON text.
     Json(Text),
@@ -50,8 +51,8 @@ pub enum Plan<'a> {
     Version(u64),
     /// The lines of a version of a table.
     Lines(u64, LinePlan<'a>),
-    /// The object of that name in the store.
-    File(Name),
+    /// The object of that name in the store, or the part of it that is asked for.
+    File(Name, Option<Span>),
 }
 
 fn refused<'a>(alloc: Global, refusal: Refusal) -> Plan<'a>
@@ -102,11 +103,11 @@ fn of_page<'a>(given: Result<Paged<'a>, Stop>) -> Result<Plan<'a>, AllocError>
     }
 }
 
-fn of_object<'a>(given: Result<Name, Stop>) -> Result<Plan<'a>, AllocError>
-    ensures { (keys : Keys) (name : Result (List ℕ) RefusedView) → Gives given name → IfOk result (λ p. p ≡ reply_of keys (of answer.object name)) }
+fn of_object<'a>(given: Result<Name, Stop>, span: Option<Span>) -> Result<Plan<'a>, AllocError>
+    ensures { (keys : Keys) (name : Result (List ℕ) RefusedView) → Gives given name → IfOk result (λ p. p ≡ reply_of keys (answer.of_object span name)) }
 {
     match given {
-        Ok(name) => Ok(Plan::File(name)),
+        Ok(name) => Ok(Plan::File(name, span)),
         Err(Stop::Refused(refused)) => Ok(Plan::Refused(refused)),
         Err(Stop::NoMemory) => Err(AllocError),
     }
@@ -321,13 +322,13 @@ fn link_plan<'a>(
     alloc: Global,
     keys: &ReplyKeys,
     now: Millis,
-    target: &Text,
+    by: &ByLink,
     seen: &Option<Seen>,
 ) -> Result<Plan<'a>, AllocError>
-    ensures { IfOk result (λ p. p ≡ reply_of keys.now (answer_from keys.now now (request_is.ByLink target.now) seen.now)) }
+    ensures { IfOk result (λ p. p ≡ reply_of keys.now (answer_from keys.now now (request_is.ByLink by.now) seen.now)) }
 {
-    let parts = parts_of(alloc, &keys.link, target.as_str())?;
-    of_object(linked_object(alloc, seen, now, &parts))
+    let parts = parts_of(alloc, &keys.link, by.target.as_str())?;
+    of_object(linked_object(alloc, seen, now, &parts), by.span)
 }
 
 fn early_plan<'a>(alloc: Global, why: TurnedAway) -> Plan<'a>
@@ -352,7 +353,7 @@ fn request_plan<'a>(
     match request {
         Request::TurnedAway(why) => Ok(early_plan(alloc, *why)),
         Request::ByToken(request) => token_plan(alloc, keys, now, &request.asked, seen),
-        Request::ByLink(target) => link_plan(alloc, keys, now, target, seen),
+        Request::ByLink(by) => link_plan(alloc, keys, now, by, seen),
     }
 }
 

@@ -3,9 +3,11 @@ use Rattle.std.proofs.Common.{◌≡◌, ◌≢◌, ℕ, ℤ, ◌-◌, ◌^◌, 
 use Rattle.std.specs.Prelude.{pos, negsuc, IfSome, IsSome, min, unwrap_or, codes}
 use Rattle.std.specs.Str.Parse.{digits_value}
 use Rattle.std.proofs.lemmas.Bool.{and_parts, leb-true}
+use Rattle.std.proofs.lemmas.Slice.Eq.{bytes_eq-Decides}
 use Rattle.case_table.specs.Routes.{route_row}
 use Rattle.case_table.specs.declared.routing.Route.{Route}
 use Rattle.case_table.specs.declared.routing.Route.TheVariants as route
+use Rattle.file_ranges.specs.Spans.{span_of}
 use Rattle.http_message.specs.declared.head.Head.{Head}
 use Rattle.json_tree.specs.Results.{◌>>=◌}
 use Rattle.json_tree.specs.Tree.{tree_in}
@@ -23,7 +25,7 @@ use Rattle.share_request.specs.Laws.{RequestsAreInForm}
 use Rattle.share_request.specs.Parameters.{at_in, first_value, from_in, is_digits, max_files_in, moment_at, most_in, number_at, number_in, one_bound, page_in, read_value, start_in, start_or_token, to_in, token_in, version_at}
 use Rattle.share_request.specs.Paths.{admin_route, name_at, provider_route, route_of, segments_in, share_route, table_at, table_route}
 use Rattle.share_request.specs.Query.{absent, between, fields_in, moment_beside, query_in, query_of_fields, query_of_tree, unless_empty}
-use Rattle.share_request.specs.Requests.{at_path, below_in, by_route, has_method, link_or, pairs_or_none, turned_away, with_bearer}
+use Rattle.share_request.specs.Requests.{at_path, below_in, by_route, has_method, is_head, link_or, link_request, pairs_or_none, turned_away, with_bearer}
 use Rattle.share_request.specs.Targets.{below_endpoint, link_target, split_query}
 use Rattle.share_request.specs.declared.asked.Bound.{Bound}
 use Rattle.share_request.specs.declared.asked.Bound.TheVariants as bound
@@ -31,7 +33,6 @@ use Rattle.share_request.specs.declared.asked.ListPage.{ListPage}
 use Rattle.share_request.specs.declared.asked.Request.{Request}
 use Rattle.share_request.specs.declared.asked.Request.TheVariants as request
 use Rattle.share_request.specs.declared.fault.TurnedAway.TheVariants as early
-use Rattle.case_table.specs.declared.routing.Method.TheVariants as method
 use Rattle.share_request.specs.declared.asked.What.{What}
 use Rattle.share_request.specs.declared.asked.What.TheVariants as what
 use Rattle.share_request.specs.declared.fault.Parameter.{Parameter}
@@ -372,10 +373,16 @@ route_is head (Some r) names query body differs =
     if_in_form (has_method (route_row r).method head.method) _ _
     (bearer_is (bearer_in head.fields) r names query body (λ e. differs (ap (λ x. Some x) e))) tt
 
+-- HEAD is not GET, so it asks for no part
+no_part : (head : Head) → is_head head ≡ true → span_of head ≡ None
+no_part head is =
+    let method : head.method ≡ codes "HEAD" = (bytes_eq-Decides head.method (codes "HEAD")).0 is in
+    rw method refl
+
 link_is : (head : Head) (file query : Option (List ℕ)) (other : Request) → IsInForm other → IsInForm (link_or head file query other)
 link_is head None query other h = h
 link_is head (Some file) query other h =
-    if_in_form (has_method method.Get head.method) (request.ByLink (link_target file query)) (turned_away (early.WrongMethod method.Get)) tt tt
+    if_in_form (has_method (route_row route.File).method head.method) (link_request head (link_target file query)) (turned_away (early.WrongMethod (route_row route.File).method)) (no_part head) tt
 
 below_is : (head : Head) (below query : Option (List ℕ)) (body : List ℕ) → IsInForm (below_in head below query body)
 below_is head None query body = tt

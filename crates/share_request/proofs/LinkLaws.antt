@@ -7,6 +7,7 @@ use Rattle.std.proofs.lemmas.Bool.{agree_below, agree_below_at, and_parts, cond-
 use Rattle.std.proofs.lemmas.Bool.Decides.{nat_tests}
 use Rattle.std.proofs.lemmas.List.Elements.{All-cons, All-drop, All-nil, All-take, All-append}
 use Rattle.hmac_core.proofs.Bytes.{utf8_bytes}
+use Rattle.case_table.specs.declared.routing.Method.TheVariants as method
 use Rattle.http_message.specs.declared.head.Head.{Head}
 use Rattle.percent_encoding.specs.Percent.{percent_decode}
 use Rattle.percent_encoding.proofs.PercentLemmas.{All-percent_decode, IsByte}
@@ -19,9 +20,8 @@ use Rattle.signed_link.proofs.Cuts.{cut_again}
 use Rattle.signed_link.proofs.Escapes as link
 use Rattle.signed_link.proofs.PartsOf.{same_two}
 use Rattle.share_request.specs.Laws.{LinksAreRead, OneSpelling, SpellingKeepsNames, names_and_path}
-use Rattle.share_request.specs.Requests.{request_in}
+use Rattle.share_request.specs.Requests.{has_method, link_request, request_in}
 use Rattle.share_request.specs.Targets.{link_parts, link_target, one_spelling, parts_spelling, path_spelling, query_text, split_query}
-use Rattle.share_request.specs.declared.asked.Request.TheVariants as request
 use Rattle.share_request.proofs.Spellings.{escaped_free, percent_decode-escaped}
 
 abbrev Four : Type 0
@@ -225,18 +225,18 @@ front_free p value =
 
 -- a target whose path stands so below the endpoint is a link's
 read_by : (head : Head) (below query body : List ℕ) → All (λ b. b ≢ 63) (codes "/delta-sharing/files/" ++ below)
-    → head.target ≡ (codes "/delta-sharing/files/" ++ below) ++ 63 ∷ query → head.method ≡ codes "GET"
-    → request_in head body ≡ request.ByLink (link_target below (Some query))
+    → head.target ≡ (codes "/delta-sharing/files/" ++ below) ++ 63 ∷ query → has_method method.GetOrHead head.method ≡ true
+    → request_in head body ≡ link_request head (link_target below (Some query))
 unfolding after
-read_by head below query body free is get =
+read_by head below query body free is allowed =
     let split : split_query head.target ≡ (codes "/delta-sharing/files/" ++ below, Some query) = rw (is, cut_again 63 (codes "/delta-sharing/files/" ++ below) query free) refl in
-    rw (split, get) refl
+    rw (split, allowed) refl
 
 pub links_are_read : LinksAreRead
-links_are_read head body key p h get =
+links_are_read head body key p h allowed =
     let spelt : head.target ≡ (codes "/delta-sharing/files/" ++ (p.table.share ++ 47 ∷ (p.table.schema ++ 47 ∷ (p.table.table ++ 47 ∷ escaped p.path))))
     ++ 63 ∷ (codes "b=" ++ decimal p.binding ++ codes "&e=" ++ decimal p.expires ++ codes "&g=" ++ decimal p.grant ++ codes "&r=" ++ p.recipient ++ tag_text key (unsigned p)) =
     h.spelt ∙ target_is p.table.share p.table.schema p.table.table (escaped p.path) (decimal p.binding) (decimal p.expires) (decimal p.grant) p.recipient (tag_text key (unsigned p)) in
-    read_by head _ _ body (front_free p h.value) spelt get
-    ∙ ap (λ below. request.ByLink ((codes "/delta-sharing/files/" ++ below) ++ 63 ∷ (codes "b=" ++ decimal p.binding ++ codes "&e=" ++ decimal p.expires ++ codes "&g=" ++ decimal p.grant ++ codes "&r=" ++ p.recipient ++ tag_text key (unsigned p)))) (below_kept p h.value)
-    ∙ ap (λ t. request.ByLink t) (sym spelt)
+    read_by head _ _ body (front_free p h.value) spelt allowed
+    ∙ ap (λ below. link_request head ((codes "/delta-sharing/files/" ++ below) ++ 63 ∷ (codes "b=" ++ decimal p.binding ++ codes "&e=" ++ decimal p.expires ++ codes "&g=" ++ decimal p.grant ++ codes "&r=" ++ p.recipient ++ tag_text key (unsigned p)))) (below_kept p h.value)
+    ∙ ap (λ t. link_request head t) (sym spelt)

@@ -1,5 +1,5 @@
 -- What every request that is answered satisfies, besides the types of its fields.
-use Rattle.std.specs.Prelude.{◌≡◌, ◌≢◌, ℕ, ◌^◌, ◌<◌, ◌≤◌, ◌⊎◌, List, [], Option, Some, Result, Ok, Err, ⊤, IsSome, IfSome}
+use Rattle.std.specs.Prelude.{◌≡◌, ◌≢◌, ℕ, ◌^◌, ◌<◌, ◌≤◌, ◌⊎◌, List, [], Option, Some, None, Result, Ok, Err, ⊤, IsSome, IfSome, IsTrue}
 use Rattle.case_table.specs.declared.routing.Route.{Route}
 use Rattle.case_table.specs.declared.routing.Route.TheVariants as route
 use Rattle.share_request.specs.declared.asked.Bound.{Bound}
@@ -80,4 +80,4 @@ IsAsked r (Err f) = ⊤
 abbrev pub IsInForm : Request → Type 0
 IsInForm (request.TurnedAway why) = ⊤
 IsInForm (request.ByToken by) = (by.route ≢ route.File) × IsAsked by.route by.asked
-IsInForm (request.ByLink target) = ⊤
+IsInForm (request.ByLink by) = IsTrue by.head → by.span ≡ None

@@ -1,6 +1,7 @@
 -- Laws of requests.
-use Rattle.std.specs.Prelude.{◌≡◌, ◌≢◌, ℕ, ◌<◌, List, [], ◌∷◌, ◌++◌, All, Option, Some, None, option_map, is_some, codes}
+use Rattle.std.specs.Prelude.{◌≡◌, ◌≢◌, ℕ, ◌<◌, List, [], ◌∷◌, ◌++◌, All, Option, Some, None, option_map, is_some, codes, IsTrue}
 use Rattle.std.specs.List.{join_with_byte}
+use Rattle.case_table.specs.declared.routing.Method.TheVariants as method
 use Rattle.http_message.specs.declared.head.Head.{Head}
 use Rattle.json_tree.specs.Fields.{present}
 use Rattle.json_tree.specs.Options.{◌>>=◌}
@@ -15,9 +16,8 @@ use Rattle.share_request.specs.Bodies.{offer_of}
 use Rattle.share_request.specs.InForm.{IsInForm}
 use Rattle.share_request.specs.Parameters.{text_of}
 use Rattle.share_request.specs.Query.{query_of_value}
-use Rattle.share_request.specs.Requests.{request_in}
+use Rattle.share_request.specs.Requests.{has_method, link_request, request_in}
 use Rattle.share_request.specs.Targets.{below_endpoint, link_parts, link_target, path_spelling}
-use Rattle.share_request.specs.declared.asked.Request.TheVariants as request
 
 -- what is answered is in form
 abbrev pub RequestsAreInForm : Type 0
@@ -80,8 +80,8 @@ OneSpelling =
     (below other : List ℕ) (query : Option (List ℕ)) (parts : List ℕ × List ℕ × List ℕ × List ℕ)
     → names_and_path below ≡ Some parts → names_and_path other ≡ Some parts → link_target below query ≡ link_target other query
 
--- the target of a link is read as the request by link with that target
+-- the target of a link is read as the request by link with that target, of GET and of HEAD
 abbrev pub LinksAreRead : Type 0
 LinksAreRead =
     (head : Head) (body key : List ℕ) (parts : LinkParts)
-    → IsLink key endpoint_path head.target parts → head.method ≡ codes "GET" → request_in head body ≡ request.ByLink head.target
+    → IsLink key endpoint_path head.target parts → IsTrue (has_method method.GetOrHead head.method) → request_in head body ≡ link_request head head.target

@@ -1,9 +1,11 @@
 -- The request that a head and a body ask: turned away, by token, or by link (Delta Sharing PROTOCOL.md, "REST APIs").
-use Rattle.std.specs.Prelude.{ℕ, Bool, List, [], Option, Some, None, bytes_eq, if◌then◌else◌, codes}
+use Rattle.std.specs.Prelude.{ℕ, Bool, ◌||◌, List, [], Option, Some, None, bytes_eq, if◌then◌else◌, codes}
 use Rattle.case_table.specs.Routes.{route_row}
 use Rattle.case_table.specs.declared.routing.Method.{Method}
 use Rattle.case_table.specs.declared.routing.Method.TheVariants as method
 use Rattle.case_table.specs.declared.routing.Route.{Route}
+use Rattle.case_table.specs.declared.routing.Route.TheVariants as route
+use Rattle.file_ranges.specs.Spans.{span_of}
 use Rattle.http_message.specs.declared.head.Head.{Head}
 use Rattle.signed_link.specs.Reading.{after}
 use Rattle.share_request.specs.Asked.{what_at}
@@ -21,6 +23,10 @@ use Rattle.share_request.specs.declared.parameter.QueryPair.{QueryPair}
 abbrev pub has_method : Method → List ℕ → Bool
 has_method method.Get text = bytes_eq text (codes "GET")
 has_method method.Post text = bytes_eq text (codes "POST")
+has_method method.GetOrHead text = bytes_eq text (codes "GET") || bytes_eq text (codes "HEAD")
+
+abbrev pub is_head : Head → Bool
+is_head head = bytes_eq head.method (codes "HEAD")
 
 abbrev pub turned_away : TurnedAway → Request
 turned_away why = request.TurnedAway why
@@ -51,10 +57,16 @@ by_route head (Some route) segments query body = at_route head route segments qu
 abbrev pub at_path : Head → List ℕ → Option (List ℕ) → List ℕ → Request
 at_path head below query body = by_route head (route_of (segments_in below)) (segments_in below) query body
 
+-- for the file of a link, or a part of it, or for the head alone of what a GET is answered (RFC 9110, sections 9.3.2 and 14.2)
+abbrev pub link_request : Head → List ℕ → Request
+link_request head target = request.ByLink (record { target = target; head = is_head head; span = span_of head })
+
 -- by what stands below `files/`
 abbrev pub by_link : Head → List ℕ → Option (List ℕ) → Request
 by_link head below query =
-    if has_method method.Get head.method then request.ByLink (link_target below query) else turned_away (early.WrongMethod method.Get)
+    if has_method (route_row route.File).method head.method
+    then link_request head (link_target below query)
+    else turned_away (early.WrongMethod (route_row route.File).method)
 
 abbrev pub link_or : Head → Option (List ℕ) → Option (List ℕ) → Request → Request
 link_or head None query other = other

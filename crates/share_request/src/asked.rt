@@ -3,6 +3,7 @@ use crate::fault::{RequestFault, TurnedAway};
 use crate::query::QueryBody;
 use case_table::Route;
 use commit_check::Offer;
+use file_ranges::span::Span;
 use json_tree::{Text, Version};
 use share_catalog::{CatalogName, Edit, Location, TableName};
 
@@ -104,6 +105,17 @@ pub struct ByToken {
     pub asked: Result<What, RequestFault>,
 }
 
+/// A request for a file, by a link.
+#[derive(Drop)]
+pub struct ByLink {
+    /// The link's target, in the one spelling of links.
+    pub target: Text,
+    /// Whether the method is HEAD, which asks for the head alone of what GET is answered (RFC 9110, section 9.3.2).
+    pub head: bool,
+    /// The part of the file that is asked for (RFC 9110, section 14.2), all without one. HEAD has none.
+    pub span: Option<Span>,
+}
+
 /// A request.
 #[derive(Drop)]
 pub enum Request {
@@ -111,6 +123,6 @@ pub enum Request {
     TurnedAway(TurnedAway),
     /// It is answered by the view of who has the token.
     ByToken(ByToken),
-    /// It asks for a file, by a link with this target, in the one spelling of links.
-    ByLink(Text),
+    /// It asks for a file, by a link.
+    ByLink(ByLink),
 }

@@ -3,7 +3,7 @@ ghost use Rattle.share_request.specs.Laws.{LinksAreRead, OneSpelling, RequestsAr
 
 /// A law: what is answered is in form. What is asked by token is asked by the route that is told, which is no link's; a page of a
 /// list has at most 500 names, `maxFiles` is 1 to 2^31 - 1, a version is below 2^63; no page token is empty; a query hasn't both a
-/// version and a moment; and changes have a start or a page token.
+/// version and a moment; changes have a start or a page token; and of a file HEAD asks for no part.
 pub fn requests_are_in_form()
     ensures { RequestsAreInForm }
 {}
@@ -15,7 +15,7 @@ pub fn unknown_is_passed_over()
     ensures fields { UnknownFieldsPass }
 {}
 
-/// A law: a link's target is read as the request by link with that target. Of other spellings, targets with the same names, path
+/// A law: a link's target is read, of GET and of HEAD, as the request by link with that target. Of other spellings, targets with the same names, path
 /// and query are read as one, which has the names and the path that they have.
 pub fn links_have_one_spelling()
     ensures links { LinksAreRead }

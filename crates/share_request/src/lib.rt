@@ -13,7 +13,7 @@ mod query;
 mod request;
 mod target;
 
-pub use asked::{Bound, ByToken, ListPage, Request, What};
+pub use asked::{Bound, ByLink, ByToken, ListPage, Request, What};
 pub use bearer::bearer_of;
 pub use fault::{Parameter, RequestFault, TurnedAway};
 pub use law::{links_have_one_spelling, requests_are_in_form, unknown_is_passed_over};

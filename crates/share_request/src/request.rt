@@ -5,7 +5,7 @@ ghost use Rattle.share_request.specs.Asked as asked;
 ghost use Rattle.share_request.specs.Stops.{Gives};
 ghost use Rattle.share_request.specs.Targets.{below_endpoint};
 
-use crate::asked::{ByToken, Request, What};
+use crate::asked::{ByLink, ByToken, Request, What};
 use crate::bearer::bearer_of;
 use crate::body::{edit_in, offer_in, refresh_in};
 use crate::fault::{Parameter, RequestFault, Stop, TurnedAway};
@@ -16,6 +16,7 @@ use crate::path::{name_at, route_of, segments_of, table_at};
 use crate::query::query_of;
 use crate::target::{after, below_endpoint, link_target, split_query};
 use case_table::{Method, Route};
+use file_ranges::span::span_of;
 use http_message::head::Head;
 use json_tree::Text;
 use std::alloc::{AllocError, Global};
@@ -208,12 +209,19 @@ fn by_token(
     }))
 }
 
+fn is_head(head: &Head) -> bool
+    ensures { result ≡ spec.is_head head.now }
+{
+    head.method.as_str() == "HEAD"
+}
+
 fn has_method(head: &Head, method: Method) -> bool
     ensures { result ≡ spec.has_method method head.now.method }
 {
     match method {
         Method::Get => head.method.as_str() == "GET",
         Method::Post => head.method.as_str() == "POST",
+        Method::GetOrHead => head.method.as_str() == "GET" || is_head(head),
     }
 }
 
@@ -250,10 +258,15 @@ fn by_link(
 ) -> Result<Request, AllocError>
     ensures { IfOk result (λ r. r ≡ spec.by_link head.now below.now (option_map (λ q. q.now) query.entry)) }
 {
-    if !has_method(head, Method::Get) {
-        return Ok(turned_away(TurnedAway::WrongMethod(Method::Get)));
+    let allowed = Route::File.method();
+    if !has_method(head, allowed) {
+        return Ok(turned_away(TurnedAway::WrongMethod(allowed)));
     }
-    Ok(Request::ByLink(link_target(alloc, below, query)?))
+    Ok(Request::ByLink(ByLink {
+        target: link_target(alloc, below, query)?,
+        head: is_head(head),
+        span: span_of(head),
+    }))
 }
 
 fn at_path(
@@ -309,7 +322,8 @@ fn below_in(
 /// A target in absolute form is read without its host. Segments of the path behind the endpoint's, `/delta-sharing/`, are
 /// unescaped, and the letters of names lowered; of several parameters of one name the first counts; unknown parameters, unknown
 /// fields of bodies and the bodies of GET requests are passed over. A link's target is answered in the one spelling of links:
-/// unescaped and escaped again, as URL libraries and proxies rewrite escapes, but for its query.
+/// unescaped and escaped again, as URL libraries and proxies rewrite escapes, but for its query. Links alone are asked for by HEAD
+/// too, and in parts: see [`span_of`] for which Range fields count.
 ///
 /// The time is linear in the bytes, and no body is copied. The error is want of memory.
 pub fn request_of(alloc: Global, head: &Head, body: &[u8]) -> Result<Request, AllocError>

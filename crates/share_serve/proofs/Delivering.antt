@@ -1,17 +1,25 @@
 -- Responses, written whole or in part.
-use Rattle.std.proofs.Common.{◌≡◌, inl, inr, ⊎_elim, ℕ, Bool, true, List, [], ◌++◌, length, Option, Result, Ok, Err, None, refl, sym, ap, ◌∙◌, subst, arith}
+use Rattle.std.proofs.Common.{◌≡◌, inl, inr, ⊎_elim, ℕ, Bool, true, false, cond, ◌&&◌, nat_le, nat_lt, ◌<◌, List, [], ◌++◌, ◌+◌, ◌-◌, length, take, drop, Option, Some, Result, Ok, Err, None, refl, sym, ap, ◌∙◌, subst, arith}
+use Rattle.std.proofs.Math.Seq.{take-length}
+use Rattle.std.proofs.lemmas.Bool.Decides.{nat_tests}
 use Rattle.std.specs.declared.alloc.AllocError.{AllocError}
 use Rattle.std.specs.Io.KnownBytes.{append_known}
 use Rattle.edge_core.specs.Objects.{Objects}
+use Rattle.file_ranges.specs.Picks.{pick}
+use Rattle.file_ranges.specs.Ranges.{IsRange, Range, bytes_at}
+use Rattle.file_ranges.specs.declared.pick.Picked.{Picked}
+use Rattle.file_ranges.specs.declared.pick.Picked.TheVariants as picked
+use Rattle.file_ranges.specs.declared.span.Span.{Span}
 use Rattle.response_text.specs.declared.head.ContentType.TheVariants as content
+use Rattle.response_text.specs.declared.status.Status.{Status}
 use Rattle.response_text.specs.declared.status.Status.TheVariants as status
 use Rattle.share_lines.specs.Printing.{body_text}
 use Rattle.share_lines.specs.declared.kinds.Line.{Line}
 use Rattle.share_reply.specs.declared.plan.Plan.{Plan}
 use Rattle.share_reply.specs.declared.plan.Plan.TheVariants as plan
-use Rattle.share_serve.specs.Responses.{body_sent, file_response, lines_response, response_head, response_text}
-use Rattle.share_serve.specs.Sends.{BodySent, CopySent, FileSent, HasSize, IsInPart, IsSent, IsWritten, WholeSent, Writes, delivered_of}
-use Rattle.share_serve.specs.Turns.{ReplyIs, Shelf}
+use Rattle.share_serve.specs.Responses.{body_sent, bytes_response, file_response, lines_response, out_response, picked_response, response_head, response_text}
+use Rattle.share_serve.specs.Sends.{AllSent, BodySent, CopySent, FileSent, HasSize, IsInPart, IsSent, IsWritten, PartSent, WholeSent, Writes, delivered_of}
+use Rattle.share_serve.specs.Turns.{IsObject, ReplyIs, Shelf}
 use Rattle.share_serve.specs.declared.response.Delivery.{Delivery}
 use Rattle.share_serve.specs.declared.response.Response.{Response}
 use Rattle.share_serve.specs.declared.send.Delivered.{Delivered}
@@ -19,7 +27,7 @@ use Rattle.share_serve.specs.declared.send.Delivered.TheVariants as delivered
 use Rattle.share_serve.specs.declared.send.Sent.{Sent}
 use Rattle.share_serve.specs.declared.send.Sent.TheVariants as sent
 use Rattle.share_serve.proofs.Basics.{append_known-append, append_known-nil}
-use Rattle.share_serve.proofs.Copying.{read_none, whole}
+use Rattle.share_serve.proofs.Copying.{nothing, range_length, read_none, whole}
 use Rattle.share_serve.proofs.Sent.{flushed, head_in_part, head_is, none_sent, response_sent}
 
 -- a response that was written as a text
@@ -59,21 +67,35 @@ body_sent_as sent.WriteFault to_head bytes w w' s = s
 body_sent_as sent.NoMemory to_head bytes w w' s = s
 
 -- there is to be no body, and what the sink kept back was handed on
-pub no_copy : (s : Sent) (name : List ℕ) (size : ℕ) (os : Option Objects) (to_head : Bool) (w w' : Option (List ℕ)) → HasSize size name os → to_head ≡ true → w' ≡ w → CopySent (delivered_of s) to_head name size os w w'
-no_copy s name size os to_head w w' there is held =
-    let b = whole name size 0 os [] (omega arith) (read_none name size os there) in
-    let none : IsSent s (body_sent true b.0) w w' = flushed [] s w w w' (append_known-nil w) held in
-    subst (λ (h : Bool). CopySent (delivered_of s) h name size os w w') (sym is) (b.0, b.1, b.2, body_sent_as s true b.0 w w' none)
+pub no_copy : (s : Sent) (name : List ℕ) (range : Range) (os : Option Objects) (to_head : Bool) (w w' : Option (List ℕ)) → HasSize range.size name os → to_head ≡ true → w' ≡ w → CopySent (delivered_of s) to_head name range os w w'
+no_copy s name range os to_head w w' there is held =
+    let b = whole name range.size 0 os [] (omega arith) (read_none name range.size os there) in
+    let none : IsSent s (body_sent true (bytes_at range b.0)) w w' = flushed [] s w w w' (append_known-nil w) held in
+    subst (λ (h : Bool). CopySent (delivered_of s) h name range os w w') (sym is) (b.0, b.1, b.2, body_sent_as s true (bytes_at range b.0) w w' none)
 
-module _ (name : List ℕ) (size : ℕ) (d : Delivery) (head : List ℕ) (is : head ≡ response_head d (status.Ok None) content.Bytes size) (os : Option Objects) where
+-- no byte of the response was written, since memory was wanting
+pub no_part : (d : Delivery) (st : Status) (name : List ℕ) (range : Range) (os : Option Objects) → HasSize range.size name os → (w : Option (List ℕ)) → PartSent delivered.NoMemory d st name range os w w
+no_part d st name range os there w =
+    let b = whole name range.size 0 os [] (omega arith) (read_none name range.size os there) in
+    (b.0, b.1, b.2, none_written d (bytes_response st (bytes_at range b.0)) w)
+
+module _ (name : List ℕ) (range : Range) (within : IsRange range) (d : Delivery) (st : Status) (head : List ℕ) (is : head ≡ response_head d st content.Bytes (range.last + 1 - range.first)) (os : Option Objects) where
+  -- the response of an object's bytes
+  abbrev of_bytes : List ℕ → Response
+  of_bytes bytes = bytes_response st (bytes_at range bytes)
+
+  long : (bytes : List ℕ) → length bytes ≡ range.size → range.last + 1 - range.first ≡ length (bytes_at range bytes)
+  long bytes e = sym (range_length range bytes within e)
+
   -- the bytes were written behind the head
-  pub copy_written : (end : Delivered) (old mid new : Option (List ℕ)) → mid ≡ append_known old head → CopySent end d.to_head name size os mid new → FileSent end d name os old new
-  copy_written delivered.Whole old mid new first c = (c.0, c.2, response_sent d (file_response c.0) head size (sym c.1) is sent.Whole old mid new first c.3)
-  copy_written delivered.WriteFault old mid new first c = (c.0, c.2, response_sent d (file_response c.0) head size (sym c.1) is sent.WriteFault old mid new first c.3)
-  copy_written delivered.NoMemory old mid new first c = (c.0, c.2, response_sent d (file_response c.0) head size (sym c.1) is sent.NoMemory old mid new first c.3)
+  pub copy_written : (end : Delivered) (old mid new : Option (List ℕ)) → mid ≡ append_known old head → CopySent end d.to_head name range os mid new → PartSent end d st name range os old new
+  copy_written delivered.Whole old mid new first c = (c.0, c.1, c.2, response_sent d (of_bytes c.0) head _ (long c.0 c.1) is sent.Whole old mid new first c.3)
+  copy_written delivered.WriteFault old mid new first c = (c.0, c.1, c.2, response_sent d (of_bytes c.0) head _ (long c.0 c.1) is sent.WriteFault old mid new first c.3)
+  copy_written delivered.NoMemory old mid new first c = (c.0, c.1, c.2, response_sent d (of_bytes c.0) head _ (long c.0 c.1) is sent.NoMemory old mid new first c.3)
   copy_written (delivered.Cut n) old mid new first c =
-      let at : head ≡ response_head d (status.Ok None) content.Bytes (length c.0) = head_is d (file_response c.0) head size (sym c.1) is in (
+      let at : head ≡ response_head d st content.Bytes (length (bytes_at range c.0)) = head_is d (of_bytes c.0) head _ (long c.0 c.1) is in (
         c.0,
+        c.1,
         c.2,
         (
           c.3.0,
@@ -85,7 +107,70 @@ module _ (name : List ℕ) (size : ℕ) (d : Delivery) (head : List ℕ) (is : h
       )
 
   -- no more than a part of the head was written
-  pub head_written : (s : Sent) → HasSize size name os → (old new : Option (List ℕ)) → IsInPart head old new → FileSent delivered.WriteFault d name os old new × FileSent delivered.NoMemory d name os old new
+  pub head_written : (s : Sent) → HasSize range.size name os → (old new : Option (List ℕ)) → IsInPart head old new
+      → PartSent delivered.WriteFault d st name range os old new × PartSent delivered.NoMemory d st name range os old new
   head_written s there old new part =
-      let w = whole name size 0 os [] (omega arith) (read_none name size os there) in
-      let p = head_in_part d (file_response w.0) head size (sym w.1) is old new part in ((w.0, w.2, p), (w.0, w.2, p))
+      let w = whole name range.size 0 os [] (omega arith) (read_none name range.size os there) in
+      let p = head_in_part d (of_bytes w.0) head _ (long w.0 w.1) is old new part in ((w.0, w.1, w.2, p), (w.0, w.1, w.2, p))
+
+-- the range from the first byte to the last has all bytes
+all_bytes : (range : Range) (bytes : List ℕ) → range.first ≡ 0 → range.last + 1 ≡ length bytes → bytes_at range bytes ≡ bytes
+all_bytes range bytes first end =
+    let n : range.last + 1 - range.first ≡ length bytes = omega (arith, first, end) in
+    ap (λ (k : ℕ). take k (drop range.first bytes)) n ∙ ap (λ (k : ℕ). take (length bytes) (drop k bytes)) first ∙ take-length bytes
+
+pub all_written : (end : Delivered) (d : Delivery) (name : List ℕ) (range : Range) (size : ℕ) (os : Option Objects) (old new : Option (List ℕ))
+    → range.first ≡ 0 → range.last + 1 ≡ size → range.size ≡ size → PartSent end d (status.Ok None) name range os old new → AllSent end d name size os old new
+all_written end d name range size os old new first last of_size p =
+    let long : length p.0 ≡ size = p.1 ∙ of_size in
+    let all : bytes_at range p.0 ≡ p.0 = all_bytes range p.0 first (last ∙ sym long) in
+    (p.0, long, p.2, subst (λ (bytes : List ℕ). IsWritten end d (bytes_response (status.Ok None) bytes) old new) all p.3)
+
+-- what is sent of an object is what is picked of it
+module _ (end : Delivered) (d : Delivery) (name : List ℕ) (span : Option Span) (size : ℕ) (os : Option Objects) (old new : Option (List ℕ)) where
+  found_as : (p : Picked) → pick span size ≡ p → (bytes : List ℕ) → length bytes ≡ size → IsObject name os bytes → IsWritten end d (picked_response p bytes) old new → FileSent end d name span os old new
+  found_as p is bytes long object w =
+      (bytes, object, subst (λ (q : Picked). IsWritten end d (picked_response q bytes) old new) (sym (ap (pick span) long ∙ is)) w)
+
+  pub all_found : pick span size ≡ picked.Whole → AllSent end d name size os old new → FileSent end d name span os old new
+  all_found is p = found_as picked.Whole is p.0 p.1 p.2 p.3
+
+  pub part_found : (range : Range) → pick span size ≡ picked.Part range → range.size ≡ size → PartSent end d (status.PartialContent range) name range os old new → FileSent end d name span os old new
+  part_found range is of_size p = found_as (picked.Part range) is p.0 (p.1 ∙ of_size) p.2 p.3
+
+  pub out_found : pick span size ≡ picked.Out → HasSize size name os → IsWritten end d (out_response size) old new → FileSent end d name span os old new
+  out_found is there w =
+      let b = whole name size 0 os [] (omega arith) (read_none name size os there) in
+      found_as picked.Out is b.0 b.1 b.2 (subst (λ (n : ℕ). IsWritten end d (out_response n) old new) (sym b.1) w)
+
+-- an empty object has no byte
+pub empty_written : (end : Delivered) (d : Delivery) (name : List ℕ) (size : ℕ) (os : Option Objects) (old new : Option (List ℕ)) → size ≡ 0 → HasSize size name os → IsWritten end d (file_response []) old new → AllSent end d name size os old new
+empty_written end d name size os old new zero there w =
+    let b = whole name size 0 os [] (omega arith) (read_none name size os there) in
+    (b.0, b.1, b.2, subst (λ (bytes : List ℕ). IsWritten end d (file_response bytes) old new) (sym (nothing b.0 (b.1 ∙ zero))) w)
+
+-- ---- the range of all bytes
+
+module _ (size last : ℕ) (end : last ≡ size - 1) where
+  abbrev whole_range : Range
+  whole_range = record { first = 0; last = last; size = size }
+
+  all_by : (range : Range) (t : Bool) → (nat_le 0 last && nat_lt last size) ≡ t → cond t (Some whole_range) None ≡ Some range → (range.first ≡ 0) × (range.last + 1 ≡ size) × (range.size ≡ size)
+  all_by range true is e =
+      let same : whole_range ≡ range = same_range whole_range range e in
+      let lt : last < size = grind (arith, nat_tests, is) in
+      (sym (ap (λ (x : Range). x.first) same), sym (ap (λ (x : Range). x.last + 1) same) ∙ omega (arith, end, lt), sym (ap (λ (x : Range). x.size) same))
+    where
+      same_range : (x y : Range) → Some x ≡ Some y → x ≡ y
+      same_range x y e = cc
+  all_by range false is e = absurd cc
+
+  pub all_range : (range : Range) → cond (nat_le 0 last && nat_lt last size) (Some whole_range) None ≡ Some range → (range.first ≡ 0) × (range.last + 1 ≡ size) × (range.size ≡ size)
+  all_range range e = all_by range (nat_le 0 last && nat_lt last size) refl e
+
+  none_by : (t : Bool) → (nat_le 0 last && nat_lt last size) ≡ t → cond t (Some whole_range) None ≡ None → size ≡ 0
+  none_by true is e = absurd cc
+  none_by false is e = grind (arith, nat_tests, is, end)
+
+  pub no_range : cond (nat_le 0 last && nat_lt last size) (Some whole_range) None ≡ None → size ≡ 0
+  no_range e = none_by (nat_le 0 last && nat_lt last size) refl e

@@ -30,7 +30,8 @@ use Rattle.share_catalog.specs.Views as catalog
 use Rattle.share_catalog.specs.declared.credential.Credential.{Credential}
 use Rattle.share_catalog.specs.declared.table_name.TableName.{TableName}
 use Rattle.signed_link.specs.declared.parts.LinkParts.{LinkParts}
-use Rattle.share_reply.specs.Answer.{Answer, object, of, page}
+use Rattle.file_ranges.specs.declared.span.Span.{Span}
+use Rattle.share_reply.specs.Answer.{Answer, of, of_object, page}
 use Rattle.share_reply.specs.Asking.{ask_by, asked_at, feed_by as part_by, feed_part, first_bound, last_bound}
 use Rattle.share_reply.specs.Feeds as feeds
 use Rattle.share_reply.specs.Feeds.{ChangesQuery, FeedStart, agrees, feed_from, feed_page, feed_with, first_start, later_feed, or_off, or_unsupported, page_of_feed, start_at}
@@ -136,27 +137,27 @@ changes_are_given = record { first = first_given; later = later_given }
 -- ---- links
 
 -- what is answered to a link that was read so
-abbrev pub to_link : List Entry → ℕ → Option LinkParts → Answer
-to_link point now o = of object (linked_object (option_and_then (seen_in (option_and_then (view_asked point) (ask_by o))) (ask_by o)) now o)
+abbrev pub to_link : List Entry → ℕ → Option Span → Option LinkParts → Answer
+to_link point now span o = of_object span (linked_object (option_and_then (seen_in (option_and_then (view_asked point) (ask_by o))) (ask_by o)) now o)
 
 pub same_number : (n m : ℕ) → m ≡ n → (n == m) ≡ true
 same_number n m e = grind (arith, nat_tests, e)
 
 pub links_are_given : LinksAreGiven
-links_are_given keys point now target name is =
+links_are_given keys point now r name is =
     let link : LinkParts = is.link in
     let w = want.Table link.table part.Place in
     let spot = spot_at point link.recipient link.table is.stands.shares in
     let fresh : nat_le link.expires now ≡ false = (let before = is.is_fresh in grind (arith, nat_tests, before)) in
     let seen = found_in found_of (view_at point link.recipient is.stands.credential) w in
-    ap (to_link point now) is.is_link
+    ap (to_link point now r.span) is.is_link
     ∙ ap
-    (λ (o : Option Credential). of object (linked_object (look_of (option_map (view_with (edits point) (log_at point)) (option_map (catalog.view_with (edits point) link.recipient) o)) w) now (Some link)))
+    (λ (o : Option Credential). of_object r.span (linked_object (look_of (option_map (view_with (edits point) (log_at point)) (option_map (catalog.view_with (edits point) link.recipient) o)) w) now (Some link)))
     is.stands.is_credential
-    ∙ ap (λ (b : Bool). of object (where_all ((not b, LinkExpired) ∷ []) (object_in link seen))) fresh
-    ∙ ap (λ (f : Found). of object (object_in link f)) (table_is point link.recipient is.stands.credential link.table part.Place is.stands.shares)
+    ∙ ap (λ (b : Bool). of_object r.span (where_all ((not b, LinkExpired) ∷ []) (object_in link seen))) fresh
+    ∙ ap (λ (f : Found). of_object r.span (object_in link f)) (table_is point link.recipient is.stands.credential link.table part.Place is.stands.shares)
     ∙ ap
-    (of object)
+    (of_object r.span)
     (passes (spot.grant == link.grant && spot.binding == link.binding) LinkRevoked [] (object_or (name_under spot.location link.path))
     (λ i. same_number spot.grant link.grant is.stands.grant i && same_number spot.binding link.binding is.stands.binding i))
-    ∙ ap (λ (o : Option (List ℕ)). of object (object_or o)) is.is_name
+    ∙ ap (λ (o : Option (List ℕ)). of_object r.span (object_or o)) is.is_name

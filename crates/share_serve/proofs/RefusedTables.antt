@@ -36,7 +36,8 @@ use Rattle.share_request.specs.declared.asked.What.{What}
 use Rattle.share_request.specs.declared.asked.What.TheVariants as what
 use Rattle.signed_link.specs.Parts.{parts_of}
 use Rattle.signed_link.specs.declared.parts.LinkParts.{LinkParts}
-use Rattle.share_reply.specs.Answer.{Answer, Page, at_version, object, of, page, refused}
+use Rattle.file_ranges.specs.declared.span.Span.{Span}
+use Rattle.share_reply.specs.Answer.{Answer, Page, at_version, object, of, of_object, page, refused}
 use Rattle.share_reply.specs.Asking.{asked_at, from_bound, last_bound, want_of}
 use Rattle.share_reply.specs.Files.{metadata_page, refused_for, version_in}
 use Rattle.share_reply.specs.Links.{object_by, object_in, object_or}
@@ -160,8 +161,8 @@ versions_have_causes = record { version = version_cause; metadata = metadata_cau
 
 -- ---- links
 
-object_apart : (name : List ℕ) (x : Refused) (P : Type 0) → object name ≡ refused x → P
-object_apart name x P e = absurd cc
+object_apart : (name : List ℕ) (span : Option Span) (x : Refused) (P : Type 0) → object name span ≡ refused x → P
+object_apart name span x P e = absurd cc
 
 equal_numbers : (n m : ℕ) → (n == m) ≡ true → m ≡ n
 equal_numbers n m e = grind (arith, nat_tests, e)
@@ -171,7 +172,7 @@ both true true e = (refl, refl)
 both true false e = absurd cc
 both false b e = absurd cc
 
-module _ (point : List Entry) (now : ℕ) (link : LinkParts) (x : Refused) where
+module _ (point : List Entry) (now : ℕ) (span : Option Span) (link : LinkParts) (x : Refused) where
   abbrev grant_now : ℕ
   grant_now = grant_edition (edits point) link.recipient link.table.share
 
@@ -184,23 +185,23 @@ module _ (point : List Entry) (now : ℕ) (link : LinkParts) (x : Refused) where
   revoked : (Stands point link → ⊥) → refused (plain refusal.LinkRevoked) ≡ refused x → LinkCause point now link x
   revoked falls e = inr (inl (refused_same (plain refusal.LinkRevoked) x e, falls))
 
-  by_object : (s : Stands point link) (o : Option (List ℕ)) → name_under s.shares.binding.location link.path ≡ o → of object (object_or o) ≡ refused x → LinkCause point now link x
-  by_object s (Some name) is e = object_apart name x (LinkCause point now link x) e
+  by_object : (s : Stands point link) (o : Option (List ℕ)) → name_under s.shares.binding.location link.path ≡ o → of_object span (object_or o) ≡ refused x → LinkCause point now link x
+  by_object s (Some name) is e = object_apart name span x (LinkCause point now link x) e
   by_object s None is e = inr (inr (refused_same (plain refusal.FileGone) x e, (s, is)))
 
   by_editions : (c : Credential) (t : Shares point link.recipient link.table) (b : Bool) → catalogue.credential (edits point) link.recipient ≡ Some c → holds ≡ b
-      → of object (where_all ((b, refusal.LinkRevoked) ∷ []) (object_or (name_under t.binding.location link.path))) ≡ refused x → LinkCause point now link x
+      → of_object span (where_all ((b, refusal.LinkRevoked) ∷ []) (object_or (name_under t.binding.location link.path))) ≡ refused x → LinkCause point now link x
   by_editions c t true is same e =
       let so = both (grant_now == link.grant) (binding_now == link.binding) same in
       by_object (record { credential = c; is_credential = is; shares = t; grant = equal_numbers grant_now link.grant so.0; binding = equal_numbers binding_now link.binding so.1 }) (name_under t.binding.location link.path) refl e
   by_editions c t false is same e =
       revoked (λ s. true≢false (sym (λ i. same_number grant_now link.grant s.grant i && same_number binding_now link.binding s.binding i) ∙ same)) e
 
-  by_table : (c : Credential) → catalogue.credential (edits point) link.recipient ≡ Some c → of object (object_in link (found_in found_of (view_at point link.recipient c) (want.Table link.table part.Place))) ≡ refused x → LinkCause point now link x
+  by_table : (c : Credential) → catalogue.credential (edits point) link.recipient ≡ Some c → of_object span (object_in link (found_in found_of (view_at point link.recipient c) (want.Table link.table part.Place))) ≡ refused x → LinkCause point now link x
   by_table c is e =
       elim (shares_or point link.recipient link.table) as (λ s. LinkCause point now link x) [
-        | inl t ↦ by_editions c t holds is refl (sym (ap (λ (f : Found). of object (object_in link f)) (table_is point link.recipient c link.table part.Place t)) ∙ e)
-        | inr hidden ↦ revoked (λ s. not_shared point link.recipient link.table hidden s.shares) (sym (ap (λ (f : Found). of object (object_in link f)) (hidden_is point link.recipient c link.table part.Place hidden)) ∙ e)
+        | inl t ↦ by_editions c t holds is refl (sym (ap (λ (f : Found). of_object span (object_in link f)) (table_is point link.recipient c link.table part.Place t)) ∙ e)
+        | inr hidden ↦ revoked (λ s. not_shared point link.recipient link.table hidden s.shares) (sym (ap (λ (f : Found). of_object span (object_in link f)) (hidden_is point link.recipient c link.table part.Place hidden)) ∙ e)
       ]
 
   nobody : (c : Credential) → catalogue.credential (edits point) link.recipient ≡ None → catalogue.credential (edits point) link.recipient ≡ Some c → ⊥
@@ -210,20 +211,20 @@ module _ (point : List Entry) (now : ℕ) (link : LinkParts) (x : Refused) where
       apart e = cc
 
   by_recipient : (o : Option Credential) → catalogue.credential (edits point) link.recipient ≡ o
-      → of object (object_by link (look_of (option_map (view_with (edits point) (log_at point)) (option_map (catalog.view_with (edits point) link.recipient) o)) (want.Table link.table part.Place))) ≡ refused x → LinkCause point now link x
+      → of_object span (object_by link (look_of (option_map (view_with (edits point) (log_at point)) (option_map (catalog.view_with (edits point) link.recipient) o)) (want.Table link.table part.Place))) ≡ refused x → LinkCause point now link x
   by_recipient None is e = revoked (λ s. nobody s.credential is s.is_credential) e
   by_recipient (Some c) is e = by_table c is e
 
   by_end : (b : Bool) → nat_le link.expires now ≡ b
-      → of object (where_all ((not b, refusal.LinkExpired) ∷ []) (object_by link (look_of (option_map (view_with (edits point) (log_at point)) (option_map (catalog.view_with (edits point) link.recipient) (catalogue.credential (edits point) link.recipient))) (want.Table link.table part.Place)))) ≡ refused x
+      → of_object span (where_all ((not b, refusal.LinkExpired) ∷ []) (object_by link (look_of (option_map (view_with (edits point) (log_at point)) (option_map (catalog.view_with (edits point) link.recipient) (catalogue.credential (edits point) link.recipient))) (want.Table link.table part.Place)))) ≡ refused x
       → LinkCause point now link x
   by_end true is e = inl (refused_same (plain refusal.LinkExpired) x e, grind (arith, nat_tests, is))
   by_end false is e = by_recipient (catalogue.credential (edits point) link.recipient) refl e
 
-by_parts : (keys : ReplyKeys) (point : List Entry) (now : ℕ) (target : List ℕ) (x : Refused) (o : Option LinkParts) → parts_of keys.link target ≡ o → to_link point now o ≡ refused x
+by_parts : (keys : ReplyKeys) (point : List Entry) (now : ℕ) (span : Option Span) (target : List ℕ) (x : Refused) (o : Option LinkParts) → parts_of keys.link target ≡ o → to_link point now span o ≡ refused x
     → ((x ≡ plain refusal.LinkInvalid) × (parts_of keys.link target ≡ None)) ⊎ ((link : LinkParts) × (parts_of keys.link target ≡ Some link) × LinkCause point now link x)
-by_parts keys point now target x None is e = inl (refused_same (plain refusal.LinkInvalid) x e, is)
-by_parts keys point now target x (Some link) is e = inr (link, is, by_end point now link x (nat_le link.expires now) refl e)
+by_parts keys point now span target x None is e = inl (refused_same (plain refusal.LinkInvalid) x e, is)
+by_parts keys point now span target x (Some link) is e = inr (link, is, by_end point now span link x (nat_le link.expires now) refl e)
 
 pub links_have_causes : LinksHaveCauses
-links_have_causes keys point now target x e = by_parts keys point now target x (parts_of keys.link target) refl e
+links_have_causes keys point now r x e = by_parts keys point now r.span r.target x (parts_of keys.link r.target) refl e

@@ -8,6 +8,7 @@ use Rattle.share_serve.specs.Responses.{status_by}
 
 by_code : (allowed : Method) (s : Status) → IsBare allowed s → s ≡ status_by allowed (code s)
 by_code allowed (status.Ok v) is = ap status.Ok is
+by_code allowed (status.PartialContent range) is = absurd is
 by_code allowed status.BadRequest is = refl
 by_code allowed status.Unauthorized is = refl
 by_code allowed status.Forbidden is = refl
@@ -15,6 +16,7 @@ by_code allowed status.NotFound is = refl
 by_code allowed (status.MethodNotAllowed m) is = ap status.MethodNotAllowed is
 by_code allowed status.Conflict is = refl
 by_code allowed status.ContentTooLarge is = refl
+by_code allowed (status.RangeNotSatisfiable size) is = ap status.RangeNotSatisfiable is
 by_code allowed status.RequestHeaderFieldsTooLarge is = refl
 by_code allowed status.InternalServerError is = refl
 by_code allowed status.NotImplemented is = refl

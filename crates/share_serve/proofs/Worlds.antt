@@ -1,6 +1,7 @@
 -- Two worlds in which the same is visible.
 use Rattle.std.proofs.Common.{◌≡◌, ℕ, suc, List, [], ◌∷◌, length, map, Option, Some, refl, sym, ap, ◌∙◌, subst}
 use Rattle.share_book.specs.Views.{View}
+use Rattle.file_ranges.specs.declared.span.Span.{Span}
 use Rattle.share_reply.specs.Answer.{Answer, at_version, names, object, one_share, only, page, refused}
 use Rattle.share_reply.specs.Bodies.{reply_of}
 use Rattle.share_reply.specs.Replies.{answered, answered_at, view_for}
@@ -21,14 +22,14 @@ pub same_some : {A : Type 0} (x y : A) → Some x ≡ Some y → x ≡ y
 same_some x y e = cc
 
 -- one answer has one response, but for an object's
-one_response : (server : Server) (a : Answer) (r r' : Response) (old new old' new' : Shelf) → ((name : List ℕ) → a ≡ object name → r ≡ r') → ReplyIs (reply_of server.keys a) r old new → ReplyIs (reply_of server.keys a) r' old' new' → r ≡ r'
+one_response : (server : Server) (a : Answer) (r r' : Response) (old new old' new' : Shelf) → ((name : List ℕ) (span : Option Span) → a ≡ object name span → r ≡ r') → ReplyIs (reply_of server.keys a) r old new → ReplyIs (reply_of server.keys a) r' old' new' → r ≡ r'
 one_response server (refused x) r r' old new old' new' o p q = same_some r r' (sym p.0 ∙ q.0)
 one_response server (only m) r r' old new old' new' o p q = same_some r r' (sym p.0 ∙ q.0)
 one_response server (names n) r r' old new old' new' o p q = same_some r r' (sym p.0 ∙ q.0)
 one_response server (one_share s) r r' old new old' new' o p q = same_some r r' (sym p.0 ∙ q.0)
 one_response server (at_version v) r r' old new old' new' o p q = same_some r r' (sym p.0 ∙ q.0)
 one_response server (page g) r r' old new old' new' o p q = same_some r r' (sym p.0 ∙ q.0)
-one_response server (object name) r r' old new old' new' o p q = o name refl
+one_response server (object name span) r r' old new old' new' o p q = o name span refl
 
 -- a recipient's answer
 view_reply : (server : Server) (asked : Request) (moment : ℕ) (r : Response) (old new : Hold) → by_request server asked ≡ by.view → Answers server asked moment r old new → ReplyIs (reply_of server.keys (answered_at server.keys new.pass.seen moment asked)) r old.shelf new.shelf

@@ -83,4 +83,4 @@ by_party party.Administrator server r = where_known (bytes_eq server.admin r.dig
 abbrev pub by_request : Server → Request → By
 by_request server (request.TurnedAway why) = view
 by_request server (request.ByToken r) = by_party (party_of r.route) server r
-by_request server (request.ByLink target) = view
+by_request server (request.ByLink r) = view

@@ -5,6 +5,8 @@ use Rattle.case_table.specs.declared.routing.Route.{Route}
 use Rattle.change_feed.specs.Changes.{ChangedFile}
 use Rattle.change_feed.specs.Feed.{feed_of}
 use Rattle.edge_core.specs.Objects.{Objects}
+use Rattle.file_ranges.specs.Picks.{asked}
+use Rattle.file_ranges.specs.declared.span.Span.{Span}
 use Rattle.log_actions.specs.Paths.{name_under}
 use Rattle.log_replay.specs.State.{State, state_of}
 use Rattle.log_replay.specs.declared.times.Bound.{Bound}
@@ -26,6 +28,7 @@ use Rattle.share_catalog.specs.declared.credential.Credential.{Credential}
 use Rattle.share_catalog.specs.declared.edit.Binding.{Binding}
 use Rattle.share_catalog.specs.declared.table_name.TableName.{TableName}
 use Rattle.share_request.specs.declared.asked.Bound.{Bound as At}
+use Rattle.share_request.specs.declared.asked.ByLink.{ByLink}
 use Rattle.share_request.specs.declared.asked.ListPage.{ListPage}
 use Rattle.share_request.specs.declared.asked.Request.{Request}
 use Rattle.share_request.specs.declared.asked.Request.TheVariants as request
@@ -47,7 +50,7 @@ use Rattle.response_text.specs.declared.status.Status.TheVariants as status
 use Rattle.share_serve.specs.Callers.{by_request, party_of}
 use Rattle.share_serve.specs.Callers as by
 use Rattle.share_serve.specs.Laws.{answer_at, request_of}
-use Rattle.share_serve.specs.Responses.{file_response, response_of}
+use Rattle.share_serve.specs.Responses.{object_response, out_response, response_of}
 use Rattle.share_serve.specs.Turns.{Serves, Turn}
 use Rattle.share_serve.specs.Turns as turns
 use Rattle.share_serve.specs.WholeSessions.{Stays}
@@ -203,9 +206,9 @@ pub record IsLink (keys : ReplyKeys) (point : List Entry) (now : ℕ) (target na
   pub stands : Stands point link
   pub is_name : name_under stands.shares.binding.location link.path ≡ Some name
 
--- Such a link is answered with its object.
+-- Such a link is answered with its object, or with the part of it that is asked for.
 abbrev pub LinksAreGiven : Type 0
-LinksAreGiven = (keys : ReplyKeys) (point : List Entry) (now : ℕ) (target name : List ℕ) → IsLink keys point now target name → answered_at keys point now (request.ByLink target) ≡ object name
+LinksAreGiven = (keys : ReplyKeys) (point : List Entry) (now : ℕ) (r : ByLink) (name : List ℕ) → IsLink keys point now r.target name → answered_at keys point now (request.ByLink r) ≡ object name r.span
 
 -- ---- in a session
 
@@ -219,7 +222,22 @@ abbrev pub TurnsAreGiven : Type 0
 TurnsAreGiven = (server : Server) (old new : turns.State) (t : Turn) (a : Asking) (w : What) (version : Option ℕ) → Serves server old t new → request_of t ≡ request_for a w → party_of a.route ≡ party.Recipient → a.keys ≡ server.keys
     → a.point ≡ t.point → a.now ≡ t.moment → IsGiven a w version → t.response.status ≡ status.Ok version
 
--- A link's object is given whole, with 200, where the store has it and didn't fail.
+-- A turn by a link that holds, whose object the store has in these bytes, and didn't fail.
+pub record GivesObject (server : Server) (old new : turns.State) (t : Turn) (r : ByLink) (bytes : List ℕ) : Type 0 where
+  pub serves : Serves server old t new
+  pub asks : request_of t ≡ request.ByLink r
+  pub name : List ℕ
+  pub is_link : IsLink server.keys t.point t.moment r.target name
+  pub objects : Objects
+  pub told : new.side.hold.shelf.objects ≡ Some objects
+  pub has : maps.get objects name ≡ Some bytes
+  pub stays : Stays old.side.hold.shelf.faults new.side.hold.shelf.faults
+
+-- Such an object is given whole, with 200, or in the part that is asked for, with 206, or it has no such part.
 abbrev pub ObjectsAreGiven : Type 0
-ObjectsAreGiven = (server : Server) (old new : turns.State) (t : Turn) (target name bytes : List ℕ) (objects : Objects) → Serves server old t new → request_of t ≡ request.ByLink target → IsLink server.keys t.point t.moment target name
-    → new.side.hold.shelf.objects ≡ Some objects → maps.get objects name ≡ Some bytes → Stays old.side.hold.shelf.faults new.side.hold.shelf.faults → t.response ≡ file_response bytes
+ObjectsAreGiven = (server : Server) (old new : turns.State) (t : Turn) (r : ByLink) (bytes : List ℕ) → GivesObject server old new t r bytes → t.response ≡ object_response r.span bytes
+
+-- So where a part is asked for, the body has the bytes that are asked for, none more and none fewer; or there is none of them, and that is told with the size.
+abbrev pub PartsAreGiven : Type 0
+PartsAreGiven = (server : Server) (old new : turns.State) (t : Turn) (r : ByLink) (span : Span) (bytes : List ℕ) → GivesObject server old new t r bytes → r.span ≡ Some span
+    → (t.response.body ≡ asked span bytes) ⊎ ((asked span bytes ≡ []) × (t.response ≡ out_response (length bytes)))

@@ -1,7 +1,8 @@
 -- Laws of sessions, over the definitions alone.
-use Rattle.std.specs.Prelude.{◌≡◌, ◌<◌, ◌^◌, ℕ, ◌+◌, List, [], ◌∷◌, ◌++◌, map, length, Some, ⊤}
+use Rattle.std.specs.Prelude.{◌≡◌, ◌<◌, ◌^◌, ℕ, ◌+◌, List, [], ◌∷◌, ◌++◌, map, length, Option, Some, ⊤}
 use Rattle.std.specs.Io.KnownBytes.{append_known}
 use mathlib.Core.List.{IsPrefix}
+use Rattle.file_ranges.specs.declared.span.Span.{Span}
 use Rattle.http_message.specs.Sessions.{ReadsRequests, Request as Message}
 use Rattle.share_book.specs.declared.entry.Entry.{Entry}
 use Rattle.share_reply.specs.Replies.{answered_at, view_for}
@@ -80,7 +81,7 @@ answer_at server t = answered_at server.keys t.point t.moment (request_of t)
 pub record SeesTheSame (server : Server) (t t' : Turn) : Type 0 where
   pub recipient : by_request server (request_of t) ≡ by.view
   pub view : view_for server.keys (request_of t) t.point ≡ view_for server.keys (request_of t) t'.point
-  pub object : (name : List ℕ) → answer_at server t ≡ object name → t.response ≡ t'.response
+  pub object : (name : List ℕ) (span : Option Span) → answer_at server t ≡ object name span → t.response ≡ t'.response
 
 -- the same of each request
 abbrev pub SeeTheSame : Server → List Turn → List Turn → Type 0

@@ -25,6 +25,7 @@ use Rattle.share_book.specs.declared.entry.Entry.{Entry}
 use Rattle.share_catalog.specs.declared.table_name.TableName.{TableName}
 use Rattle.share_request.specs.Faults.{fault_detail, fault_refusal}
 use Rattle.share_request.specs.declared.asked.Bound.{Bound as At}
+use Rattle.share_request.specs.declared.asked.ByLink.{ByLink}
 use Rattle.share_request.specs.declared.asked.ListPage.{ListPage}
 use Rattle.share_request.specs.declared.asked.Request.TheVariants as request
 use Rattle.share_request.specs.declared.asked.What.{What}
@@ -176,5 +177,5 @@ LinkCause point now link x =
     ⊎ ((x ≡ plain refusal.FileGone) × ((s : Stands point link) × (name_under s.shares.binding.location link.path ≡ None))))
 
 abbrev pub LinksHaveCauses : Type 0
-LinksHaveCauses = (keys : ReplyKeys) (point : List Entry) (now : ℕ) (target : List ℕ) (x : Refused) → answered_at keys point now (request.ByLink target) ≡ refused x
-    → ((x ≡ plain refusal.LinkInvalid) × (parts_of keys.link target ≡ None)) ⊎ ((link : LinkParts) × (parts_of keys.link target ≡ Some link) × LinkCause point now link x)
+LinksHaveCauses = (keys : ReplyKeys) (point : List Entry) (now : ℕ) (r : ByLink) (x : Refused) → answered_at keys point now (request.ByLink r) ≡ refused x
+    → ((x ≡ plain refusal.LinkInvalid) × (parts_of keys.link r.target ≡ None)) ⊎ ((link : LinkParts) × (parts_of keys.link r.target ≡ Some link) × LinkCause point now link x)

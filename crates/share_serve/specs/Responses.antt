@@ -1,5 +1,10 @@
 -- Responses, and their texts (RFC 9112, section 2.1; Delta Sharing PROTOCOL.md, "REST APIs").
 use Rattle.std.specs.Prelude.{ℕ, Bool, true, false, ◌==◌, List, [], ◌++◌, Option, Some, None, length, if◌then◌else◌}
+use Rattle.file_ranges.specs.Picks.{pick}
+use Rattle.file_ranges.specs.Ranges.{Range, bytes_at}
+use Rattle.file_ranges.specs.declared.pick.Picked.{Picked}
+use Rattle.file_ranges.specs.declared.pick.Picked.TheVariants as picked
+use Rattle.file_ranges.specs.declared.span.Span.{Span}
 use Rattle.case_table.specs.Refusals.{refusal_row}
 use Rattle.case_table.specs.declared.refuse.Refusal.TheVariants as refusal
 use Rattle.case_table.specs.declared.routing.Method.{Method}
@@ -17,7 +22,7 @@ use Rattle.share_reply.specs.declared.plan.Plan.TheVariants as plan
 use Rattle.share_serve.specs.declared.response.Delivery.{Delivery}
 use Rattle.share_serve.specs.declared.response.Response.{Response}
 
--- The status of a code (RFC 9110, section 15), which tells no version; that of a wrong method tells the one that is allowed.
+-- The status of a code (RFC 9110, section 15), which tells no version and no size; that of a wrong method tells those that are allowed.
 abbrev pub status_by : Method → ℕ → Status
 status_by allowed code =
     if code == 400 then status.BadRequest
@@ -27,11 +32,12 @@ status_by allowed code =
     else (if code == 405 then status.MethodNotAllowed allowed
     else (if code == 409 then status.Conflict
     else (if code == 413 then status.ContentTooLarge
+    else (if code == 416 then status.RangeNotSatisfiable None
     else (if code == 431 then status.RequestHeaderFieldsTooLarge
     else (if code == 500 then status.InternalServerError
     else (if code == 501 then status.NotImplemented
     else (if code == 503 then status.ServiceUnavailable
-    else status.Ok None))))))))))
+    else status.Ok None)))))))))))
 
 -- a refusal, by the table of refusals
 abbrev pub refusal_with : Method → Refused → Response
@@ -53,8 +59,30 @@ version_response v = record { status = status.Ok (Some v); form = content.Json; 
 abbrev pub lines_response : ℕ → List ℕ → Response
 lines_response v text = record { status = status.Ok (Some v); form = content.JsonLines; body = text }
 
+-- bytes of an object
+abbrev pub bytes_response : Status → List ℕ → Response
+bytes_response s bytes = record { status = s; form = content.Bytes; body = bytes }
+
+-- all of them
 abbrev pub file_response : List ℕ → Response
-file_response bytes = record { status = status.Ok None; form = content.Bytes; body = bytes }
+file_response bytes = bytes_response (status.Ok None) bytes
+
+-- a part of them (RFC 9110, section 15.3.7)
+abbrev pub part_response : Range → List ℕ → Response
+part_response range bytes = bytes_response (status.PartialContent range) (bytes_at range bytes)
+
+-- there is none of those that are asked for: how many there are is told (RFC 9110, section 15.5.17)
+abbrev pub out_response : ℕ → Response
+out_response size = record { status = status.RangeNotSatisfiable (Some size); form = content.Json; body = error_body refusal.RangeNotSatisfiable [] }
+
+abbrev pub picked_response : Picked → List ℕ → Response
+picked_response picked.Whole bytes = file_response bytes
+picked_response (picked.Part range) bytes = part_response range bytes
+picked_response picked.Out bytes = out_response (length bytes)
+
+-- of an object of these bytes, by which of them are asked for
+abbrev pub object_response : Option Span → List ℕ → Response
+object_response span bytes = picked_response (pick span (length bytes)) bytes
 
 -- The response that a recipient's reply is; that of an object waits for its bytes.
 abbrev pub response_of : Plan → Option Response
@@ -63,7 +91,7 @@ response_of (plan.Only allowed) = Some (only_response allowed)
 response_of (plan.Json text) = Some (json_response text)
 response_of (plan.Version v) = Some (version_response v)
 response_of (plan.Lines v lines) = Some (lines_response v (body_text lines))
-response_of (plan.File name) = None
+response_of (plan.File name span) = None
 
 -- ---- texts
 

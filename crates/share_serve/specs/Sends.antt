@@ -6,7 +6,10 @@ use Rattle.std.specs.declared.alloc.AllocError.{AllocError}
 use mathlib.Core.List.{IsPrefix}
 use Rattle.edge_core.specs.Faults.{Rose}
 use Rattle.edge_core.specs.Objects.{Objects}
-use Rattle.share_serve.specs.Responses.{body_sent, file_response, response_head, response_text}
+use Rattle.file_ranges.specs.Ranges.{Range, bytes_at}
+use Rattle.file_ranges.specs.declared.span.Span.{Span}
+use Rattle.response_text.specs.declared.status.Status.{Status}
+use Rattle.share_serve.specs.Responses.{body_sent, bytes_response, file_response, object_response, response_head, response_text}
 use Rattle.share_serve.specs.Turns.{IsObject}
 use Rattle.share_serve.specs.declared.response.Delivery.{Delivery}
 use Rattle.share_serve.specs.declared.response.Response.{Response}
@@ -73,10 +76,14 @@ delivered_of sent.NoMemory = delivered.NoMemory
 abbrev pub HasSize : ℕ → List ℕ → Option Objects → Type 0
 HasSize size name objects = IfSome objects (λ os. (bytes : List ℕ) × (map.get os name ≡ Some bytes) × (length bytes ≡ size))
 
--- the first bytes of an object of that size were read
+-- the first bytes of an object of that size were read, or passed over
 pub record HasRead (name : List ℕ) (size at : ℕ) (objects : Option Objects) (part : List ℕ) : Type 0 where
   pub count : length part ≡ at
   pub told : IfSome objects (λ os. (bytes : List ℕ) × (map.get os name ≡ Some bytes) × (length bytes ≡ size) × (part ≡ take at bytes))
+
+-- The bytes of a range were passed over up to its first, and from there on read.
+abbrev pub HasReadOf : (name : List ℕ) → Range → (at : ℕ) → Option Objects → (given : List ℕ) → Type 0
+HasReadOf name range at objects given = (before : List ℕ) × (length before ≡ range.first) × HasRead name range.size at objects (before ++ given)
 
 -- all bytes were written; or a part; or so many, and then the store had no more of them
 abbrev pub CopiedPart : Copied → List ℕ → Option (List ℕ) → Option (List ℕ) → Type 0
@@ -84,9 +91,9 @@ CopiedPart copied.Whole bytes old new = new ≡ append_known old bytes
 CopiedPart copied.WriteFault bytes old new = IsInPart bytes old new
 CopiedPart (copied.Cut sent) bytes old new = (part : List ℕ) × IsPrefix part bytes × (length part ≡ sent) × (sent < length bytes) × (new ≡ append_known old part)
 
--- The bytes are the object's. A store that doesn't tell has some of that size that begin with what it gave.
-abbrev pub IsCopied : Copied → List ℕ → ℕ → Option Objects → Option (List ℕ) → Option (List ℕ) → Type 0
-IsCopied r name size objects old new = (bytes : List ℕ) × (length bytes ≡ size) × IsObject name objects bytes × CopiedPart r bytes old new
+-- The bytes are those of a range of the object's. A store that doesn't tell has some of that size in which what it gave stands there.
+abbrev pub IsCopied : Copied → List ℕ → Range → Option Objects → Option (List ℕ) → Option (List ℕ) → Type 0
+IsCopied r name range objects old new = (bytes : List ℕ) × (length bytes ≡ range.size) × IsObject name objects bytes × CopiedPart r (bytes_at range bytes) old new
 
 -- a copy is cut only where the store's count rose, or, where it doesn't tell, by its answer
 abbrev pub HasCopyCause : Copied → Option Objects → (n m a b : ℕ) → Type 0
@@ -94,16 +101,26 @@ HasCopyCause copied.Whole objects n m a b = ⊤
 HasCopyCause copied.WriteFault objects n m a b = Rose a b
 HasCopyCause (copied.Cut sent) objects n m a b = IfSome objects (λ _. Rose n m)
 
--- what was written of a body that an object of that size is, where there is to be one
+-- what was written of a body, where there is to be one
 abbrev pub BodySent : Delivered → Bool → List ℕ → Option (List ℕ) → Option (List ℕ) → Type 0
 BodySent delivered.Whole to_head bytes w w' = w' ≡ append_known w (body_sent to_head bytes)
 BodySent delivered.WriteFault to_head bytes w w' = IsInPart (body_sent to_head bytes) w w'
 BodySent delivered.NoMemory to_head bytes w w' = IsInPart (body_sent to_head bytes) w w'
 BodySent (delivered.Cut n) to_head bytes w w' = (part : List ℕ) × IsPrefix part bytes × (length part ≡ n) × (n < length bytes) × (w' ≡ append_known w part)
 
-abbrev pub CopySent : Delivered → Bool → List ℕ → ℕ → Option Objects → Option (List ℕ) → Option (List ℕ) → Type 0
-CopySent r to_head name size objects w w' = (bytes : List ℕ) × (length bytes ≡ size) × IsObject name objects bytes × BodySent r to_head bytes w w'
+-- the same of a body that is a range of an object
+abbrev pub CopySent : Delivered → Bool → List ℕ → Range → Option Objects → Option (List ℕ) → Option (List ℕ) → Type 0
+CopySent r to_head name range objects w w' = (bytes : List ℕ) × (length bytes ≡ range.size) × IsObject name objects bytes × BodySent r to_head (bytes_at range bytes) w w'
 
--- what was written of the response that has an object's bytes
-abbrev pub FileSent : Delivered → Delivery → List ℕ → Option Objects → Option (List ℕ) → Option (List ℕ) → Type 0
-FileSent r d name objects w w' = (bytes : List ℕ) × IsObject name objects bytes × IsWritten r d (file_response bytes) w w'
+-- what was written of the response of that status that has a range of an object
+abbrev pub PartSent : Delivered → Delivery → Status → List ℕ → Range → Option Objects → Option (List ℕ) → Option (List ℕ) → Type 0
+PartSent r d s name range objects w w' =
+    (bytes : List ℕ) × (length bytes ≡ range.size) × IsObject name objects bytes × IsWritten r d (bytes_response s (bytes_at range bytes)) w w'
+
+-- the same of the response that has all bytes of an object of that size
+abbrev pub AllSent : Delivered → Delivery → List ℕ → ℕ → Option Objects → Option (List ℕ) → Option (List ℕ) → Type 0
+AllSent r d name size objects w w' = (bytes : List ℕ) × (length bytes ≡ size) × IsObject name objects bytes × IsWritten r d (file_response bytes) w w'
+
+-- what was written of the response that an object is, by which of its bytes are asked for
+abbrev pub FileSent : Delivered → Delivery → List ℕ → Option Span → Option Objects → Option (List ℕ) → Option (List ℕ) → Type 0
+FileSent r d name span objects w w' = (bytes : List ℕ) × IsObject name objects bytes × IsWritten r d (object_response span bytes) w w'

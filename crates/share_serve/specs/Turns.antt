@@ -8,6 +8,7 @@ use Rattle.edge_core.specs.Faults.{Cause, Rose}
 use Rattle.edge_core.specs.Objects.{Grows, Lacks, Objects}
 use Rattle.case_table.specs.declared.refuse.Refusal.TheVariants as refusal
 use Rattle.commit_check.specs.declared.offer.Offer.{Offer}
+use Rattle.file_ranges.specs.declared.span.Span.{Span}
 use Rattle.http_message.specs.Messages.{ReadsMessage}
 use Rattle.http_message.specs.Messages as reading
 use Rattle.http_message.specs.Sessions.{Request as Message}
@@ -34,7 +35,7 @@ use Rattle.share_request.specs.declared.asked.Request.{Request}
 use Rattle.share_serve.specs.Callers.{By, by_request}
 use Rattle.share_serve.specs.Callers as by
 use Rattle.share_serve.specs.Providers.{commit_response, edit_response, refresh_response}
-use Rattle.share_serve.specs.Responses.{file_response, refusal_response, response_of, response_text}
+use Rattle.share_serve.specs.Responses.{object_response, refusal_response, response_of, response_text}
 use Rattle.share_serve.specs.declared.response.Delivery.{Delivery}
 use Rattle.share_serve.specs.declared.response.Response.{Response}
 use Rattle.share_serve.specs.declared.server.Server.{Server}
@@ -65,16 +66,17 @@ pub record Grew (old new : Hold) : Type 0 where
 abbrev pub IsObject : List ℕ → Option Objects → List ℕ → Type 0
 IsObject name objects bytes = IfSome objects (λ os. map.get os name ≡ Some bytes)
 
--- a link's object: its bytes, or that it isn't there, or that the store failed
-abbrev pub ObjectIs : List ℕ → Response → (old new : Shelf) → Type 0
-ObjectIs name r old new =
-    ((bytes : List ℕ) × (r ≡ file_response bytes) × IsObject name new.objects bytes)
+-- a link's object: its bytes, or the part of them that is asked for, or that there is no such part; or that it isn't there, or that the
+-- store failed
+abbrev pub ObjectIs : List ℕ → Option Span → Response → (old new : Shelf) → Type 0
+ObjectIs name span r old new =
+    ((bytes : List ℕ) × (r ≡ object_response span bytes) × IsObject name new.objects bytes)
     ⊎ (((r ≡ refusal_response (plain refusal.FileGone)) × Lacks name new.objects)
     ⊎ ((r ≡ refusal_response (plain refusal.StoreFault)) × Rose old.faults new.faults))
 
 -- the response of a reply; the store is asked for an object alone
 abbrev pub ReplyIs : Plan → Response → (old new : Shelf) → Type 0
-ReplyIs (plan.File name) r old new = ObjectIs name r old new
+ReplyIs (plan.File name span) r old new = ObjectIs name span r old new
 ReplyIs (plan.Refused x) r old new = (response_of (plan.Refused x) ≡ Some r) × (new ≡ old)
 ReplyIs (plan.Only m) r old new = (response_of (plan.Only m) ≡ Some r) × (new ≡ old)
 ReplyIs (plan.Json text) r old new = (response_of (plan.Json text) ≡ Some r) × (new ≡ old)

@@ -1,17 +1,21 @@
-// An object's bytes, written as a response.
+// An object's bytes, or a part of them, written as a response.
 ghost use Rattle.std.specs.Prelude.{◌≡◌, ◌<◌, ◌≤◌, ℕ, true, length, IfOk, Option, vec_len};
 ghost use Rattle.std.specs.Bool.{OnTrue};
 ghost use Rattle.edge_core.specs.Objects.{Grows, Objects};
 ghost use Rattle.share_reply.specs.Refusing.{plain};
-ghost use Rattle.share_serve.specs.Responses.{refusal_response as refusal_is};
-ghost use Rattle.share_serve.specs.Sends.{CopySent, DeliveryCause, FileSent, HasCopyCause, HasSize, IsCopied, IsWritten, Writes};
+ghost use Rattle.share_serve.specs.Responses.{out_response as out_is, refusal_response as refusal_is};
+ghost use Rattle.file_ranges.specs.Ranges.{IsRange};
+ghost use Rattle.share_serve.specs.Sends.{AllSent, CopySent, DeliveryCause, FileSent, HasCopyCause, HasSize, IsCopied, IsWritten, PartSent, Writes};
 ghost use Rattle.share_serve.specs.Sides.{shelved};
 ghost use Rattle.share_serve.specs.Turns.{ObjectIs};
 
-use crate::response::{Delivery, refusal_response};
+use crate::response::{Delivery, empty_response, out_response, refusal_response};
 use crate::send::{Delivered, Sent, flush, head_of, of_sent, send_response, send_text};
 use case_table::Refusal;
 use edge_core::{Got, Measured, Name, Sink, Store, write_all};
+use file_ranges::part::ByteRange;
+use file_ranges::pick::{Picked, pick};
+use file_ranges::span::Span;
 use response_text::head::ContentType;
 use response_text::status::Status;
 use std::alloc::{AllocError, Global};
@@ -28,35 +32,37 @@ pub(crate) enum Copied {
     Cut(u64),
 }
 
-// Copies an object of that size, piece after piece, through the room for one.
-fn copy_file<W: Store, K: Sink>(
+// Copies a range of an object, piece after piece, through the room for one: the object is read from the range's first byte on.
+fn copy_range<W: Store, K: Sink>(
     store: &mut W,
     name: &Name,
     sink: &mut K,
     piece: &mut [u8],
-    size: u64,
+    range: ByteRange,
 ) -> Copied
     requires room { 0 < length piece.old }
-    requires there { HasSize size name.now (W.objects store.old) }
+    requires there { HasSize range.size name.now (W.objects store.old) }
     ensures grows { Grows (W.objects store.old) (W.objects store.new) }
     ensures stays { OnTrue (W.alone store.old) (W.alone store.new ≡ true) }
     ensures later { (W.faults store.old ≤ W.faults store.new) × (K.faults sink.old ≤ K.faults sink.new) }
-    ensures copied { IsCopied result name.now size (W.objects store.new) (K.holds sink.old) (K.holds sink.new) }
+    ensures copied { IsCopied result name.now range (W.objects store.new) (K.holds sink.old) (K.holds sink.new) }
     ensures cause { HasCopyCause result (W.objects store.old) (W.faults store.old) (W.faults store.new) (K.faults sink.old) (K.faults sink.new) }
 {
-    let mut at: u64 = 0;
-    while at < size {
+    let first = range.first();
+    let end = range.last() + 1;
+    let mut at = first;
+    while at < end {
         match store.get(name, at, piece) {
-            Got::Bytes(0) => return Copied::Cut(at),
+            Got::Bytes(0) => return Copied::Cut(at - first),
             Got::Bytes(n) => {
-                let count = n.min((size - at) as usize);
+                let count = n.min((end - at) as usize);
                 match write_all(sink, &piece[..count]) {
                     Ok(()) => at += count as u64,
                     Err(_) => return Copied::WriteFault,
                 }
             }
-            Got::Absent => return Copied::Cut(at),
-            Got::Failed => return Copied::Cut(at),
+            Got::Absent => return Copied::Cut(at - first),
+            Got::Failed => return Copied::Cut(at - first),
         }
     }
     Copied::Whole
@@ -69,35 +75,78 @@ fn piece_room(alloc: Global) -> Result<Vec<u8>, AllocError>
     vec![in alloc; 0u8; PIECE]
 }
 
-// Writes the bytes of an object behind the head of its response, where there are to be any, and hands on what the sink keeps back.
+// Writes the bytes of a range behind the head of its response, where there are to be any, and hands on what the sink keeps back.
 fn send_copy<W: Store, K: Sink>(
     store: &mut W,
     name: &Name,
     sink: &mut K,
     to_head: bool,
     piece: &mut [u8],
-    size: u64,
+    range: ByteRange,
 ) -> Delivered
     requires room { 0 < length piece.old }
-    requires there { HasSize size name.now (W.objects store.old) }
+    requires there { HasSize range.size name.now (W.objects store.old) }
     ensures grows { Grows (W.objects store.old) (W.objects store.new) }
     ensures stays { OnTrue (W.alone store.old) (W.alone store.new ≡ true) }
     ensures later { (W.faults store.old ≤ W.faults store.new) × (K.faults sink.old ≤ K.faults sink.new) }
-    ensures sent { CopySent result to_head name.now size (W.objects store.new) (K.holds sink.old) (K.holds sink.new) }
+    ensures sent { CopySent result to_head name.now range (W.objects store.new) (K.holds sink.old) (K.holds sink.new) }
     ensures cause { DeliveryCause result (W.objects store.old) (W.faults store.old) (W.faults store.new) (K.faults sink.old) (K.faults sink.new) }
 {
     if to_head {
         return of_sent(flush(sink));
     }
-    match copy_file(store, name, sink, piece, size) {
+    match copy_range(store, name, sink, piece, range) {
         Copied::Whole => of_sent(flush(sink)),
         Copied::WriteFault => Delivered::WriteFault,
         Copied::Cut(sent) => Delivered::Cut(sent),
     }
 }
 
-// Writes the response that has the bytes of an object of that size.
-fn send_bytes<W: Store, K: Sink>(
+// Writes the response of that status that has a range of an object.
+fn send_range<W: Store, K: Sink>(
+    alloc: Global,
+    store: &mut W,
+    name: &Name,
+    sink: &mut K,
+    delivery: Delivery,
+    piece: &mut [u8],
+    status: Status,
+    range: ByteRange,
+) -> Delivered
+    requires dated { delivery.moment ≤ 253_402_300_799_999 }
+    requires room { 0 < length piece.old }
+    requires there { HasSize range.size name.now (W.objects store.old) }
+    ensures grows { Grows (W.objects store.old) (W.objects store.new) }
+    ensures stays { OnTrue (W.alone store.old) (W.alone store.new ≡ true) }
+    ensures later { (W.faults store.old ≤ W.faults store.new) × (K.faults sink.old ≤ K.faults sink.new) }
+    ensures sent { PartSent result delivery status name.now range (W.objects store.new) (K.holds sink.old) (K.holds sink.new) }
+    ensures cause { DeliveryCause result (W.objects store.old) (W.faults store.old) (W.faults store.new) (K.faults sink.old) (K.faults sink.new) }
+{
+    let Ok(head) = head_of(alloc, delivery, status, ContentType::Bytes, range.len()) else {
+        return Delivered::NoMemory;
+    };
+    match send_text(sink, &head) {
+        Sent::Whole => send_copy(store, name, sink, delivery.to_head, piece, range),
+        Sent::WriteFault => Delivered::WriteFault,
+        Sent::NoMemory => Delivered::NoMemory,
+    }
+}
+
+// Writes the response that tells the size of an object that has none of the bytes that are asked for.
+fn send_out<K: Sink>(alloc: Global, sink: &mut K, delivery: Delivery, size: u64) -> Delivered
+    requires dated { delivery.moment ≤ 253_402_300_799_999 }
+    ensures later { K.faults sink.old ≤ K.faults sink.new }
+    ensures sent { IsWritten result delivery (out_is size) (K.holds sink.old) (K.holds sink.new) }
+    ensures cause { (objects : Option Objects) (n m : ℕ) → DeliveryCause result objects n m (K.faults sink.old) (K.faults sink.new) }
+{
+    match out_response(alloc, size) {
+        Ok(response) => of_sent(send_response(alloc, sink, delivery, &response)),
+        Err(_) => Delivered::NoMemory,
+    }
+}
+
+// Writes the response that has all bytes of an object of that size.
+fn send_all<W: Store, K: Sink>(
     alloc: Global,
     store: &mut W,
     name: &Name,
@@ -112,16 +161,57 @@ fn send_bytes<W: Store, K: Sink>(
     ensures grows { Grows (W.objects store.old) (W.objects store.new) }
     ensures stays { OnTrue (W.alone store.old) (W.alone store.new ≡ true) }
     ensures later { (W.faults store.old ≤ W.faults store.new) × (K.faults sink.old ≤ K.faults sink.new) }
-    ensures sent { FileSent result delivery name.now (W.objects store.new) (K.holds sink.old) (K.holds sink.new) }
+    ensures sent { AllSent result delivery name.now size (W.objects store.new) (K.holds sink.old) (K.holds sink.new) }
     ensures cause { DeliveryCause result (W.objects store.old) (W.faults store.old) (W.faults store.new) (K.faults sink.old) (K.faults sink.new) }
 {
-    let Ok(head) = head_of(alloc, delivery, Status::Ok(None), ContentType::Bytes, size) else {
-        return Delivered::NoMemory;
-    };
-    match send_text(sink, &head) {
-        Sent::Whole => send_copy(store, name, sink, delivery.to_head, piece, size),
-        Sent::WriteFault => Delivered::WriteFault,
-        Sent::NoMemory => Delivered::NoMemory,
+    match ByteRange::of(0, size.saturating_sub(1), size) {
+        Some(range) => send_range(
+            alloc,
+            store,
+            name,
+            sink,
+            delivery,
+            piece,
+            Status::Ok(None),
+            range,
+        ),
+        None => of_sent(send_response(alloc, sink, delivery, &empty_response(alloc))),
+    }
+}
+
+// Writes the response to a request for an object of that size, by which of its bytes are asked for.
+fn send_found<W: Store, K: Sink>(
+    alloc: Global,
+    store: &mut W,
+    name: &Name,
+    span: Option<Span>,
+    sink: &mut K,
+    delivery: Delivery,
+    piece: &mut [u8],
+    size: u64,
+) -> Delivered
+    requires dated { delivery.moment ≤ 253_402_300_799_999 }
+    requires room { 0 < length piece.old }
+    requires there { HasSize size name.now (W.objects store.old) }
+    ensures grows { Grows (W.objects store.old) (W.objects store.new) }
+    ensures stays { OnTrue (W.alone store.old) (W.alone store.new ≡ true) }
+    ensures later { (W.faults store.old ≤ W.faults store.new) × (K.faults sink.old ≤ K.faults sink.new) }
+    ensures sent { FileSent result delivery name.now span (W.objects store.new) (K.holds sink.old) (K.holds sink.new) }
+    ensures cause { DeliveryCause result (W.objects store.old) (W.faults store.old) (W.faults store.new) (K.faults sink.old) (K.faults sink.new) }
+{
+    match pick(span, size) {
+        Picked::Whole => send_all(alloc, store, name, sink, delivery, piece, size),
+        Picked::Part(range) => send_range(
+            alloc,
+            store,
+            name,
+            sink,
+            delivery,
+            piece,
+            Status::PartialContent(range),
+            range,
+        ),
+        Picked::Out => send_out(alloc, sink, delivery, size),
     }
 }
 
@@ -143,11 +233,13 @@ fn send_refusal<K: Sink>(
     }
 }
 
-/// Writes the response to a request for an object: its bytes, that it isn't there, or that the store failed.
+/// Writes the response to a request for an object: its bytes or the part of them that is asked for, that it has none of those, that
+/// it isn't there, or that the store failed. Of a part no byte in front of it is read.
 pub(crate) fn send_file<W: Store, K: Sink>(
     alloc: Global,
     store: &mut W,
     name: &Name,
+    span: Option<Span>,
     sink: &mut K,
     delivery: Delivery,
 ) -> Delivered
@@ -155,14 +247,16 @@ pub(crate) fn send_file<W: Store, K: Sink>(
     ensures grows { Grows (W.objects store.old) (W.objects store.new) }
     ensures stays { OnTrue (W.alone store.old) (W.alone store.new ≡ true) }
     ensures later { (W.faults store.old ≤ W.faults store.new) × (K.faults sink.old ≤ K.faults sink.new) }
-    ensures sent { Writes result delivery (λ r. ObjectIs name.now r (shelved W.objects W.alone W.faults store.old) (shelved W.objects W.alone W.faults store.new)) (shelved W.objects W.alone W.faults store.new ≡ shelved W.objects W.alone W.faults store.old) (K.holds sink.old) (K.holds sink.new) }
+    ensures sent { Writes result delivery (λ r. ObjectIs name.now span r (shelved W.objects W.alone W.faults store.old) (shelved W.objects W.alone W.faults store.new)) (shelved W.objects W.alone W.faults store.new ≡ shelved W.objects W.alone W.faults store.old) (K.holds sink.old) (K.holds sink.new) }
     ensures cause { DeliveryCause result (W.objects store.old) (W.faults store.old) (W.faults store.new) (K.faults sink.old) (K.faults sink.new) }
 {
     let Ok(mut piece) = piece_room(alloc) else {
         return Delivered::NoMemory;
     };
     match store.size(name) {
-        Measured::Size(size) => { send_bytes(alloc, store, name, sink, delivery, &mut piece, size) }
+        Measured::Size(size) => {
+            send_found(alloc, store, name, span, sink, delivery, &mut piece, size)
+        }
         Measured::Absent => send_refusal(alloc, sink, delivery, Refusal::FileGone),
         Measured::Failed => send_refusal(alloc, sink, delivery, Refusal::StoreFault),
     }

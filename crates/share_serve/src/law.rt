@@ -1,9 +1,10 @@
 // Laws of sessions. None of these functions does anything when it is called.
-ghost use Rattle.share_serve.specs.Entitled.{ChangesAreGiven, FilesAreGiven, LinksAreGiven, MetadataIsGiven, NamesAreGiven, ObjectsAreGiven, TurnsAreGiven, TurnsGiveTheDefined, VersionsAreGiven};
+ghost use Rattle.share_serve.specs.Entitled.{ChangesAreGiven, FilesAreGiven, LinksAreGiven, MetadataIsGiven, NamesAreGiven, ObjectsAreGiven, PartsAreGiven, TurnsAreGiven, TurnsGiveTheDefined, VersionsAreGiven};
 ghost use Rattle.share_serve.specs.Laws.{EndsTheSame, EqualViewsWriteTheSame, ReadsItsRequests, WritesItsResponses};
 ghost use Rattle.share_serve.specs.RefusalCauses.{ChangesHaveCauses, FaultsAreTold, FilesHaveCauses, LinksHaveCauses, NamesHaveCauses, StrangersAreRefused, VersionsHaveCauses};
 ghost use Rattle.share_serve.specs.WholeSessions.{WholeRequestsAreAnswered};
 
+use file_ranges::law::part_has_asked;
 use http_message::law::one_reading;
 
 /// A law: what requests leave written is their responses in order, and the points at which they are answered are beginnings of one
@@ -51,17 +52,20 @@ pub fn what_is_granted_is_given()
     // The files of a version, and the changes of a range, on first and on later pages.
     ensures files { FilesAreGiven }
     ensures changes { ChangesAreGiven }
-    // The object that a link is answered with.
+    // The object that a link is answered with, or the part of it that is asked for.
     ensures links { LinksAreGiven }
 {}
 
 /// Laws: the responses of a session's turns are the defined ones, so that what is granted is given with 200, and a link's object
-/// comes whole where the store has it.
+/// comes where the store has it: whole, or just the bytes that are asked for.
 pub fn turns_give_the_defined()
     ensures turns { TurnsGiveTheDefined }
     ensures granted { TurnsAreGiven }
     ensures objects { ObjectsAreGiven }
-{}
+    ensures parts { PartsAreGiven }
+{
+    part_has_asked();
+}
 
 /// Laws of refusals: each has its cause in what the history says.
 pub fn refusals_have_causes()

@@ -73,7 +73,7 @@ fn send_plan<W: Store, K: Sink>(
         Plan::Lines(version, lines) => {
             of_sent(send_lines(alloc, sink, delivery, version, &lines))
         }
-        Plan::File(name) => send_file(alloc, store, &name, sink, delivery),
+        Plan::File(name, span) => send_file(alloc, store, &name, span, sink, delivery),
     }
 }
 

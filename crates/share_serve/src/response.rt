@@ -1,5 +1,5 @@
 // Responses that are held whole.
-ghost use Rattle.std.specs.Prelude.{◌≡◌, ◌++◌, IfOk, IsTrue, List, ℕ};
+ghost use Rattle.std.specs.Prelude.{◌≡◌, [], ◌++◌, IfOk, IsTrue, List, ℕ};
 ghost use Rattle.case_table.specs.Refusals.{refusal_row};
 ghost use Rattle.share_lines.specs.Errors.{takes_detail};
 ghost use Rattle.share_reply.specs.Refusing.{Refused};
@@ -65,11 +65,33 @@ pub(crate) fn refusal_response(
     refusal_with(alloc, Method::Get, refusal, detail)
 }
 
-/// The response that tells the method that a route has.
+/// The response that tells the methods that a route has.
 pub(crate) fn only_response(alloc: Global, allowed: Method) -> Result<Response, AllocError>
     ensures { IfOk result (λ r. r ≡ spec.only_response allowed) }
 {
     refusal_with(alloc, allowed, Refusal::MethodNotAllowed, "")
+}
+
+/// The response that tells how many bytes an object has, where it has none of those that are asked for.
+pub(crate) fn out_response(alloc: Global, size: u64) -> Result<Response, AllocError>
+    ensures { IfOk result (λ r. r ≡ spec.out_response size) }
+{
+    Ok(Response {
+        status: Status::RangeNotSatisfiable(Some(size)),
+        form: ContentType::Json,
+        body: error_text(alloc, Refusal::RangeNotSatisfiable, "")?,
+    })
+}
+
+/// The response that has the bytes of an empty object.
+pub(crate) fn empty_response(alloc: Global) -> Response
+    ensures { result ≡ spec.file_response [] }
+{
+    Response {
+        status: Status::Ok(None),
+        form: ContentType::Bytes,
+        body: Text::of(String::new(alloc)),
+    }
 }
 
 pub(crate) fn json_response(text: Text) -> Response

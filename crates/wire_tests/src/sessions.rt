@@ -136,6 +136,31 @@ fn responses_are_read_no_further_than_they_go(rt: HostRuntime) -> Result<(), All
             Told::Response(200, 0),
             false,
         ),
+        // to HEAD: of a body of any length and form the head alone
+        (
+            true,
+            b"HTTP/1.1 200 OK\r\nContent-Length: 268435457\r\n\r\n".as_slice(),
+            Told::Response(200, 0),
+            false,
+        ),
+        (
+            true,
+            b"HTTP/1.1 200 OK\r\nTransfer-Encoding: chunked\r\n\r\n".as_slice(),
+            Told::Response(200, 0),
+            false,
+        ),
+        (
+            true,
+            b"HTTP/1.1 403 Forbidden\r\n\r\n".as_slice(),
+            Told::Response(403, 0),
+            false,
+        ),
+        (
+            true,
+            b"HTTP/1.1 200 OK\r\nContent-Length: 2\r\n".as_slice(),
+            Told::Truncated,
+            true,
+        ),
         (
             false,
             b"HTTP/1.1 204 No Content\r\n\r\n".as_slice(),

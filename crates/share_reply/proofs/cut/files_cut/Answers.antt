@@ -1,6 +1,5 @@
-use Rattle.std.proofs.Common.{◌≡◌, ◌+◌, ◌++◌, ◌∷◌, [], length, map, refl, sym, ap, ◌∙◌, subst, true, false, vec_len, List, ℕ}
+use Rattle.std.proofs.Common.{◌≡◌, ◌+◌, ◌++◌, ◌∷◌, [], map, sym, ap, ◌∙◌, subst, vec_len}
 use Rattle.std.proofs.lemmas.List.{length-map, map-append}
-use Rattle.log_actions.specs.declared.actions.AddFile.{AddFile}
 use Rattle.pred_tree.specs.Listing.{passes}
 use Rattle.share_reply.specs.Cuts.{is_full}
 use Rattle.share_reply.proofs.Cutting.{IsWithin, Walked, walk_is_full, walk_passes_over, walk_takes, within_next}

@@ -1,4 +1,4 @@
-use Rattle.std.proofs.Common.{◌≡◌, ◌≤◌, length, map, vec_len}
+use Rattle.std.proofs.Common.{◌≡◌, length, map, vec_len}
 use Rattle.pred_tree.specs.Listing.{passes}
 use Rattle.share_reply.proofs.Cutting.{Walked, IsWithin}
 use Rattle.share_reply.proofs.cut.files_cut.Given as goal

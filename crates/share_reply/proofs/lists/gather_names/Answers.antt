@@ -1,7 +1,6 @@
-use Rattle.std.proofs.Common.{◌≡◌, ◌∙◌, List, None, ap, subst, sym}
+use Rattle.std.proofs.Common.{◌∙◌, List, None, ap, subst}
 use Rattle.std.specs.Prelude.{IfOk, filter}
 use Rattle.share_catalog.specs.declared.table_name.TableName.{TableName}
-use Rattle.page_token.specs.declared.cursor.ListKind.TheVariants as kind
 use Rattle.share_reply.specs.Lists.{Names, is_behind}
 use Rattle.share_reply.specs.Walks.{IsGathered, added}
 use Rattle.share_reply.proofs.WalkLemmas.{schemas_added}

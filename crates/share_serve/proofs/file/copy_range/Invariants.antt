@@ -2,18 +2,19 @@ use Rattle.std.proofs.Common.{◌≡◌, ◌<◌, ◌≤◌, ◌-◌, List, ℕ,
 use Rattle.std.specs.Bool.{OnTrue}
 use Rattle.std.specs.Io.KnownBytes.{append_known}
 use Rattle.edge_core.specs.Objects.{Grows}
-use Rattle.share_serve.specs.Sends.{HasRead}
-use Rattle.share_serve.proofs.file.copy_file.Given as goal
+use Rattle.share_serve.specs.Sends.{HasReadOf}
+use Rattle.share_serve.proofs.file.copy_range.Given as goal
 
 abbrev pub invariant-loop-at : goal.invariant-loop-at
 invariant-loop-at g l = record {
-  within : l.at ≤ l.size;
+  from : l.first ≤ l.at;
+  within : l.at ≤ l.end;
   room : 0 < length l.piece;
   grows : Grows (g.W.Store.objects l.fn.store) (g.W.Store.objects l.store);
   stays : OnTrue (g.W.Store.alone l.fn.store) (g.W.Store.alone l.store ≡ true);
   later : (g.W.Store.faults l.fn.store ≤ g.W.Store.faults l.store) × (g.K.Sink.faults l.fn.sink ≤ g.K.Sink.faults l.sink);
-  copied : (part : List ℕ) × HasRead l.name l.size l.at (g.W.Store.objects l.store) part × (g.K.Sink.holds l.sink ≡ append_known (g.K.Sink.holds l.fn.sink) part);
+  copied : (part : List ℕ) × HasReadOf l.name l.fn.range l.at (g.W.Store.objects l.store) part × (g.K.Sink.holds l.sink ≡ append_known (g.K.Sink.holds l.fn.sink) part);
 }
 
 abbrev pub decreases-loop-at : goal.decreases-loop-at
-decreases-loop-at g l = l.size - l.at
+decreases-loop-at g l = l.end - l.at
