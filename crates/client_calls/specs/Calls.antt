@@ -5,6 +5,7 @@ use mathlib.Core.List.{IsPrefix}
 use Rattle.edge_core.specs.Faults.{Rose}
 use Rattle.share_client.specs.Files.{Fetches}
 use Rattle.share_client.specs.Listings.{ListsTablesOf}
+use Rattle.share_client.specs.Pieces.{PiecesAt}
 use Rattle.share_client.specs.Servers.{server_in}
 use Rattle.share_client.specs.Sides.{CausedBy, Counts, Side}
 use Rattle.share_client.specs.Tables.{ReadsChangesOf, ReadsTableOf}
@@ -52,12 +53,18 @@ abbrev pub FetchesFile : (url : List ℕ) → (held held_new : Option (List ℕ)
 FetchesFile url held held_new (Ok done) old new = (size : ℕ) × Fetches url held held_new (Ok size) old new
 FetchesFile url held held_new (Err e) old new = Fetches url held held_new (Err e) old new
 
+-- the file was written piece by piece, or why it wasn't, or not all of it
+abbrev pub FetchesPieces : (url : List ℕ) → (piece : ℕ) → (held held_new : Option (List ℕ)) → Result ⊤ ClientFault → Side → Side → Type 0
+FetchesPieces url piece held held_new (Ok done) old new = (size : ℕ) × PiecesAt (target_in url) piece held held_new (Ok size) old new
+FetchesPieces url piece held held_new (Err e) old new = PiecesAt (target_in url) piece held held_new (Err e) old new
+
 -- the call, made with a profile, over a link that tells its lines, to a sink that held something
 abbrev pub Performs : Profile → Call → (held held_new : Option (List ℕ)) → Result ⊤ ClientFault → Side → Side → Type 0
 Performs p calls.Tables held held_new result old new = Prints (ListsText p) held held_new result old new
 Performs p (calls.Read t body) held held_new result old new = Prints (ReadsText p t body) held held_new result old new
 Performs p (calls.Changes t from to) held held_new result old new = Prints (ChangesText p t from to) held held_new result old new
 Performs p (calls.Fetch url) held held_new result old new = FetchesFile url held held_new result old new
+Performs p (calls.FetchPieces url piece) held held_new result old new = FetchesPieces url piece held held_new result old new
 
 -- ---- causes, also over a link that doesn't tell
 
@@ -76,3 +83,4 @@ TellsBadUrl calls.Tables result = ¬ (result ≡ Err fault.BadUrl)
 TellsBadUrl (calls.Read t body) result = ¬ (result ≡ Err fault.BadUrl)
 TellsBadUrl (calls.Changes t from to) result = ¬ (result ≡ Err fault.BadUrl)
 TellsBadUrl (calls.Fetch url) result = TellsUrl (target_in url) result
+TellsBadUrl (calls.FetchPieces url piece) result = TellsUrl (target_in url) result

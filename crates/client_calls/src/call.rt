@@ -1,11 +1,12 @@
 // The calls of a client.
 ghost use Rattle.std.specs.Prelude.{◌≡◌, ◌≤◌};
-ghost use Rattle.share_client.specs.Clients.{client_link, client_profile};
+ghost use Rattle.share_client.specs.Clients.{client_profile};
 ghost use Rattle.share_client.specs.Sides.{counts, Known, Later};
 ghost use Rattle.share_client.specs.Steps.{Sends};
 ghost use Rattle.client_calls.specs.Calls.{CallCause, Performs, TellsBadUrl};
 ghost use Rattle.client_calls.specs.declared.call.Call.TheVariants as calls;
 
+use crate::PieceSize;
 use crate::texts::{changes_text, read_text, tables_text};
 use edge_core::{Flushing, Link, Sink, write_all};
 use json_tree::Text;
@@ -30,6 +31,13 @@ pub enum Call {
     },
     /// Fetch the file of a link, whose url this is.
     Fetch(Text),
+    /// Fetch the file of a link in pieces.
+    FetchPieces {
+        /// The url of the link.
+        url: Text,
+        /// How many bytes a piece has; the last one may have fewer.
+        piece: PieceSize,
+    },
 }
 
 // Writes the text, and hands on what the sink keeps back of it.
@@ -49,16 +57,17 @@ fn send<K: Sink>(sink: &mut K, text: &[u8]) -> Result<(), ClientFault>
 
 fn list<L: Link, K: Sink>(
     alloc: Global,
-    client: &mut Client<L>,
+    client: &Client,
+    link: &mut L,
     sink: &mut K,
 ) -> Result<(), ClientFault>
-    ensures later { Later (counts L.faults L.read_faults L.write_faults (client_link client.old)) (counts L.faults L.read_faults L.write_faults (client_link client.new)) }
+    ensures later { Later (counts L.faults L.read_faults L.write_faults link.old) (counts L.faults L.read_faults L.write_faults link.new) }
     ensures sink_later { K.faults sink.old ≤ K.faults sink.new }
-    ensures cause { CallCause result (counts L.faults L.read_faults L.write_faults (client_link client.old)) (counts L.faults L.read_faults L.write_faults (client_link client.new)) (K.faults sink.old) (K.faults sink.new) }
+    ensures cause { CallCause result (counts L.faults L.read_faults L.write_faults link.old) (counts L.faults L.read_faults L.write_faults link.new) (K.faults sink.old) (K.faults sink.new) }
     ensures url { TellsBadUrl calls.Tables result }
-    ensures told { Known L.coming L.closed (client_link client.old) (client_link client.new) (Performs (client_profile client.old) calls.Tables (K.holds sink.old) (K.holds sink.new) result) }
+    ensures told { Known L.coming L.closed link.old link.new (Performs (client_profile client.now) calls.Tables (K.holds sink.old) (K.holds sink.new) result) }
 {
-    let tables = match client.list_tables(alloc) {
+    let tables = match client.list_tables(alloc, link) {
         Ok(tables) => tables,
         Err(fault) => return Err(fault),
     };
@@ -70,18 +79,19 @@ fn list<L: Link, K: Sink>(
 
 fn read<L: Link, K: Sink>(
     alloc: Global,
-    client: &mut Client<L>,
+    client: &Client,
+    link: &mut L,
     table: &SharedTable,
     body: &QueryBody,
     sink: &mut K,
 ) -> Result<(), ClientFault>
-    ensures later { Later (counts L.faults L.read_faults L.write_faults (client_link client.old)) (counts L.faults L.read_faults L.write_faults (client_link client.new)) }
+    ensures later { Later (counts L.faults L.read_faults L.write_faults link.old) (counts L.faults L.read_faults L.write_faults link.new) }
     ensures sink_later { K.faults sink.old ≤ K.faults sink.new }
-    ensures cause { CallCause result (counts L.faults L.read_faults L.write_faults (client_link client.old)) (counts L.faults L.read_faults L.write_faults (client_link client.new)) (K.faults sink.old) (K.faults sink.new) }
+    ensures cause { CallCause result (counts L.faults L.read_faults L.write_faults link.old) (counts L.faults L.read_faults L.write_faults link.new) (K.faults sink.old) (K.faults sink.new) }
     ensures url { TellsBadUrl (calls.Read table.now body.now) result }
-    ensures told { Known L.coming L.closed (client_link client.old) (client_link client.new) (Performs (client_profile client.old) (calls.Read table.now body.now) (K.holds sink.old) (K.holds sink.new) result) }
+    ensures told { Known L.coming L.closed link.old link.new (Performs (client_profile client.now) (calls.Read table.now body.now) (K.holds sink.old) (K.holds sink.new) result) }
 {
-    let read = match client.read_table(alloc, table, body) {
+    let read = match client.read_table(alloc, link, table, body) {
         Ok(read) => read,
         Err(fault) => return Err(fault),
     };
@@ -93,19 +103,20 @@ fn read<L: Link, K: Sink>(
 
 fn changes<L: Link, K: Sink>(
     alloc: Global,
-    client: &mut Client<L>,
+    client: &Client,
+    link: &mut L,
     table: &SharedTable,
     from: u64,
     to: u64,
     sink: &mut K,
 ) -> Result<(), ClientFault>
-    ensures later { Later (counts L.faults L.read_faults L.write_faults (client_link client.old)) (counts L.faults L.read_faults L.write_faults (client_link client.new)) }
+    ensures later { Later (counts L.faults L.read_faults L.write_faults link.old) (counts L.faults L.read_faults L.write_faults link.new) }
     ensures sink_later { K.faults sink.old ≤ K.faults sink.new }
-    ensures cause { CallCause result (counts L.faults L.read_faults L.write_faults (client_link client.old)) (counts L.faults L.read_faults L.write_faults (client_link client.new)) (K.faults sink.old) (K.faults sink.new) }
+    ensures cause { CallCause result (counts L.faults L.read_faults L.write_faults link.old) (counts L.faults L.read_faults L.write_faults link.new) (K.faults sink.old) (K.faults sink.new) }
     ensures url { TellsBadUrl (calls.Changes table.now from to) result }
-    ensures told { Known L.coming L.closed (client_link client.old) (client_link client.new) (Performs (client_profile client.old) (calls.Changes table.now from to) (K.holds sink.old) (K.holds sink.new) result) }
+    ensures told { Known L.coming L.closed link.old link.new (Performs (client_profile client.now) (calls.Changes table.now from to) (K.holds sink.old) (K.holds sink.new) result) }
 {
-    let lines = match client.read_changes(alloc, table, from, to) {
+    let lines = match client.read_changes(alloc, link, table, from, to) {
         Ok(lines) => lines,
         Err(fault) => return Err(fault),
     };
@@ -117,43 +128,67 @@ fn changes<L: Link, K: Sink>(
 
 fn fetch<L: Link, K: Sink>(
     alloc: Global,
-    client: &mut Client<L>,
+    client: &Client,
+    link: &mut L,
     url: &Text,
     sink: &mut K,
 ) -> Result<(), ClientFault>
-    ensures later { Later (counts L.faults L.read_faults L.write_faults (client_link client.old)) (counts L.faults L.read_faults L.write_faults (client_link client.new)) }
+    ensures later { Later (counts L.faults L.read_faults L.write_faults link.old) (counts L.faults L.read_faults L.write_faults link.new) }
     ensures sink_later { K.faults sink.old ≤ K.faults sink.new }
-    ensures cause { CallCause result (counts L.faults L.read_faults L.write_faults (client_link client.old)) (counts L.faults L.read_faults L.write_faults (client_link client.new)) (K.faults sink.old) (K.faults sink.new) }
+    ensures cause { CallCause result (counts L.faults L.read_faults L.write_faults link.old) (counts L.faults L.read_faults L.write_faults link.new) (K.faults sink.old) (K.faults sink.new) }
     ensures url { TellsBadUrl (calls.Fetch url.now) result }
-    ensures told { Known L.coming L.closed (client_link client.old) (client_link client.new) (Performs (client_profile client.old) (calls.Fetch url.now) (K.holds sink.old) (K.holds sink.new) result) }
+    ensures told { Known L.coming L.closed link.old link.new (Performs (client_profile client.now) (calls.Fetch url.now) (K.holds sink.old) (K.holds sink.new) result) }
 {
-    match client.fetch_file(alloc, url.as_str(), sink) {
+    match client.fetch_file(alloc, link, url.as_str(), sink) {
         Ok(_) => Ok(()),
         Err(fault) => Err(fault),
     }
 }
 
-/// Has the client make the call, writes what is printed of its answer to the sink, and flushes the sink: of tables a line with share,
-/// schema and table for each, of files the metaData line and a line for each, of changes their lines, and of a link its file's bytes.
+fn fetch_pieces<L: Link, K: Sink>(
+    alloc: Global,
+    client: &Client,
+    link: &mut L,
+    url: &Text,
+    piece: PieceSize,
+    sink: &mut K,
+) -> Result<(), ClientFault>
+    ensures later { Later (counts L.faults L.read_faults L.write_faults link.old) (counts L.faults L.read_faults L.write_faults link.new) }
+    ensures sink_later { K.faults sink.old ≤ K.faults sink.new }
+    ensures cause { CallCause result (counts L.faults L.read_faults L.write_faults link.old) (counts L.faults L.read_faults L.write_faults link.new) (K.faults sink.old) (K.faults sink.new) }
+    ensures url { TellsBadUrl (calls.FetchPieces url.now piece) result }
+    ensures told { Known L.coming L.closed link.old link.new (Performs (client_profile client.now) (calls.FetchPieces url.now piece) (K.holds sink.old) (K.holds sink.new) result) }
+{
+    match client.fetch_pieces(alloc, link, url.as_str(), piece.get(), sink) {
+        Ok(_) => Ok(()),
+        Err(fault) => Err(fault),
+    }
+}
+
+/// Has the client make the call over the link, writes what is printed of its answer to the sink, and flushes the sink: of tables a line
+/// with share, schema and table for each, of files the metaData line and a line for each, of changes their lines, and of a link its
+/// file's bytes.
 ///
-/// The faults are those of the client's call. `WriteFault` comes too where the sink failed, behind a front of the text; after the
-/// other faults nothing was written. `BadUrl` comes of a fetch alone.
+/// The faults are those of the client's call. `WriteFault` comes too where the sink failed, behind a front of the text or the piece.
+/// After another fault nothing was written, but for the pieces of a file before it. `BadUrl` comes of a fetch alone.
 pub fn perform<L: Link, K: Sink>(
     alloc: Global,
-    client: &mut Client<L>,
+    client: &Client,
+    link: &mut L,
     call: &Call,
     sink: &mut K,
 ) -> Result<(), ClientFault>
-    ensures later { Later (counts L.faults L.read_faults L.write_faults (client_link client.old)) (counts L.faults L.read_faults L.write_faults (client_link client.new)) }
+    ensures later { Later (counts L.faults L.read_faults L.write_faults link.old) (counts L.faults L.read_faults L.write_faults link.new) }
     ensures sink_later { K.faults sink.old ≤ K.faults sink.new }
-    ensures cause { CallCause result (counts L.faults L.read_faults L.write_faults (client_link client.old)) (counts L.faults L.read_faults L.write_faults (client_link client.new)) (K.faults sink.old) (K.faults sink.new) }
+    ensures cause { CallCause result (counts L.faults L.read_faults L.write_faults link.old) (counts L.faults L.read_faults L.write_faults link.new) (K.faults sink.old) (K.faults sink.new) }
     ensures url { TellsBadUrl call.now result }
-    ensures told { Known L.coming L.closed (client_link client.old) (client_link client.new) (Performs (client_profile client.old) call.now (K.holds sink.old) (K.holds sink.new) result) }
+    ensures told { Known L.coming L.closed link.old link.new (Performs (client_profile client.now) call.now (K.holds sink.old) (K.holds sink.new) result) }
 {
     match call {
-        Call::Tables => list(alloc, client, sink),
-        Call::Read(table, body) => read(alloc, client, table, body, sink),
-        Call::Changes { table, from, to } => changes(alloc, client, table, *from, *to, sink),
-        Call::Fetch(url) => fetch(alloc, client, url, sink),
+        Call::Tables => list(alloc, client, link, sink),
+        Call::Read(table, body) => read(alloc, client, link, table, body, sink),
+        Call::Changes { table, from, to } => changes(alloc, client, link, table, *from, *to, sink),
+        Call::Fetch(url) => fetch(alloc, client, link, url, sink),
+        Call::FetchPieces { url, piece } => fetch_pieces(alloc, client, link, url, *piece, sink),
     }
 }

@@ -4,9 +4,11 @@
 
 mod body;
 mod call;
+mod piece;
 mod profile;
 mod texts;
 
 pub use body::body_of;
 pub use call::{Call, perform};
+pub use piece::PieceSize;
 pub use profile::profile_at;

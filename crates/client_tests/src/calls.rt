@@ -1,4 +1,4 @@
-// What the tests share: links of given responses, clients of them, and what was written to their lines.
+// What the tests share: links of given responses, a client, and what was written to their lines.
 ghost use Rattle.std.specs.Prelude.{◌≡◌, [], IfOk};
 ghost use Rattle.edge_core.specs.Calls.{calls_failed};
 ghost use Rattle.edge_core.specs.Memory.{sink_bytes, sink_calls, source_calls};
@@ -75,11 +75,10 @@ pub(crate) fn link_of(alloc: Global, peers: &[Peer]) -> Result<MemLink, AllocErr
     MemLink::new(alloc, lines)
 }
 
-// A client over a link of those lines.
-pub(crate) fn client_of(alloc: Global, peers: &[Peer]) -> Result<Client<MemLink>, AllocError> {
-    let link = link_of(alloc, peers)?;
+// The client of that profile.
+pub(crate) fn client(alloc: Global) -> Result<Client, AllocError> {
     match profile_of(alloc, PROFILE) {
-        Ok(profile) => Ok(Client::new(link, profile)),
+        Ok(profile) => Ok(Client::new(profile)),
         Err(_) => Err(AllocError),
     }
 }

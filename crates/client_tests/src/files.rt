@@ -1,5 +1,5 @@
 // Files, by their links.
-use crate::calls::{are_written, client_of, peer_of};
+use crate::calls::{are_written, client, link_of, peer_of};
 use edge_core::MemSink;
 use share_client::ClientFault;
 use std::alloc::AllocError;
@@ -14,14 +14,15 @@ const REQUEST: &str =
 #[test]
 fn a_file_is_fetched_without_a_token(rt: HostRuntime) -> Result<(), AllocError> {
     let alloc = rt.alloc();
-    let mut client = client_of(alloc, &[peer_of(FILE)])?;
+    let client = client(alloc)?;
+    let mut link = link_of(alloc, &[peer_of(FILE)])?;
     let mut sink = MemSink::new(alloc, 64, 8)?;
-    match client.fetch_file(alloc, LINK, &mut sink) {
+    match client.fetch_file(alloc, &mut link, LINK, &mut sink) {
         Ok(length) => assert!(rt; length == 5),
         Err(_) => assert!(rt; false),
     }
     assert!(rt; sink.bytes() == b"bytes".as_slice());
-    assert!(rt; are_written(client.back().closed(), &[REQUEST]));
+    assert!(rt; are_written(link.closed(), &[REQUEST]));
     Ok(())
 }
 
@@ -53,9 +54,10 @@ fn what_is_no_file_is_told(rt: HostRuntime) -> Result<(), AllocError> {
         (LINK, "HTTP/1.1 403 Forbidden\r\n\r\n", 5, Told::Refused),
         (LINK, FILE, 4, Told::Write),
     ] {
-        let mut client = client_of(alloc, &[peer_of(response)])?;
+        let client = client(alloc)?;
+        let mut link = link_of(alloc, &[peer_of(response)])?;
         let mut sink = MemSink::new(alloc, room, 8)?;
-        let told = match client.fetch_file(alloc, url, &mut sink) {
+        let told = match client.fetch_file(alloc, &mut link, url, &mut sink) {
             Ok(_) => Told::File,
             Err(ClientFault::BadUrl) => Told::BadUrl,
             Err(ClientFault::BadReply { .. }) => Told::Bad,

@@ -8,4 +8,6 @@ mod files;
 #[cfg(test)]
 mod lists;
 #[cfg(test)]
+mod pieces;
+#[cfg(test)]
 mod tables;

@@ -1,5 +1,5 @@
 // Lists of tables.
-use crate::calls::{Peer, are_written, client_of, peer_of};
+use crate::calls::{Peer, are_written, client, link_of, peer_of};
 use share_client::{ClientFault, Refusal, SharedTable};
 use std::alloc::{AllocError, Global};
 
@@ -46,12 +46,13 @@ fn tables_come_share_by_share(rt: HostRuntime) -> Result<(), AllocError> {
         peer_of(NO_TABLES),
         peer_of(TABLES),
     ];
-    let mut client = client_of(alloc, &peers)?;
-    match client.list_tables(alloc) {
+    let client = client(alloc)?;
+    let mut link = link_of(alloc, &peers)?;
+    match client.list_tables(alloc, &mut link) {
         Ok(tables) => assert!(rt; are_tables(&tables)),
         Err(_) => assert!(rt; false),
     }
-    assert!(rt; are_written(client.back().closed(), &REQUESTS));
+    assert!(rt; are_written(link.closed(), &REQUESTS));
     Ok(())
 }
 
@@ -68,8 +69,9 @@ enum Told {
 }
 
 fn end_of(alloc: Global, peers: &[Peer]) -> Result<Told, AllocError> {
-    let mut client = client_of(alloc, peers)?;
-    Ok(match client.list_tables(alloc) {
+    let client = client(alloc)?;
+    let mut link = link_of(alloc, peers)?;
+    Ok(match client.list_tables(alloc, &mut link) {
         Ok(_) => Told::Tables,
         Err(ClientFault::Refused { status, refusal }) => Told::Refused(status, refusal),
         Err(ClientFault::BadReply { at }) => Told::Bad(at),

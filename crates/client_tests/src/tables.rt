@@ -1,5 +1,5 @@
 // Tables' files and changes.
-use crate::calls::{Peer, are_written, client_of, peer_of};
+use crate::calls::{Peer, are_written, client, link_of, peer_of};
 use json_tree::Text;
 use share_client::{ClientFault, FileLine, Line, QueryBody, Refusal, SharedTable, TableRead};
 use std::alloc::{AllocError, Global};
@@ -65,14 +65,15 @@ fn is_whole(read: &TableRead) -> bool {
 #[test]
 fn pages_of_a_table_are_joined(rt: HostRuntime) -> Result<(), AllocError> {
     let alloc = rt.alloc();
-    let mut client = client_of(alloc, &[peer_of(FIRST_PAGE), peer_of(LAST_PAGE)])?;
+    let client = client(alloc)?;
+    let mut link = link_of(alloc, &[peer_of(FIRST_PAGE), peer_of(LAST_PAGE)])?;
     let table = table_of(alloc)?;
     let body = body_of(alloc)?;
-    match client.read_table(alloc, &table, &body) {
+    match client.read_table(alloc, &mut link, &table, &body) {
         Ok(read) => assert!(rt; is_whole(&read)),
         Err(_) => assert!(rt; false),
     }
-    assert!(rt; are_written(client.back().closed(), &REQUESTS));
+    assert!(rt; are_written(link.closed(), &REQUESTS));
     Ok(())
 }
 
@@ -103,10 +104,11 @@ const PAGE_WITH_TOKEN: &str =
     "HTTP/1.1 200 OK\r\nDelta-Table-Version: 7\r\n\r\n{\"protocol\":{\"minReaderVersion\":1}}\n{\"metaData\":{\"partitionColumns\":[\"d\"],\"schemaString\":\"{}\",\"id\":\"m\"}}\n{\"endStreamAction\":{\"nextPageToken\":\"x+y\"}}\n";
 
 fn read(alloc: Global, peers: &[Peer]) -> Result<Result<TableRead, ClientFault>, AllocError> {
-    let mut client = client_of(alloc, peers)?;
+    let client = client(alloc)?;
+    let mut link = link_of(alloc, peers)?;
     let table = table_of(alloc)?;
     let body = body_of(alloc)?;
-    Ok(client.read_table(alloc, &table, &body))
+    Ok(client.read_table(alloc, &mut link, &table, &body))
 }
 
 fn is_changed(answer: &Result<TableRead, ClientFault>, one: &str, another: &str) -> bool {
@@ -265,13 +267,14 @@ fn are_changes(lines: &[Line]) -> bool {
 #[test]
 fn pages_of_changes_are_joined(rt: HostRuntime) -> Result<(), AllocError> {
     let alloc = rt.alloc();
-    let mut client = client_of(alloc, &[peer_of(FIRST_CHANGES), peer_of(LAST_CHANGES)])?;
+    let client = client(alloc)?;
+    let mut link = link_of(alloc, &[peer_of(FIRST_CHANGES), peer_of(LAST_CHANGES)])?;
     let table = table_of(alloc)?;
-    match client.read_changes(alloc, &table, 0, 9) {
+    match client.read_changes(alloc, &mut link, &table, 0, 9) {
         Ok(lines) => assert!(rt; are_changes(&lines)),
         Err(_) => assert!(rt; false),
     }
-    assert!(rt; are_written(client.back().closed(), &CHANGES_REQUESTS));
+    assert!(rt; are_written(link.closed(), &CHANGES_REQUESTS));
     Ok(())
 }
 
@@ -279,9 +282,10 @@ fn pages_of_changes_are_joined(rt: HostRuntime) -> Result<(), AllocError> {
 #[test]
 fn files_are_no_changes(rt: HostRuntime) -> Result<(), AllocError> {
     let alloc = rt.alloc();
-    let mut client = client_of(alloc, &[peer_of(LAST_PAGE)])?;
+    let client = client(alloc)?;
+    let mut link = link_of(alloc, &[peer_of(LAST_PAGE)])?;
     let table = table_of(alloc)?;
-    match client.read_changes(alloc, &table, 0, 0) {
+    match client.read_changes(alloc, &mut link, &table, 0, 0) {
         Err(ClientFault::BadReply { at }) => assert!(rt; at == 0),
         _ => assert!(rt; false),
     }

@@ -3,4 +3,6 @@
 #![tactic(auto)]
 
 #[cfg(test)]
+mod pieces;
+#[cfg(test)]
 mod rehearsals;

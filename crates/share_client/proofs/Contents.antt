@@ -23,6 +23,7 @@ unread_as part whole (fault.BadReply at) f (start, none) = (start, f none)
 unread_as part whole fault.NoMemory f u = tt
 unread_as part whole (fault.Refused status refusal) f u = absurd u
 unread_as part whole (fault.PageChanged first other) f u = absurd u
+unread_as part whole (fault.SizeChanged first other) f u = absurd u
 unread_as part whole fault.TooManyPages f u = absurd u
 unread_as part whole fault.BadUrl f u = absurd u
 unread_as part whole fault.PeerFault f u = absurd u

@@ -35,6 +35,7 @@ cause_after a b c (Err fault.WriteFault) ab bc = rises_after a.writes b.writes c
 cause_after a b c (Err (fault.Refused status refusal)) ab bc = bc
 cause_after a b c (Err (fault.BadReply at)) ab bc = bc
 cause_after a b c (Err (fault.PageChanged first other)) ab bc = bc
+cause_after a b c (Err (fault.SizeChanged first other)) ab bc = bc
 cause_after a b c (Err fault.TooManyPages) ab bc = bc
 cause_after a b c (Err fault.BadUrl) ab bc = bc
 cause_after a b c (Err fault.NoMemory) ab bc = bc

@@ -1,6 +1,7 @@
 mod Chaining
 mod Contents
 mod Counts
+mod Covering
 mod Digits
 mod Escapes
 mod Floats
@@ -8,4 +9,5 @@ mod Items
 mod Knowing
 mod Lines
 mod Listed
+mod Piecing
 mod Tabled

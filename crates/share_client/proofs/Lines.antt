@@ -1,5 +1,5 @@
 -- What a link that tells its lines tells of one that was used.
-use Rattle.std.proofs.Common.{◌≡◌, ℕ, inr, List, [], ◌∷◌, ◌++◌, Option, Some, Result, refl, ap, ◌∙◌}
+use Rattle.std.proofs.Common.{◌≡◌, ℕ, Bool, inr, List, [], ◌∷◌, ◌++◌, Option, Some, Result, refl, ap, ◌∙◌}
 use Rattle.edge_core.proofs.Tellings.{told_on}
 use Rattle.edge_core.specs.Lines.{PeerLine, ClosedLine, ComesFrom, closed_line, with_line}
 use Rattle.share_client.specs.Exchanges.{Exchanges, Talked}
@@ -9,15 +9,15 @@ use Rattle.share_client.specs.declared.fault.ClientFault.{ClientFault}
 use Rattle.share_client.specs.declared.target.Target.{Target}
 
 pub line_used :
-    (t : Target) (text : List ℕ) (result : Result Response ClientFault)
+    (to_head : Bool) (t : Target) (text : List ℕ) (result : Result Response ClientFault)
     {L : Type 0} (coming : L → Option (List PeerLine)) (closed : L → Option (List ClosedLine)) (link link_new : L) (mid : Option (List PeerLine))
     (left holds holds_last : Option (List ℕ)) (reads writes : ℕ)
     → ComesFrom t.host t.port (coming link) mid left holds
     → coming link_new ≡ mid
     → closed link_new ≡ with_line (closed link) (closed_line holds_last reads writes)
-    → ((bytes : List ℕ) → left ≡ Some bytes → holds ≡ Some [] → (written : List ℕ) × (holds_last ≡ Some written) × Talked text bytes written result)
-    → Known coming closed link link_new (Exchanges t text result)
-line_used t text result coming closed link link_new mid left holds holds_last reads writes comes same went talk old tells =
+    → ((bytes : List ℕ) → left ≡ Some bytes → holds ≡ Some [] → (written : List ℕ) × (holds_last ≡ Some written) × Talked to_head text bytes written result)
+    → Known coming closed link link_new (Exchanges to_head t text result)
+line_used to_head t text result coming closed link link_new mid left holds holds_last reads writes comes same went talk old tells =
     let a = told_on (coming link) mid _ old.coming tells.coming_is comes in
     let line = a.2 in
     let b = talk line.0 line.2 line.3 in

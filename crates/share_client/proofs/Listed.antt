@@ -27,6 +27,7 @@ misread read (fault.BadReply at) (start, none) = subst (λ o. Misread (or_start 
 misread read fault.NoMemory u = misread_memory (or_start read)
 misread read (fault.Refused status refusal) u = absurd u
 misread read (fault.PageChanged first other) u = absurd u
+misread read (fault.SizeChanged first other) u = absurd u
 misread read fault.TooManyPages u = absurd u
 misread read fault.BadUrl u = absurd u
 misread read fault.PeerFault u = absurd u

@@ -86,6 +86,7 @@ module _ {X : Type 0} (reads : Line → Option X) (server : Server) (text : Opti
   told first page pages fault.NoMemory tells = refl
   told first page pages (fault.BadReply at) tells = absurd tells
   told first page pages (fault.Refused status refusal) tells = absurd tells
+  told first page pages (fault.SizeChanged one other) tells = absurd tells
   told first page pages fault.TooManyPages tells = absurd tells
   told first page pages fault.BadUrl tells = absurd tells
   told first page pages fault.PeerFault tells = absurd tells

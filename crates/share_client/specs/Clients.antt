@@ -1,9 +1,6 @@
--- A client: its link and its profile.
+-- A client's profile.
 use Rattle.share_config.specs.declared.profile.Profile.{Profile}
 use Rattle.share_client.specs.declared.client.Client.{Client}
 
-abbrev pub client_link : {L : Type 0} → Client L → L
-client_link c = c.link
-
-abbrev pub client_profile : {L : Type 0} → Client L → Profile
+abbrev pub client_profile : Client → Profile
 client_profile c = c.profile

@@ -55,7 +55,7 @@ TellsUrl None result = (result ≡ Err fault.BadUrl) ⊎ (result ≡ Err fault.N
 TellsUrl (Some target) result = ¬ (result ≡ Err fault.BadUrl)
 
 -- a fault comes only where the link's count of it rose, or for a write the sink's
-abbrev pub FetchCause : Result ℕ ClientFault → (old new : Counts) → (before now : ℕ) → Type 0
+abbrev pub FetchCause : {A : Type 0} → Result A ClientFault → (old new : Counts) → (before now : ℕ) → Type 0
 FetchCause (Err fault.BadUrl) old new before now = ⊤
 FetchCause (Err fault.WriteFault) old new before now = Rose old.writes new.writes ⊎ Rose before now
 FetchCause result old new before now = CausedBy result (Rose old.opens new.opens) (Rose old.reads new.reads) ⊤

@@ -6,12 +6,15 @@ pub mod Escape
 pub mod Exchanges
 pub mod Files
 pub mod Listings
+pub mod Laws
 pub mod Lists
+pub mod Pieces
 pub mod Reads
 pub mod Requests
 pub mod Routes
 pub mod Servers
 pub mod Sides
+pub mod Sizes
 pub mod Steps
 pub mod TablePages
 pub mod TableRequests

@@ -11,6 +11,7 @@ Unread read (fault.BadReply at) = (at ≡ 0) × (read ≡ None)
 Unread read fault.NoMemory = ⊤
 Unread read (fault.Refused status refusal) = ⊥
 Unread read (fault.PageChanged first other) = ⊥
+Unread read (fault.SizeChanged first other) = ⊥
 Unread read fault.TooManyPages = ⊥
 Unread read fault.BadUrl = ⊥
 Unread read fault.PeerFault = ⊥

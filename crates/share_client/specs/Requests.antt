@@ -1,5 +1,6 @@
--- The requests that a client sends (RFC 9112, sections 3 and 5; RFC 6750, section 2.1).
+-- The requests that a client sends (RFC 9112, sections 3 and 5; RFC 6750, section 2.1; RFC 9110, sections 9.3.2 and 14.2).
 use Rattle.std.specs.Prelude.{ℕ, List, [], ◌∷◌, ◌++◌, Option, Some, None, length, codes, decimal}
+use Rattle.file_ranges.specs.Ranges.{Range}
 
 -- a line and its end, CR LF
 abbrev pub line : List ℕ → List ℕ
@@ -27,6 +28,21 @@ close_lines = field_line (codes "Connection") (codes "close") ++ line []
 -- a request without a body
 abbrev pub get_text : (target host : List ℕ) → Option (List ℕ) → List ℕ
 get_text target host bearer = front (codes "GET") target host bearer ++ close_lines
+
+-- a request for the head alone
+abbrev pub head_text : (target host : List ℕ) → List ℕ
+head_text target host = front (codes "HEAD") target host None ++ close_lines
+
+-- the bytes that are asked for, from a first to a last
+abbrev pub range_value : Range → List ℕ
+range_value range = codes "bytes=" ++ (decimal range.first ++ (codes "-" ++ decimal range.last))
+
+abbrev pub range_line : Range → List ℕ
+range_line range = field_line (codes "Range") (range_value range)
+
+-- a request for a part
+abbrev pub part_text : (target host : List ℕ) → Range → List ℕ
+part_text target host range = front (codes "GET") target host None ++ range_line range ++ close_lines
 
 -- the fields that say what a body of JSON is, and how long
 abbrev pub content_lines : List ℕ → List ℕ

@@ -54,6 +54,7 @@ CausedBy (Err fault.WriteFault) Opening Reading Writing = Writing
 CausedBy (Err (fault.Refused status refusal)) Opening Reading Writing = ⊤
 CausedBy (Err (fault.BadReply at)) Opening Reading Writing = ⊤
 CausedBy (Err (fault.PageChanged first other)) Opening Reading Writing = ⊤
+CausedBy (Err (fault.SizeChanged first other)) Opening Reading Writing = ⊤
 CausedBy (Err fault.TooManyPages) Opening Reading Writing = ⊤
 CausedBy (Err fault.BadUrl) Opening Reading Writing = ⊥
 CausedBy (Err fault.NoMemory) Opening Reading Writing = ⊤

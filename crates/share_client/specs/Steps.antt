@@ -1,5 +1,5 @@
 -- What the parts of a call say to one another.
-use Rattle.std.specs.Prelude.{◌≡◌, ℕ, List, [], ◌++◌, Option, Result, Ok, Err, ⊤}
+use Rattle.std.specs.Prelude.{◌≡◌, ℕ, Bool, List, [], ◌++◌, Option, Result, Ok, Err, ⊤}
 use Rattle.std.specs.Io.KnownBytes.{append_known}
 use mathlib.Core.List.{IsPrefix}
 use Rattle.edge_core.specs.Faults.{Rose}
@@ -15,8 +15,8 @@ use Rattle.share_client.specs.declared.listing.SharedTable.{SharedTable}
 use Rattle.share_client.specs.declared.server.Server.{Server}
 
 -- what is read of a peer whose bytes are these
-abbrev pub Receives : List ℕ → Result Response ClientFault → Type 0
-Receives bytes result = Talked [] bytes [] result
+abbrev pub Receives : Bool → List ℕ → Result Response ClientFault → Type 0
+Receives to_head bytes result = Talked to_head [] bytes [] result
 
 -- the whole text was written, or its front where a write failed
 abbrev pub Sends : Option (List ℕ) → Option (List ℕ) → (before now : ℕ) → List ℕ → Result ⊤ ClientFault → Type 0

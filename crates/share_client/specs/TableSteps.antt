@@ -17,6 +17,7 @@ TellsChange change (fault.PageChanged first other) = change ≡ Some (first, oth
 TellsChange change fault.NoMemory = ⊤
 TellsChange change (fault.BadReply at) = ⊥
 TellsChange change (fault.Refused status refusal) = ⊥
+TellsChange change (fault.SizeChanged first other) = ⊥
 TellsChange change fault.TooManyPages = ⊥
 TellsChange change fault.BadUrl = ⊥
 TellsChange change fault.PeerFault = ⊥

@@ -1,16 +1,20 @@
 // The client.
-ghost use Rattle.std.specs.Prelude.{◌≡◌, ◌≤◌, MatchResult, Ok, Err, option_map};
-ghost use Rattle.share_client.specs.Clients.{client_link, client_profile};
+ghost use Rattle.std.specs.Prelude.{◌≡◌, ◌≤◌, ◌<◌, MatchResult, Ok, Err, option_map};
+ghost use Rattle.share_client.specs.Clients.{client_profile};
 ghost use Rattle.share_client.specs.Files.{FetchCause, Fetches, TellsUrl};
 ghost use Rattle.share_client.specs.Listings.{ListsTablesOf};
+ghost use Rattle.share_client.specs.Pieces.{PiecesAt};
 ghost use Rattle.share_client.specs.Servers.{server_in};
 ghost use Rattle.share_client.specs.Sides.{counts, HasCause, Known, Later};
+ghost use Rattle.share_client.specs.Sizes.{SizeCause, SizesAt};
 ghost use Rattle.share_client.specs.Tables.{ReadsChangesOf, ReadsTableOf};
 ghost use Rattle.share_client.specs.Targets.{target_in};
 
 use crate::fetch::fetch;
 use crate::lists::list_tables;
+use crate::pieces::fetch_pieces;
 use crate::server::server_of;
+use crate::size::file_size;
 use crate::tables::{read_changes, read_table};
 use crate::{ClientFault, QueryBody, SharedTable, TableRead};
 use edge_core::{Link, Sink};
@@ -18,48 +22,38 @@ use share_config::Profile;
 use share_lines::Line;
 use std::alloc::Global;
 
-/// The client of a recipient, which asks the server of its profile over a link (Delta Sharing PROTOCOL.md, "REST APIs"). Each
-/// request goes over a line of its own, which is closed when its response was read or a fault came.
+/// The client of a recipient, which asks the server of its profile over the link that is lent for a call (Delta Sharing PROTOCOL.md,
+/// "REST APIs"). Each request goes over a line of its own, which is closed when its response was read or a fault came.
 ///
-/// Contracts see the link and the profile (`client_link`, `client_profile`). What they say of lines they say where the link tells
-/// them.
+/// Contracts see the profile (`client_profile`). What they say of a link's lines they say where the link tells them.
 #[derive(Drop)]
-pub struct Client<L> {
-    link: L,
+pub struct Client {
     profile: Profile,
 }
 
-impl<L> Client<L> {
-    /// A client over that link. It takes no memory.
-    pub fn new(link: L, profile: Profile) -> Client<L>
-        ensures link { client_link result ≡ link }
-        ensures profile { client_profile result ≡ profile }
+impl Client {
+    /// The client of that profile. It takes no memory.
+    pub fn new(profile: Profile) -> Client
+        ensures { client_profile result ≡ profile }
     {
-        Client { link, profile }
+        Client { profile }
     }
 
-    /// The link, given back. It takes no memory.
-    pub fn back(self) -> L
-        ensures { result ≡ client_link self }
-    {
-        let Client { link, profile: _ } = self;
-        link
-    }
-}
-
-impl<L: Link> Client<L> {
     /// The tables that are shared with the recipient: those of each share, in the order in which the server lists the shares and a
     /// share's tables ("List Shares" and "List All Tables in a Share"). A list may come in up to 100,000 pages.
     ///
     /// Every fault but `BadUrl` and `PageChanged` may come. After a fault nothing more is asked.
-    pub fn list_tables(&mut self, alloc: Global) -> Result<Vec<SharedTable>, ClientFault>
-        ensures later { Later (counts L.faults L.read_faults L.write_faults (client_link self.old)) (counts L.faults L.read_faults L.write_faults (client_link self.new)) }
-        ensures cause { HasCause result (counts L.faults L.read_faults L.write_faults (client_link self.old)) (counts L.faults L.read_faults L.write_faults (client_link self.new)) }
-        ensures profile { client_profile self.new ≡ client_profile self.old }
-        ensures told { Known L.coming L.closed (client_link self.old) (client_link self.new) (λ s t. MatchResult result (λ v. ListsTablesOf (server_in (client_profile self.old)) (Ok v.items) s t) (λ e. ListsTablesOf (server_in (client_profile self.old)) (Err e) s t)) }
+    pub fn list_tables<L: Link>(
+        &self,
+        alloc: Global,
+        link: &mut L,
+    ) -> Result<Vec<SharedTable>, ClientFault>
+        ensures later { Later (counts L.faults L.read_faults L.write_faults link.old) (counts L.faults L.read_faults L.write_faults link.new) }
+        ensures cause { HasCause result (counts L.faults L.read_faults L.write_faults link.old) (counts L.faults L.read_faults L.write_faults link.new) }
+        ensures told { Known L.coming L.closed link.old link.new (λ s t. MatchResult result (λ v. ListsTablesOf (server_in (client_profile self.now)) (Ok v.items) s t) (λ e. ListsTablesOf (server_in (client_profile self.now)) (Err e) s t)) }
     {
         match server_of(alloc, &self.profile) {
-            Ok(server) => list_tables(alloc, &mut self.link, &server),
+            Ok(server) => list_tables(alloc, link, &server),
             Err(_) => Err(ClientFault::NoMemory),
         }
     }
@@ -71,19 +65,19 @@ impl<L: Link> Client<L> {
     ///
     /// `PageChanged` comes where a page has another version or another metaData line than the first. Every fault but `BadUrl` may
     /// come. After a fault nothing more is asked.
-    pub fn read_table(
-        &mut self,
+    pub fn read_table<L: Link>(
+        &self,
         alloc: Global,
+        link: &mut L,
         table: &SharedTable,
         body: &QueryBody,
     ) -> Result<TableRead, ClientFault>
-        ensures later { Later (counts L.faults L.read_faults L.write_faults (client_link self.old)) (counts L.faults L.read_faults L.write_faults (client_link self.new)) }
-        ensures cause { HasCause result (counts L.faults L.read_faults L.write_faults (client_link self.old)) (counts L.faults L.read_faults L.write_faults (client_link self.new)) }
-        ensures profile { client_profile self.new ≡ client_profile self.old }
-        ensures told { Known L.coming L.closed (client_link self.old) (client_link self.new) (ReadsTableOf (server_in (client_profile self.old)) table.now body.now result) }
+        ensures later { Later (counts L.faults L.read_faults L.write_faults link.old) (counts L.faults L.read_faults L.write_faults link.new) }
+        ensures cause { HasCause result (counts L.faults L.read_faults L.write_faults link.old) (counts L.faults L.read_faults L.write_faults link.new) }
+        ensures told { Known L.coming L.closed link.old link.new (ReadsTableOf (server_in (client_profile self.now)) table.now body.now result) }
     {
         match server_of(alloc, &self.profile) {
-            Ok(server) => read_table(alloc, &mut self.link, &server, table, body),
+            Ok(server) => read_table(alloc, link, &server, table, body),
             Err(_) => Err(ClientFault::NoMemory),
         }
     }
@@ -92,20 +86,20 @@ impl<L: Link> Client<L> {
     /// ("Read Change Data Feed from a Table"). Pages are as those of `read_table`, but for the kinds of their lines.
     ///
     /// The faults are those of `read_table`.
-    pub fn read_changes(
-        &mut self,
+    pub fn read_changes<L: Link>(
+        &self,
         alloc: Global,
+        link: &mut L,
         table: &SharedTable,
         from: u64,
         to: u64,
     ) -> Result<Vec<Line>, ClientFault>
-        ensures later { Later (counts L.faults L.read_faults L.write_faults (client_link self.old)) (counts L.faults L.read_faults L.write_faults (client_link self.new)) }
-        ensures cause { HasCause result (counts L.faults L.read_faults L.write_faults (client_link self.old)) (counts L.faults L.read_faults L.write_faults (client_link self.new)) }
-        ensures profile { client_profile self.new ≡ client_profile self.old }
-        ensures told { Known L.coming L.closed (client_link self.old) (client_link self.new) (λ s t. MatchResult result (λ v. ReadsChangesOf (server_in (client_profile self.old)) table.now from to (Ok v.items) s t) (λ e. ReadsChangesOf (server_in (client_profile self.old)) table.now from to (Err e) s t)) }
+        ensures later { Later (counts L.faults L.read_faults L.write_faults link.old) (counts L.faults L.read_faults L.write_faults link.new) }
+        ensures cause { HasCause result (counts L.faults L.read_faults L.write_faults link.old) (counts L.faults L.read_faults L.write_faults link.new) }
+        ensures told { Known L.coming L.closed link.old link.new (λ s t. MatchResult result (λ v. ReadsChangesOf (server_in (client_profile self.now)) table.now from to (Ok v.items) s t) (λ e. ReadsChangesOf (server_in (client_profile self.now)) table.now from to (Err e) s t)) }
     {
         match server_of(alloc, &self.profile) {
-            Ok(server) => read_changes(alloc, &mut self.link, &server, table, from, to),
+            Ok(server) => read_changes(alloc, link, &server, table, from, to),
             Err(_) => Err(ClientFault::NoMemory),
         }
     }
@@ -114,20 +108,65 @@ impl<L: Link> Client<L> {
     /// ("File"). The request has no bearer token. A file has at most 256 MiB, and is held whole before it is written.
     ///
     /// `BadUrl` comes exactly where the url isn't an absolute `http` URL with a host. `WriteFault` comes too where the sink failed,
-    /// behind a front of the file; every other fault but `PageChanged` and `TooManyPages` may come, and then nothing was written.
-    pub fn fetch_file<K: Sink>(
-        &mut self,
+    /// behind a front of the file; every other fault but `PageChanged`, `SizeChanged` and `TooManyPages` may come, and then nothing
+    /// was written.
+    pub fn fetch_file<L: Link, K: Sink>(
+        &self,
         alloc: Global,
+        link: &mut L,
         url: &str,
         sink: &mut K,
     ) -> Result<u64, ClientFault>
-        ensures later { Later (counts L.faults L.read_faults L.write_faults (client_link self.old)) (counts L.faults L.read_faults L.write_faults (client_link self.new)) }
+        ensures later { Later (counts L.faults L.read_faults L.write_faults link.old) (counts L.faults L.read_faults L.write_faults link.new) }
         ensures sink_later { K.faults sink.old ≤ K.faults sink.new }
-        ensures cause { FetchCause result (counts L.faults L.read_faults L.write_faults (client_link self.old)) (counts L.faults L.read_faults L.write_faults (client_link self.new)) (K.faults sink.old) (K.faults sink.new) }
+        ensures cause { FetchCause result (counts L.faults L.read_faults L.write_faults link.old) (counts L.faults L.read_faults L.write_faults link.new) (K.faults sink.old) (K.faults sink.new) }
         ensures url { TellsUrl (target_in url.now) result }
-        ensures profile { client_profile self.new ≡ client_profile self.old }
-        ensures told { Known L.coming L.closed (client_link self.old) (client_link self.new) (Fetches url.now (K.holds sink.old) (K.holds sink.new) result) }
+        ensures told { Known L.coming L.closed link.old link.new (Fetches url.now (K.holds sink.old) (K.holds sink.new) result) }
     {
-        fetch(alloc, &mut self.link, url, sink)
+        fetch(alloc, link, url, sink)
+    }
+
+    /// Asks how many bytes the file of a link has, by HEAD. The request has no bearer token.
+    ///
+    /// `BadUrl` comes exactly where the url isn't an absolute `http` URL with a host. `BadReply` comes too where the response hasn't
+    /// exactly one Content-Length of 1 to 18 digits; every other fault but `PageChanged`, `SizeChanged` and `TooManyPages` may come.
+    pub fn file_size<L: Link>(
+        &self,
+        alloc: Global,
+        link: &mut L,
+        url: &str,
+    ) -> Result<u64, ClientFault>
+        ensures later { Later (counts L.faults L.read_faults L.write_faults link.old) (counts L.faults L.read_faults L.write_faults link.new) }
+        ensures cause { SizeCause result (counts L.faults L.read_faults L.write_faults link.old) (counts L.faults L.read_faults L.write_faults link.new) }
+        ensures url { TellsUrl (target_in url.now) result }
+        ensures told { Known L.coming L.closed link.old link.new (SizesAt (target_in url.now) result) }
+    {
+        file_size(alloc, link, url)
+    }
+
+    /// Fetches the file of a link into the sink in pieces of `piece` bytes, 1 to 134,217,728, and answers how many bytes the file has:
+    /// it asks the size by HEAD, and then range after range, the last one shorter, each over a line of its own. The requests have no
+    /// bearer token. One piece is held at a time, or the whole file where the server passes over ranges; the sink is flushed behind each.
+    ///
+    /// `SizeChanged` comes where a piece is of a file of another size than that asked first, and `BadReply` too where a part isn't the
+    /// range that was asked for. `TooManyPages` comes where bytes are left behind 100,000 pieces. `BadUrl` comes exactly where the url
+    /// isn't an absolute `http` URL with a host. `WriteFault` comes too where the sink failed, behind a front of a piece. Every other
+    /// fault but `PageChanged` may come. The pieces before a fault were written.
+    pub fn fetch_pieces<L: Link, K: Sink>(
+        &self,
+        alloc: Global,
+        link: &mut L,
+        url: &str,
+        piece: u64,
+        sink: &mut K,
+    ) -> Result<u64, ClientFault>
+        requires { (0 < piece) × (piece ≤ 134_217_728) }
+        ensures later { Later (counts L.faults L.read_faults L.write_faults link.old) (counts L.faults L.read_faults L.write_faults link.new) }
+        ensures sink_later { K.faults sink.old ≤ K.faults sink.new }
+        ensures cause { FetchCause result (counts L.faults L.read_faults L.write_faults link.old) (counts L.faults L.read_faults L.write_faults link.new) (K.faults sink.old) (K.faults sink.new) }
+        ensures url { TellsUrl (target_in url.now) result }
+        ensures told { Known L.coming L.closed link.old link.new (PiecesAt (target_in url.now) piece (K.holds sink.old) (K.holds sink.new) result) }
+    {
+        fetch_pieces(alloc, link, url, piece, sink)
     }
 }

@@ -37,13 +37,13 @@ pub(crate) fn send<K: Sink>(output: &mut K, text: &[u8]) -> Result<(), ClientFau
     }
 }
 
-// Reads the response.
-fn receive<S: Source>(alloc: Global, input: &mut S) -> Result<Response, ClientFault>
+// Reads the response to a request, by whether that is HEAD.
+fn receive<S: Source>(alloc: Global, input: &mut S, to_head: bool) -> Result<Response, ClientFault>
     ensures later { S.faults input.old ≤ S.faults input.new }
     ensures cause { CausedBy result ⊥ (Rose (S.faults input.old) (S.faults input.new)) ⊥ }
-    ensures told { (bytes : List ℕ) → S.left input.old ≡ Some bytes → Receives bytes result }
+    ensures told { (bytes : List ℕ) → S.left input.old ≡ Some bytes → Receives to_head bytes result }
 {
-    match Responses::new(alloc).next(alloc, input, false)? {
+    match Responses::new(alloc).next(alloc, input, to_head)? {
         Reply::Response {
             at: _,
             status,
@@ -66,30 +66,32 @@ fn talk<S: Source, K: Sink>(
     input: &mut S,
     output: &mut K,
     text: &[u8],
+    to_head: bool,
 ) -> Result<Response, ClientFault>
     ensures reads_later { S.faults input.old ≤ S.faults input.new }
     ensures writes_later { K.faults output.old ≤ K.faults output.new }
     ensures cause { CausedBy result ⊥ (Rose (S.faults input.old) (S.faults input.new)) (Rose (K.faults output.old) (K.faults output.new)) }
-    ensures told { (bytes : List ℕ) → S.left input.old ≡ Some bytes → K.holds output.old ≡ Some [] → (written : List ℕ) × (K.holds output.new ≡ Some written) × Talked text.now bytes written result }
+    ensures told { (bytes : List ℕ) → S.left input.old ≡ Some bytes → K.holds output.old ≡ Some [] → (written : List ℕ) × (K.holds output.new ≡ Some written) × Talked to_head text.now bytes written result }
 {
     send(output, text)?;
-    receive(alloc, input)
+    receive(alloc, input, to_head)
 }
 
-// Opens a line to the target, writes the request, reads the response and closes the line.
+// Opens a line to the target, writes the request, reads the response, by whether the request is HEAD, and closes the line.
 pub(crate) fn exchange<L: Link>(
     alloc: Global,
     link: &mut L,
     target: &Target,
     text: &str,
+    to_head: bool,
 ) -> Result<Response, ClientFault>
     ensures later { Later (counts L.faults L.read_faults L.write_faults link.old) (counts L.faults L.read_faults L.write_faults link.new) }
     ensures cause { HasCause result (counts L.faults L.read_faults L.write_faults link.old) (counts L.faults L.read_faults L.write_faults link.new) }
-    ensures told { Known L.coming L.closed link.old link.new (Exchanges target.now text.now result) }
+    ensures told { Known L.coming L.closed link.old link.new (Exchanges to_head target.now text.now result) }
 {
     match link.open(target.host.as_str(), target.port) {
         Opened::Line(mut input, mut output) => {
-            let answer = talk(alloc, &mut input, &mut output, text.as_bytes());
+            let answer = talk(alloc, &mut input, &mut output, text.as_bytes(), to_head);
             link.close(input, output);
             answer
         }

@@ -6,7 +6,7 @@ ghost use Rattle.share_client.specs.Sides.{counts, Known, Later};
 ghost use Rattle.share_client.specs.Targets.{target_in};
 
 use crate::ClientFault;
-use crate::ask::ask;
+use crate::ask::{Wanted, ask};
 use crate::exchange::send;
 use crate::request::get_text;
 use crate::target::{Target, target_of};
@@ -14,7 +14,7 @@ use edge_core::{Link, Sink};
 use std::alloc::{AllocError, Global};
 
 // The path, and a question mark and the query where there is one.
-fn path_with_query(alloc: Global, target: &Target) -> Result<String, AllocError>
+pub(crate) fn path_with_query(alloc: Global, target: &Target) -> Result<String, AllocError>
     ensures { IfOk result (λ t. string_bytes t ≡ target.now.path ++ query_tail target.now.query) }
 {
     let path = target.path.as_str();
@@ -72,7 +72,7 @@ fn fetch_from<L: Link, K: Sink>(
         Ok(text) => text,
         Err(_) => return Err(ClientFault::NoMemory),
     };
-    match ask(alloc, link, target, text.as_str()) {
+    match ask(alloc, link, target, text.as_str(), Wanted::Whole) {
         Ok(response) => match send(sink, response.body.as_slice()) {
             Ok(()) => Ok(response.body.len() as u64),
             Err(fault) => Err(fault),

@@ -5,7 +5,7 @@ ghost use Rattle.share_client.specs.Steps.{ListsOnto, ListTurn, ShareLists};
 ghost use Rattle.share_client.specs.Sides.{counts, HasCause, Known, Later};
 
 use crate::ClientFault;
-use crate::ask::ask;
+use crate::ask::{Wanted, ask};
 use crate::listing::{Listed, SharedTable, read_list};
 use crate::route::{SHARES, list_text, tables_route};
 use crate::server::Server;
@@ -33,7 +33,7 @@ fn list_turn<L: Link, T: Listed>(
         Ok(text) => text,
         Err(_) => return Err(ClientFault::NoMemory),
     };
-    match ask(alloc, link, &server.target, text.as_str()) {
+    match ask(alloc, link, &server.target, text.as_str(), Wanted::Whole) {
         Ok(response) => read_list(alloc, found, response.body.as_slice()),
         Err(fault) => Err(fault),
     }

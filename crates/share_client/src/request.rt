@@ -1,7 +1,8 @@
 // The texts of requests.
 ghost use Rattle.std.specs.Prelude.{◌≡◌, ◌++◌, IfOk, OnOk, string_bytes, option_copied};
-ghost use Rattle.share_client.specs.Requests.{bearer_line, close_lines, content_lines, field_line, front, get_text, post_text};
+ghost use Rattle.share_client.specs.Requests.{bearer_line, close_lines, content_lines, field_line, front, get_text, head_text, part_text, post_text, range_line, range_value};
 
+use file_ranges::part::ByteRange;
 use std::alloc::{AllocError, Global};
 
 fn push_field(alloc: Global, text: &mut String, name: &str, value: &str) -> Result<(), AllocError>
@@ -56,6 +57,45 @@ pub(crate) fn get_text(
     ensures { IfOk result (λ t. string_bytes t ≡ get_text target.now host.now (option_copied bearer.entry)) }
 {
     let mut text = front(alloc, "GET", target, host, bearer)?;
+    push_close(&mut text)?;
+    Ok(text)
+}
+
+// A request for the head alone of what a link is answered.
+pub(crate) fn head_text(alloc: Global, target: &str, host: &str) -> Result<String, AllocError>
+    ensures { IfOk result (λ t. string_bytes t ≡ head_text target.now host.now) }
+{
+    let mut text = front(alloc, "HEAD", target, host, None)?;
+    push_close(&mut text)?;
+    Ok(text)
+}
+
+fn range_value(alloc: Global, range: ByteRange) -> Result<String, AllocError>
+    ensures { IfOk result (λ t. string_bytes t ≡ range_value range) }
+{
+    let first = range.first();
+    let last = range.last();
+    format!(in alloc; "bytes={first}-{last}")
+}
+
+fn push_range(alloc: Global, text: &mut String, range: ByteRange) -> Result<(), AllocError>
+    ensures { OnOk result (string_bytes text.new ≡ string_bytes text.old ++ range_line range) }
+{
+    let value = range_value(alloc, range)?;
+    push_field(alloc, text, "Range", &value)
+}
+
+// A request for a part of what a link is answered.
+pub(crate) fn part_text(
+    alloc: Global,
+    target: &str,
+    host: &str,
+    range: ByteRange,
+) -> Result<String, AllocError>
+    ensures { IfOk result (λ t. string_bytes t ≡ part_text target.now host.now range) }
+{
+    let mut text = front(alloc, "GET", target, host, None)?;
+    push_range(alloc, &mut text, range)?;
     push_close(&mut text)?;
     Ok(text)
 }

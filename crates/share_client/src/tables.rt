@@ -5,7 +5,7 @@ ghost use Rattle.share_client.specs.TableRequests.{request_text};
 ghost use Rattle.share_client.specs.TableSteps.{PagesOnto, TableTurn};
 ghost use Rattle.share_client.specs.Sides.{counts, HasCause, Known, Later};
 
-use crate::ask::ask;
+use crate::ask::{Wanted, ask};
 use crate::lists::MOST_PAGES;
 use crate::page_head::{PageHead, kept_head};
 use crate::server::Server;
@@ -35,7 +35,7 @@ fn table_turn<L: Link, T: Content>(
         Ok(text) => text,
         Err(_) => return Err(ClientFault::NoMemory),
     };
-    match ask(alloc, link, &server.target, text.as_str()) {
+    match ask(alloc, link, &server.target, text.as_str(), Wanted::Whole) {
         Ok(response) => read_table_page(alloc, found, &response),
         Err(fault) => Err(fault),
     }

@@ -48,10 +48,11 @@ fn count_of(read: &TableRead) -> ReadCount {
 // Reads the table, and gives the version that was read and what came.
 fn read<L: Link>(
     alloc: Global,
-    client: &mut Client<L>,
+    client: &Client,
+    link: &mut L,
     body: &QueryBody,
 ) -> Result<(u64, ReadCount), Stop> {
-    let read = client.read_table(alloc, &table(alloc)?, body)?;
+    let read = client.read_table(alloc, link, &table(alloc)?, body)?;
     Ok((read.version, count_of(&read)))
 }
 
@@ -86,29 +87,26 @@ fn head<L: Link>(alloc: Global, link: &mut L) -> Result<u64, Stop> {
     }
 }
 
-// Reads the table twice, and asks for its version. The link is given back.
-fn read_all<L: Link + Drop>(alloc: Global, link: L) -> Result<(Reads, L), Stop> {
-    let mut client = Client::new(link, world::profile(alloc)?);
-    let (version, whole) = read(alloc, &mut client, &world::whole(alloc)?)?;
-    let (again, part) = read(alloc, &mut client, &world::part(alloc)?)?;
+// Reads the table twice, and asks for its version.
+fn read_all<L: Link>(alloc: Global, link: &mut L) -> Result<Reads, Stop> {
+    let client = Client::new(world::profile(alloc)?);
+    let (version, whole) = read(alloc, &client, link, &world::whole(alloc)?)?;
+    let (again, part) = read(alloc, &client, link, &world::part(alloc)?)?;
     if again != version {
         return Err(Stop::Unexpected);
     }
-    let mut link = client.back();
-    let head = head(alloc, &mut link)?;
-    let reads = Reads {
+    Ok(Reads {
         version,
         whole,
         part,
-        head,
-    };
-    Ok((reads, link))
+        head: head(alloc, link)?,
+    })
 }
 
 fn summary_of<R: Wait + Copy>(rt: R, alloc: Global, number: u32) -> Result<Summary, Stop> {
     let peer = world::peer_of(alloc, number)?;
-    let link = LoopLink::new(rt, alloc, peer, all_planned(alloc, number)?)?;
-    let (reads, link) = read_all(alloc, link)?;
+    let mut link = LoopLink::new(rt, alloc, peer, all_planned(alloc, number)?)?;
+    let reads = read_all(alloc, &mut link)?;
     let keys = world::server_of_config(alloc)?.keys;
     let is_core_equal = is_equal(alloc, &keys, number, &link.take_heard())?;
     Ok(Summary {

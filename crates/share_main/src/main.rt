@@ -1,31 +1,9 @@
 //! A data provider's server over live Delta tables: the program.
 #![tactic(auto)]
 
-mod client;
-#[cfg(test)]
-mod client_tests;
-mod edge;
-mod ends;
-mod input;
-mod opening;
-#[cfg(test)]
-mod query_tests;
-mod run;
-mod serve;
-#[cfg(test)]
-mod serve_tests;
-mod stdio;
-#[cfg(test)]
-mod stdio_tests;
-mod table;
-#[cfg(test)]
-mod tests;
-mod words;
-
-use edge::Edge;
 use edge_core::{Gathering, LockedDoor, OpenGate, SharedDoor};
 use edge_std::{FileStore, StdClock, StdSink, StdSource, TcpDoor, TcpWay};
-use run::{run, tell_memory};
+use share_commands::{Edge, MOST_WORKERS, run, tell_memory};
 use share_pool::Desk;
 use std::alloc::{AllocError, Global};
 use std::io::ErrorKind;
@@ -33,7 +11,6 @@ use std::process::ExitCode;
 use std::sync::{Arc, Mutex};
 use std::{env, io};
 use step_count::Steps;
-use words::MOST_WORKERS;
 
 // The words after the program's name. Words that aren't text are no row of the table of words,
 // as no words are.
@@ -103,6 +80,6 @@ fn main(rt: HostRuntime) -> io::Result<ExitCode> {
         gate: OpenGate,
         steps: Steps::<()>::new(),
     };
-    let mut way = Some(TcpWay::new(rt.clone()?));
+    let mut way = TcpWay::new(rt.clone()?);
     Ok(ExitCode::from(run(&rt, rt.alloc(), &words, &mut edge, &mut desks, &mut way)))
 }

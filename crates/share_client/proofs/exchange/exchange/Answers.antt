@@ -20,7 +20,7 @@ returns-in-Line-clause-told g c =
     let line = rw c.as_str.ensures at c.in-Line.ensures.line in
     let told = rw c.as_bytes.ensures.value at c.talk-answer.ensures.told in
     let last = closed_line (g.L.Out.Sink.holds c.talk-answer.new.output) (g.L.In.Source.faults c.talk-answer.new.input) (g.L.Out.Sink.faults c.talk-answer.new.output) in
-    line_used c.args.target.now c.args.text.now c.talk-answer.result g.L.Link.coming g.L.Link.closed c.args.link.now c.close.new.self _ _ _ _ _ _
+    line_used c.args.to_head c.args.target.now c.args.text.now c.talk-answer.result g.L.Link.coming g.L.Link.closed c.args.link.now c.close.new.self _ _ _ _ _ _
     line.0 c.close.ensures.coming
     (c.close.ensures.closed ∙ ap (λ o. with_line o last) c.in-Line.ensures.closed)
     told

@@ -12,7 +12,7 @@ returns-in-Ok-clause-told g c =
     let server = c.in-Ok.server in
     let profile = c.args.self.now.profile in
     let result = c.list_tables.result in
-    known_as g.L.Link.coming g.L.Link.closed c.args.self.now.link c.list_tables.new.link
+    known_as g.L.Link.coming g.L.Link.closed c.args.link.now c.list_tables.new.link
     (λ s t. MatchResult result (λ v. ListsTables server (Ok v.items) s t) (λ e. ListsTables server (Err e) s t))
     (λ s t. MatchResult result (λ v. ListsTablesOf (server_in profile) (Ok v.items) s t) (λ e. ListsTablesOf (server_in profile) (Err e) s t))
     (λ s t a. subst (λ o. MatchResult result (λ v. ListsTablesOf o (Ok v.items) s t) (λ e. ListsTablesOf o (Err e) s t)) (sym c.in-Ok.ensures) a)
@@ -20,6 +20,6 @@ returns-in-Ok-clause-told g c =
 
 pub returns-in-Err-clause-told : goal.returns-in-Err-clause-told
 returns-in-Err-clause-told g c =
-    known_same g.L.Link.coming g.L.Link.closed c.args.self.now.link
+    known_same g.L.Link.coming g.L.Link.closed c.args.link.now
     (λ s t. ListsTablesOf (server_in c.args.self.now.profile) (Err fault.NoMemory) s t)
     (λ s. no_server (server_in c.args.self.now.profile) s)

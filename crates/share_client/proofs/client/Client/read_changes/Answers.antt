@@ -13,7 +13,7 @@ returns-in-Ok-clause-told g c =
     let table = c.args.table.now in
     let result = c.read_changes.result in
     let asked = changes c.in-Ok.server table c.args.from c.args.to in
-    known_as g.L.Link.coming g.L.Link.closed c.args.self.now.link c.read_changes.new.link
+    known_as g.L.Link.coming g.L.Link.closed c.args.link.now c.read_changes.new.link
     (λ s t. MatchResult result (λ v. ReadsChanges asked (Ok v.items) s t) (λ e. ReadsChanges asked (Err e) s t))
     (λ s t. MatchResult result (λ v. ReadsChangesOf (server_in profile) table c.args.from c.args.to (Ok v.items) s t) (λ e. ReadsChangesOf (server_in profile) table c.args.from c.args.to (Err e) s t))
     (λ s t a. subst (λ o. MatchResult result (λ v. ReadsChangesOf o table c.args.from c.args.to (Ok v.items) s t) (λ e. ReadsChangesOf o table c.args.from c.args.to (Err e) s t)) (sym c.in-Ok.ensures) a)
@@ -22,6 +22,6 @@ returns-in-Ok-clause-told g c =
 pub returns-in-Err-clause-told : goal.returns-in-Err-clause-told
 returns-in-Err-clause-told g c =
     let server = server_in c.args.self.now.profile in
-    known_same g.L.Link.coming g.L.Link.closed c.args.self.now.link
+    known_same g.L.Link.coming g.L.Link.closed c.args.link.now
     (λ s t. ReadsChangesOf server c.args.table.now c.args.from c.args.to (Err fault.NoMemory) s t)
     (λ s. no_changes server c.args.table.now c.args.from c.args.to s)

@@ -12,7 +12,7 @@ returns-in-Ok-clause-told g c =
     let table = c.args.table.now in
     let body = c.args.body.now in
     let result = c.read_table.result in
-    known_as g.L.Link.coming g.L.Link.closed c.args.self.now.link c.read_table.new.link
+    known_as g.L.Link.coming g.L.Link.closed c.args.link.now c.read_table.new.link
     (ReadsTable (files c.in-Ok.server table body) result)
     (ReadsTableOf (server_in profile) table body result)
     (λ s t a. subst (λ o. ReadsTableOf o table body result s t) (sym c.in-Ok.ensures) a)
@@ -21,6 +21,6 @@ returns-in-Ok-clause-told g c =
 pub returns-in-Err-clause-told : goal.returns-in-Err-clause-told
 returns-in-Err-clause-told g c =
     let server = server_in c.args.self.now.profile in
-    known_same g.L.Link.coming g.L.Link.closed c.args.self.now.link
+    known_same g.L.Link.coming g.L.Link.closed c.args.link.now
     (ReadsTableOf server c.args.table.now c.args.body.now (Err fault.NoMemory))
     (λ s. no_table server c.args.table.now c.args.body.now s)

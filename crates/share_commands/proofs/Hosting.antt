@@ -1,0 +1,172 @@
+-- From new passes to workers that served, and from the desks that were used to all of them.
+use Rattle.std.proofs.Common.{◌≡◌, ℕ, zero, suc, ◌+◌, ◌<◌, ◌≤◌, Bool, List, [], ◌∷◌, ◌++◌, length, drop, take, map, min, Option, Some, None, refl, sym, ap, ◌∙◌, subst, arith, slice_index_or, inl, inr}
+use Rattle.std.proofs.lemmas.List.{get_or-take, get_or_append_left, take_all}
+use Rattle.std.proofs.Math.Seq.{drop-append_seam}
+use Rattle.std.proofs.lemmas.List.{take-append-le}
+use Rattle.atomic_table.specs.Seated.{TableId}
+use Rattle.edge_core.specs.Faults.{Rose}
+use Rattle.edge_core.specs.Lines.{ClosedLine}
+use Rattle.edge_core.specs.Objects.{Objects}
+use Rattle.share_book.specs.declared.entry.Entry.{Entry}
+use Rattle.share_config.specs.declared.config.Config.{Config}
+use Rattle.share_hub.specs.CatalogCalls.{Step}
+use Rattle.share_hub.specs.Calls.{P}
+use Rattle.share_hub.specs.Opens.{first_history}
+use Rattle.share_pool.specs.Desks.{DeskWorks, HasPass, all_end}
+use Rattle.share_pool.specs.declared.desk.Desk.{Desk}
+use Rattle.share_pool.specs.declared.desk.ServeEnd.{ServeEnd}
+use Rattle.share_pool.specs.declared.desk.ServeEnd.TheVariants as serve_end
+use Rattle.share_serve.specs.Callers.{server_of}
+use Rattle.share_serve.specs.declared.server.Server.{Server}
+use Rattle.turn_cell.specs.Passes.{AllFresh, fresh}
+use Rattle.share_commands.specs.Outside.{Outside}
+use Rattle.share_commands.specs.Serve.{AllWait, DoorFails, IsServing, OpensServer, Serves, ServesAt, UsesDesks, Waits, WorkersServe, WorksAt, end_of}
+use Rattle.share_commands.specs.Stdio.{Configures}
+use Rattle.share_commands.specs.StdioSteps.{LooksOnly, OpensFor}
+use Rattle.share_commands.specs.Steps.{Runs, Tells}
+use Rattle.share_commands.specs.declared.ends.End.{End}
+use Rattle.share_commands.specs.declared.ends.End.TheVariants as ends
+use Rattle.share_commands.specs.declared.opening.NoServer.TheVariants as no_server
+use Rattle.share_commands.specs.declared.words.Command.{Command}
+use Rattle.share_commands.specs.declared.words.Command.TheVariants as command
+use Rattle.share_commands.proofs.Runs.{opens_told, unserved_still, unserved_told}
+
+-- the pass of each number
+fresh_at : (hub : TableId) (h : List Entry) (ps : List P) (n i : ℕ) (p : P) → AllFresh hub h n ps → i < length ps → slice_index_or ps i p ≡ fresh hub (n + i) h
+fresh_at hub h [] n i p all less = absurd (omega (arith, less))
+fresh_at hub h (q ∷ ps) n zero p all less =
+    let same : n ≡ n + zero = omega arith in
+    all.0 ∙ ap (λ z. fresh hub z h) same
+fresh_at hub h (q ∷ ps) n (suc i) p all less =
+    let same : n + 1 + i ≡ n + suc i = omega arith in
+    fresh_at hub h ps (n + 1) i p all.1 (omega (arith, less)) ∙ ap (λ z. fresh hub z h) same
+
+pub numbered : (hub : TableId) (h : List Entry) (ps : List P) (i : ℕ) (p : P) → AllFresh hub h 0 ps → i < length ps → slice_index_or ps i p ≡ fresh hub i h
+numbered hub h ps i p all less =
+    let same : 0 + i ≡ i = omega arith in
+    fresh_at hub h ps 0 i p all less ∙ ap (λ z. fresh hub z h) same
+
+module _ {N W C L : Type 0} (coming : N → Option (List (List ℕ))) (closed : N → Option (List ClosedLine)) (failed : N → ℕ) (moments : C → Option (List ℕ)) (objects : W → Option Objects) (alone : W → Bool) (faults : W → ℕ) where
+  -- each desk that was made ready has its pass
+  abbrev pub Seated : List P → ℕ → List (Desk N W C L) → Type 0
+  Seated passes n desks = (i : ℕ) (d : Desk N W C L) (p : P) → i < n → (slice_index_or desks i d).pass ≡ Some (slice_index_or passes i p)
+
+  seat_of : (hub : TableId) (h : List Entry) (passes : List P) (desks : List (Desk N W C L)) (n : ℕ) → AllFresh hub h 0 passes → n ≤ length passes → Seated passes n desks
+      → (i : ℕ) (d : Desk N W C L) → i < n → (slice_index_or desks i d).pass ≡ Some (fresh hub i h)
+  seat_of hub h passes desks n all enough ready i d less = ready i d (fresh hub i h) less ∙ ap Some (numbered hub h passes i (fresh hub i h) all (omega (arith, less, enough)))
+
+  pub has_pass : (hub : TableId) (h : List Entry) (passes : List P) (desks : List (Desk N W C L)) (n : ℕ) → AllFresh hub h 0 passes → n ≤ length passes → Seated passes n desks → (i : ℕ) (d : Desk N W C L) → i < n → HasPass hub (slice_index_or desks i d).pass
+  has_pass hub h passes desks n all enough ready i d less = subst (HasPass hub) (sym (seat_of hub h passes desks n all enough ready i d less)) (refl, refl)
+
+  pub all_serve : (hub : TableId) (server : Server) (config : Config) (found : List Step) (passes : List P) (first ready last : List (Desk N W C L)) (n : ℕ) (e : ServeEnd) → server ≡ server_of config → AllFresh hub (first_history found) 0 passes → n ≤ length passes
+      → AllWait coming closed failed moments objects alone faults n first ready → Seated passes n ready
+      → ((i : ℕ) (d : Desk N W C L) → i < n → DeskWorks coming closed failed moments objects alone faults hub server (slice_index_or ready i d) (slice_index_or last i d)) → e ≡ all_end (map (λ d. d.end) last) → length last ≤ n
+      → WorkersServe coming closed failed moments objects alone faults config found n e first last
+  all_serve hub server config found passes first ready last n e is all enough waits seated works end short = record {
+    hub = hub;
+    each = λ i d less. (
+      slice_index_or ready i d,
+      waits i d less,
+      seat_of hub (first_history found) passes ready n all enough seated i d less,
+      subst (λ s. DeskWorks coming closed failed moments objects alone faults hub s (slice_index_or ready i d) (slice_index_or last i d)) is (works i d less),
+    );
+    end = end ∙ ap (λ l. all_end (map (λ (d : Desk N W C L). d.end) l)) (sym (take_all n last short));
+  }
+
+  -- ---- the desks that were used are the first of all
+
+  -- so many of the desks came to these
+  pub record Front (used : ℕ) (desks part desks' : List (Desk N W C L)) : Type 0 where
+    pub most : used ≤ length desks
+    pub count : length part ≡ used
+    pub rest : desks' ≡ part ++ drop used desks
+
+  first_of : (used : ℕ) (desks part desks' : List (Desk N W C L)) → Front used desks part desks' → (i : ℕ) (d : Desk N W C L) → i < used → slice_index_or part i d ≡ slice_index_or desks' i d
+  first_of used desks part desks' f i d less = sym (ap (λ l. slice_index_or l i d) f.rest ∙ get_or_append_left part (drop used desks) d i (let c = f.count in omega (arith, c, less)))
+
+  pub behind : (used : ℕ) (desks part desks' : List (Desk N W C L)) → Front used desks part desks' → drop used desks' ≡ drop used desks
+  behind used desks part desks' f = ap (drop used) f.rest ∙ ap (λ n. drop n (part ++ drop used desks)) (sym f.count) ∙ drop-append_seam part (drop used desks)
+
+  front : (used : ℕ) (desks part desks' : List (Desk N W C L)) → Front used desks part desks' → take used desks' ≡ part
+  front used desks part desks' f = ap (take used) f.rest ∙ take-append-le used part (drop used desks) (let c = f.count in omega (arith, c)) ∙ take_all used part (let c = f.count in omega (arith, c))
+
+  -- what holds of a desk before and after holds of it among all
+  among : (Q : ℕ → Desk N W C L → Desk N W C L → Type 0) (used : ℕ) (desks part desks' : List (Desk N W C L)) → Front used desks part desks' → (i : ℕ) (d : Desk N W C L) → i < used → Q i (slice_index_or (take used desks) i d) (slice_index_or part i d)
+      → Q i (slice_index_or desks i d) (slice_index_or desks' i d)
+  among Q used desks part desks' f i d less q =
+      subst (λ x. Q i (slice_index_or desks i d) x) (first_of used desks part desks' f i d less) (subst (λ x. Q i x (slice_index_or part i d)) (get_or-take used desks i d less) q)
+
+  pub door_fails : (used : ℕ) (desks part desks' : List (Desk N W C L)) → Front used desks part desks' → DoorFails coming closed failed moments objects alone faults used (take used desks) part → DoorFails coming closed failed moments objects alone faults used desks desks'
+  door_fails used desks part desks' f (waits, (i, less, rose)) =
+      ((λ j d below. among (λ n x y. Waits coming closed failed moments objects alone faults x y) used desks part desks' f j d below (waits j d below)), (i, less, λ d. among (λ n x y. Rose (failed x.door) (failed y.door)) used desks part desks' f i d less (rose d)))
+
+  pub workers_serve : (config : Config) (found : List Step) (used : ℕ) (e : ServeEnd) (desks part desks' : List (Desk N W C L)) → Front used desks part desks'
+      → WorkersServe coming closed failed moments objects alone faults config found used e (take used desks) part → WorkersServe coming closed failed moments objects alone faults config found used e desks desks'
+  workers_serve config found used e desks part desks' f w = record {
+    hub = w.hub;
+    each = λ i d less. among (WorksAt coming closed failed moments objects alone faults w.hub config found) used desks part desks' f i d less (w.each i d less);
+    end = w.end ∙ ap (λ l. all_end (map (λ (d : Desk N W C L). d.end) l)) (take_all used part (let c = f.count in omega (arith, c)) ∙ sym (front used desks part desks' f));
+  }
+
+  -- ---- a run of `serve`
+
+  -- the desks that were used came to what a run says of them
+  pub served_desks : (config : Config) (found : List Step) (used n : ℕ) (e : ServeEnd) (desks part desks' : List (Desk N W C L)) → n ≡ used → Front used desks part desks'
+      → WorkersServe coming closed failed moments objects alone faults config found n e (take used desks) part → IsServing coming closed failed moments objects alone faults config found used e desks desks'
+  served_desks config found used n e desks part desks' is f w =
+      inr (workers_serve config found used e desks part desks' f (subst (λ k. WorkersServe coming closed failed moments objects alone faults config found k e (take used desks) part) is w))
+
+  pub failed_desks : (config : Config) (found : List Step) (used n : ℕ) (desks part desks' : List (Desk N W C L)) → n ≡ used → Front used desks part desks'
+      → DoorFails coming closed failed moments objects alone faults n (take used desks) part → IsServing coming closed failed moments objects alone faults config found used serve_end.ListenerFault desks desks'
+  failed_desks config found used n desks part desks' is f w =
+      inl (door_fails used desks part desks' f (subst (λ k. DoorFails coming closed failed moments objects alone faults k (take used desks) part) is w), refl)
+
+  pub serves_at : (config : Config) (found : List Step) (used workers : ℕ) (e : ServeEnd) (end : End) (old new : Outside) (desks part desks' : List (Desk N W C L)) → used ≡ min workers (length desks) → Front used desks part desks' → end ≡ end_of e → OpensServer config found old new
+      → IsServing coming closed failed moments objects alone faults config found used e desks desks' → Serves coming closed failed moments objects alone faults workers old new end desks desks'
+  serves_at config found used workers e end old new desks part desks' is f ends opens serving =
+      subst (λ k. ServesAt coming closed failed moments objects alone faults k old new end desks desks') is (inr (e, ends, (config, found, opens, serving, behind used desks part desks' f)))
+
+  -- what a run says of the desks it says of the outside as the notes leave it
+  pub desks_told : (asked : Option Command) (old mid new : Outside) (text : List ℕ) (end : End) (desks desks' : List (Desk N W C L)) → Tells mid new text → UsesDesks coming closed failed moments objects alone faults asked old mid end desks desks'
+      → UsesDesks coming closed failed moments objects alone faults asked old new end desks desks'
+  desks_told None old mid new text end desks desks' tells u = u
+  desks_told (Some command.Help) old mid new text end desks desks' tells u = u
+  desks_told (Some command.Version) old mid new text end desks desks' tells u = u
+  desks_told (Some (command.Query location)) old mid new text end desks desks' tells u = u
+  desks_told (Some command.Stdio) old mid new text end desks desks' tells u = u
+  desks_told (Some (command.Rehearse number)) old mid new text end desks desks' tells u = u
+  desks_told (Some (command.Client name call_words)) old mid new text end desks desks' tells u = u
+  desks_told (Some (command.Serve port workers)) old mid new text end desks desks' tells (inl (why, is, u, same)) = inl (why, is, unserved_told why old mid new text tells u, same)
+  desks_told (Some (command.Serve port workers)) old mid new text end desks desks' tells (inr (e, is, (config, found, o, serving, rest))) = inr (e, is, (config, found, opens_told config found old mid new text tells o, serving, rest))
+
+  pub desks_still : (asked : Option Command) (o : Outside) (desks : List (Desk N W C L)) → UsesDesks coming closed failed moments objects alone faults asked o o ends.NoMemory desks desks
+  desks_still None o desks = refl
+  desks_still (Some command.Help) o desks = refl
+  desks_still (Some command.Version) o desks = refl
+  desks_still (Some (command.Query location)) o desks = refl
+  desks_still (Some command.Stdio) o desks = refl
+  desks_still (Some (command.Rehearse number)) o desks = refl
+  desks_still (Some (command.Client name call_words)) o desks = refl
+  desks_still (Some (command.Serve port workers)) o desks = inl (no_server.NoMemory, refl, unserved_still o, refl)
+
+-- ---- the edge
+
+pub opens_server : (config : Config) (callers : ℕ) (hub : TableId) (passes : List P) (old mid : Outside) → LooksOnly old mid → Configures (Some config) old.objects mid.objects → (opens : OpensFor callers hub passes old.objects mid.objects) → OpensServer config opens.found old mid
+opens_server config callers hub passes old mid looks configured opens = record {
+  looked = looks.looked;
+  configured = configured;
+  steps = opens.steps;
+  last = opens.last;
+  left = ap (λ o. o.left) looks.rest;
+  held = ap (λ o. o.held) looks.rest;
+  coming = ap (λ o. o.coming) looks.rest;
+}
+
+pub hosted_runs : (port workers : ℕ) (config : Config) (found : List Step) (e : ServeEnd) (end : End) (old mid : Outside) → LooksOnly old mid → end ≡ end_of e → OpensServer config found old mid → Runs (Some (command.Serve port workers)) old mid end
+hosted_runs port workers config found e end old mid looks is opens = record {
+  means = inr (e, is, (config, found, opens));
+  notes = ap (λ o. o.noted) looks.rest;
+  note_faults = ap (λ o. o.note_faults) looks.rest;
+  grows = looks.looked.grows;
+  same = looks.looked.same;
+}

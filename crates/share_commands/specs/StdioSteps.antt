@@ -1,0 +1,65 @@
+-- What the steps of `stdio` do, one after another.
+use Rattle.std.specs.Prelude.{◌≡◌, ℕ, ◌≤◌, List, Option, Some, Result, Ok, Err, length}
+use Rattle.atomic_table.specs.Seated.{TableId}
+use Rattle.edge_core.specs.Objects.{Lacks, Objects}
+use Rattle.catalog_log.specs.RecordNames.{record_name_of}
+use Rattle.log_store.specs.Loads.{Looked}
+use Rattle.log_store.specs.declared.refusal.LoadRefusal.{LoadRefusal}
+use Rattle.log_store.specs.declared.refusal.LoadRefusal.TheVariants as load
+use Rattle.share_config.specs.declared.config.Config.{Config}
+use Rattle.share_hub.specs.CatalogCalls.{Step}
+use Rattle.share_hub.specs.Calls.{P}
+use Rattle.share_hub.specs.Edits.{AreSteps}
+use Rattle.share_hub.specs.Opens.{first_history}
+use Rattle.share_hub.specs.declared.open.OpenRefusal.{OpenRefusal}
+use Rattle.share_hub.specs.declared.open.OpenRefusal.TheVariants as refusal
+use Rattle.share_serve.specs.Callers.{server_of}
+use Rattle.share_serve.specs.Sessions.{HasCause, IsSession}
+use Rattle.share_serve.specs.Sides.{hold, side}
+use Rattle.share_serve.specs.Turns.{Grew}
+use Rattle.share_serve.specs.declared.serve.SessionEnd.{SessionEnd}
+use Rattle.share_serve.specs.declared.server.Server.{Server}
+use Rattle.turn_cell.specs.Passes.{AllFresh}
+use Rattle.share_commands.specs.Outside.{Outside}
+use Rattle.share_commands.specs.Stdio.{Configures, HasReason, shelf_of}
+use Rattle.share_commands.specs.declared.opening.NoServer.{NoServer}
+use Rattle.share_commands.specs.declared.opening.NoServer.TheVariants as no_server
+use Rattle.share_commands.specs.declared.opening.Opened.{Opened}
+
+abbrev pub without_load : LoadRefusal → NoServer
+without_load load.StoreFault = no_server.StoreFault
+without_load load.NoMemory = no_server.NoMemory
+
+abbrev pub without_hub : OpenRefusal → NoServer
+without_hub (refusal.Record number fault) = no_server.Record number
+without_hub (refusal.Edit number why) = no_server.Record number
+without_hub refusal.StoreFault = no_server.StoreFault
+without_hub refusal.NoMemory = no_server.NoMemory
+
+-- So many passes, numbered from 0, have seen the edits of the catalogue's records, up to the first record that was absent.
+pub record OpensFor (callers : ℕ) (hub : TableId) (passes : List P) (old new : Option Objects) : Type 0 where
+  pub count : length passes ≡ callers
+  pub found : List Step
+  pub begin : AllFresh hub (first_history found) 0 passes
+  pub steps : AreSteps old new 0 found
+  pub last : Lacks (record_name_of (length found)) new
+
+-- the server is that of the store's configuration, and its passes are new; or why there is none
+abbrev pub IsOpened : Result Opened NoServer → ℕ → (old new : Option Objects) → (before now : ℕ) → Type 0
+IsOpened (Ok o) callers old new before now = ((config : Config) × (o.server ≡ server_of config) × Configures (Some config) old new) × OpensFor callers o.hub o.passes.items old new
+IsOpened (Err why) callers old new before now = HasReason why old new before now
+
+-- the store was looked at, and nothing else was used
+pub record LooksOnly (old new : Outside) : Type 0 where
+  pub rest : new ≡ record old { objects = new.objects; alone = new.alone; store_faults = new.store_faults }
+  pub looked : Looked old.objects new.objects old.alone new.alone
+  pub later : old.store_faults ≤ new.store_faults
+
+-- One session was served by that server, from that pass on. Nothing is noted.
+pub record ServesOne (server : Server) (pass : P) (e : SessionEnd) (old new : Outside) : Type 0 where
+  pub last : P
+  pub grew : Grew (hold pass (shelf_of old)) (hold last (shelf_of new))
+  pub session : IsSession server old.left (side old.coming (hold pass (shelf_of old)) old.held) (side new.coming (hold last (shelf_of new)) new.held) e
+  pub cause : HasCause e old.read_faults new.read_faults old.write_faults new.write_faults old.objects old.store_faults new.store_faults
+  pub notes : new.noted ≡ old.noted
+  pub note_faults : new.note_faults ≡ old.note_faults

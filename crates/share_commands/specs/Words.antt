@@ -1,0 +1,116 @@
+-- What the words of the command line ask for.
+use Rattle.std.specs.Prelude.{ℕ, ◌^◌, ◌&&◌, ◌==◌, Bool, false, not, length, nat_lt, List, [], ◌∷◌, Option, Some, None, option_map, option_and_then, String, string_bytes, bytes_eq, codes, nat_le, if◌then◌else◌}
+use Rattle.std.specs.Char.{is_ascii_digit}
+use Rattle.std.specs.List.{list_all}
+use Rattle.std.specs.Str.Parse.{digits_value}
+use Rattle.std.specs.declared.alloc.Global.{Global}
+use Rattle.edge_core.specs.Names.{is_name}
+use Rattle.share_catalog.specs.Locations.{is_location}
+use Rattle.share_client.specs.declared.listing.SharedTable.{SharedTable}
+use Rattle.share_commands.specs.declared.words.CallWords.{CallWords}
+use Rattle.share_commands.specs.declared.words.CallWords.TheVariants as worded
+use Rattle.share_commands.specs.declared.words.Command.{Command}
+use Rattle.share_commands.specs.declared.words.Command.TheVariants as command
+
+-- the place of a table: a name that isn't the server's own
+abbrev pub location_in : List ℕ → Option (List ℕ)
+location_in text = if is_name text && is_location text then Some text else None
+
+-- a command of one word
+abbrev pub single_in : List ℕ → Option Command
+single_in word = if bytes_eq word (codes "stdio") then Some command.Stdio else if bytes_eq word (codes "--help") then Some command.Help else if bytes_eq word (codes "--version") then Some command.Version else None
+
+-- `query LOCATION`
+abbrev pub query_in : List ℕ → Option Command
+query_in location = option_map command.Query (location_in location)
+
+-- a number in decimal without a zero before it
+abbrev pub is_plain : List ℕ → Bool
+is_plain [] = false
+is_plain (d ∷ ds) = if d == 48 then not (nat_lt 0 (length ds)) else is_ascii_digit d && list_all is_ascii_digit ds
+
+-- the number from 1 up to this one that a word writes
+abbrev pub number_in : ℕ → List ℕ → Option ℕ
+number_in most word =
+    if is_plain word && (nat_le 1 (digits_value 10 word) && nat_le (digits_value 10 word) most) then Some (digits_value 10 word) else None
+
+-- `serve PORT WORKERS`
+abbrev pub serve_in : List ℕ → List ℕ → List ℕ → Option Command
+serve_in word port workers =
+    if bytes_eq word (codes "serve")
+    then option_and_then (λ p. option_map (λ n. command.Serve p n) (number_in 64 workers)) (number_in 65535 port)
+    else None
+
+-- the number below a limit that a word writes
+abbrev pub below_in : ℕ → List ℕ → Option ℕ
+below_in limit word = if is_plain word then (if nat_lt (digits_value 10 word) limit then Some (digits_value 10 word) else None) else None
+
+-- the version that a word writes, 0 to 2^63 - 1
+abbrev pub version_in : List ℕ → Option ℕ
+version_in word = below_in (2 ^ 63) word
+
+-- `rehearse NUMBER`
+abbrev pub rehearse_in : List ℕ → Option Command
+rehearse_in number = option_map command.Rehearse (below_in (2 ^ 32) number)
+
+-- a command of two words
+abbrev pub pair_in : (word second : List ℕ) → Option Command
+pair_in word second = if bytes_eq word (codes "query") then query_in second else if bytes_eq word (codes "rehearse") then rehearse_in second else None
+
+-- the name of a profile's object
+abbrev pub name_in : List ℕ → Option (List ℕ)
+name_in text = if is_name text then Some text else None
+
+-- ---- the call that the words of `client` name
+
+-- `tables`
+abbrev pub tables_in : List ℕ → Option CallWords
+tables_in word = if bytes_eq word (codes "tables") then Some worded.Tables else None
+
+-- `fetch .. URL`
+abbrev pub fetch_in : (word url : List ℕ) → Option CallWords
+fetch_in word url = if bytes_eq word (codes "fetch") then Some (worded.Fetch url) else None
+
+-- `fetch .. URL PIECE`, with 1 to 134217728 bytes a piece, 2^27
+abbrev pub pieces_in : (word url piece : List ℕ) → Option CallWords
+pieces_in word url piece = if bytes_eq word (codes "fetch") then option_map (worded.FetchPieces url) (number_in 134217728 piece) else None
+
+-- `read .. SHARE SCHEMA TABLE`
+abbrev pub read_in : (word share schema table : List ℕ) → Option CallWords
+read_in word share schema table = if bytes_eq word (codes "read") then Some (worded.Read (record { share = share; schema = schema; table = table })) else None
+
+-- `changes .. SHARE SCHEMA TABLE FROM TO`
+abbrev pub changes_in : List ℕ → SharedTable → (from to : List ℕ) → Option CallWords
+changes_in word table from to =
+    if bytes_eq word (codes "changes")
+    then option_and_then (λ f. option_map (λ t. worded.Changes table f t) (version_in to)) (version_in from)
+    else None
+
+abbrev pub call_words_in : List ℕ → List (String Global) → Option CallWords
+call_words_in word [] = tables_in word
+call_words_in word (url ∷ []) = fetch_in word (string_bytes url)
+call_words_in word (url ∷ piece ∷ []) = pieces_in word (string_bytes url) (string_bytes piece)
+call_words_in word (share ∷ schema ∷ table ∷ []) = read_in word (string_bytes share) (string_bytes schema) (string_bytes table)
+call_words_in word (share ∷ schema ∷ table ∷ from ∷ []) = None
+call_words_in word (share ∷ schema ∷ table ∷ from ∷ to ∷ []) =
+    changes_in word (record { share = string_bytes share; schema = string_bytes schema; table = string_bytes table }) (string_bytes from) (string_bytes to)
+call_words_in word (share ∷ schema ∷ table ∷ from ∷ to ∷ more ∷ words) = None
+
+-- `client CALL PROFILE ..`
+abbrev pub client_in : (word profile : List ℕ) → List (String Global) → Option Command
+client_in word profile words = option_and_then (λ p. option_map (λ e. command.Client p e) (call_words_in word words)) (name_in profile)
+
+abbrev pub serve_or_none : (word port workers : List ℕ) → List (String Global) → Option Command
+serve_or_none word port workers [] = serve_in word port workers
+serve_or_none word port workers (more ∷ words) = None
+
+-- three words and more
+abbrev pub long_in : (word second third : List ℕ) → List (String Global) → Option Command
+long_in word second third words = if bytes_eq word (codes "client") then client_in second third words else serve_or_none word second third words
+
+-- the command of the words, none where they are no row of the table
+abbrev pub command_in : List (String Global) → Option Command
+command_in [] = None
+command_in (word ∷ []) = single_in (string_bytes word)
+command_in (word ∷ second ∷ []) = pair_in (string_bytes word) (string_bytes second)
+command_in (word ∷ second ∷ third ∷ words) = long_in (string_bytes word) (string_bytes second) (string_bytes third) words

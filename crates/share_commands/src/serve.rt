@@ -1,0 +1,155 @@
+// The command `serve`.
+ghost use Rattle.std.specs.Prelude.{◌≡◌, ◌<◌, ◌≤◌, ℕ, List, MatchOption, Some, None, drop, length, min, slice_index_or};
+ghost use Rattle.std.specs.Bool.{OnFalse, OnTrue};
+ghost use Rattle.edge_core.specs.Faults.{Rose};
+ghost use Rattle.share_book.specs.declared.entry.Entry.{Entry};
+ghost use Rattle.share_hub.specs.CatalogCalls.{Step};
+ghost use Rattle.share_hub.specs.Opens.{first_history};
+ghost use Rattle.share_config.specs.declared.config.Config.{Config};
+ghost use Rattle.share_serve.specs.Callers.{server_of};
+ghost use Rattle.turn_cell.specs.Passes.{AllFresh};
+ghost use Rattle.share_commands.specs.Serve.{AllWait, DoorFails, Serves, Waits, WorkersServe, end_of as end_is};
+ghost use Rattle.share_commands.specs.Steps.{Runs};
+ghost use Rattle.share_commands.specs.declared.words.Command.TheVariants.{Serve};
+
+use crate::edge::Edge;
+use crate::ends::End;
+use crate::opening::Opened;
+use crate::stdio::{end_without, open_over};
+use edge_core::{Clock, Gate, Listener, Listening, Sink, Source, Store};
+use share_hub::HubPass;
+use share_pool::{Desk, ServeEnd, serve_all};
+use std::alloc::Global;
+use std::sync::Wait;
+use std::thread::Threads;
+
+// How a run ends after its workers.
+fn end_of(end: ServeEnd) -> End
+    ensures { result ≡ end_is end }
+{
+    match end {
+        ServeEnd::Closed { .. } => End::Done,
+        ServeEnd::ListenerFault => End::ListenerFault,
+        ServeEnd::NoMemory => End::NoMemory,
+    }
+}
+
+// Gives a desk a place at the hub, and has its door listen. Whether it does.
+fn make_ready<N: Listener, W: Store, C: Clock, L>(
+    desk: &mut Desk<N, W, C, L>,
+    pass: Option<HubPass>,
+    port: u16,
+) -> bool
+    ensures waits { Waits N.coming N.closed N.faults C.coming W.objects W.alone W.faults desk.old desk.new }
+    ensures pass { desk.new.pass ≡ pass }
+    ensures fails { OnFalse result (Rose (N.faults desk.old.door) (N.faults desk.new.door)) }
+{
+    desk.pass = pass;
+    match desk.door.listen(port) {
+        Listening::Open => true,
+        Listening::Failed => false,
+    }
+}
+
+// The same with each desk, in order, up to the first whose door fails. Whether all listen.
+fn make_all_ready<N: Listener, W: Store, C: Clock, L>(
+    desks: &mut [Desk<N, W, C, L>],
+    passes: Vec<HubPass>,
+    port: u16,
+) -> bool
+    requires { length desks.old ≤ length passes.items }
+    ensures count { length desks.new ≡ length desks.old }
+    ensures waits { AllWait N.coming N.closed N.faults C.coming W.objects W.alone W.faults (length desks.old) desks.old desks.new }
+    ensures ready { OnTrue result ((i : ℕ) (d : _) (p : _) → i < length desks.old → (slice_index_or desks.new i d).pass ≡ Some (slice_index_or passes.items i p)) }
+    ensures fails { OnFalse result (DoorFails N.coming N.closed N.faults C.coming W.objects W.alone W.faults (length desks.old) desks.old desks.new) }
+{
+    let mut passes = passes.into_iter();
+    for desk in desks.iter_mut() {
+        if !make_ready(desk, passes.next(), port) {
+            return false;
+        }
+    }
+    true
+}
+
+// Has a worker at each desk serve what comes to the port. None where a door can't listen.
+fn serve_at<
+    R: Threads + Wait + Sync,
+    W: Store + Send,
+    C: Clock + Send,
+    N: Listener + Send,
+    G: Gate + Sync,
+    L: Send,
+>(
+    rt: &R,
+    alloc: Global,
+    opened: Opened,
+    port: u16,
+    desks: &mut [Desk<N, W, C, L>],
+    gate: &G,
+) -> Option<ServeEnd>
+    requires enough { length desks.old ≤ length opened.passes.items }
+    requires fresh { (h : List Entry) × AllFresh opened.hub h 0 opened.passes.items }
+    ensures count { length desks.new ≡ length desks.old }
+    ensures serves { (config : Config) (found : List Step) → opened.server ≡ server_of config → AllFresh opened.hub (first_history found) 0 opened.passes.items
+        → MatchOption result (DoorFails N.coming N.closed N.faults C.coming W.objects W.alone W.faults (length desks.old) desks.old desks.new) (λ e. WorkersServe N.coming N.closed N.faults C.coming W.objects W.alone W.faults config found (length desks.old) e desks.old desks.new) }
+{
+    let Opened {
+        server,
+        hub,
+        passes,
+    } = opened;
+    if !make_all_ready(desks, passes, port) {
+        return None;
+    }
+    if desks.is_empty() {
+        return Some(ServeEnd::Closed { served: 0 });
+    }
+    Some(serve_all(rt, alloc, &hub, &server, desks, gate))
+}
+
+// At how many desks workers serve, of so many.
+fn used_desks(workers: u32, count: usize) -> usize
+    ensures { result ≡ min workers count }
+{
+    if (workers as usize) < count {
+        workers as usize
+    } else {
+        count
+    }
+}
+
+/// Opens a server over the store, and has as many workers serve the connections that come to the port, each at a desk of its own: at
+/// the first desks, and at all where there are fewer. It comes back where every worker has ended.
+pub fn serve<
+    R: Threads + Wait + Sync,
+    S: Source,
+    K: Sink,
+    M: Sink,
+    W: Store + Send,
+    C: Clock + Send,
+    N: Listener + Send,
+    G: Gate + Sync,
+    L: Send,
+>(
+    rt: &R,
+    alloc: Global,
+    port: u16,
+    workers: u32,
+    edge: &mut Edge<S, K, M, W, C, G, L>,
+    desks: &mut [Desk<N, W, C, L>],
+) -> End
+    requires workers { (1 ≤ workers) × (workers ≤ 64) }
+    ensures runs { Runs (Some (Serve port workers)) edge.old edge.new result }
+    ensures desks { Serves N.coming N.closed N.faults C.coming W.objects W.alone W.faults workers edge.old edge.new result desks.old desks.new }
+{
+    let opened = match open_over(alloc, workers, edge) {
+        Ok(opened) => opened,
+        Err(why) => return end_without(why),
+    };
+    let used = used_desks(workers, desks.len());
+    match serve_at(rt, alloc, opened, port, &mut desks[..used], &edge.gate) {
+        Some(end) => end_of(end),
+        None => End::ListenerFault,
+    }
+}
