@@ -9,9 +9,7 @@ use Rattle.turn_cell.specs.Rule.{Sits, Rule}
 use Rattle.turn_cell.specs.Plays.{Adds}
 use Rattle.turn_cell.specs.declared.view.View.{View}
 use Rattle.turn_cell.specs.declared.view.Stage.TheVariants.{Holding}
-use Rattle.turn_cell.proofs.Stays.{holding_busy, set_apart, set_all, same_apart, away}
-use Rattle.turn_cell.proofs.Queues.{none_by_snoc}
-use Rattle.turn_cell.proofs.Serves.{set_at}
+use Rattle.turn_cell.proofs.Stays.{set_apart, set_all, same_apart, set_at, one_holds, away, none_by_snoc}
 
 -- the first of what follows
 taken : {A : Type 0} (xs : List A) (x : A) (ys : List A) (n : ℕ) → n ≡ length xs + 1 → take n (xs ++ x ∷ ys) ≡ xs ++ x ∷ []
@@ -22,16 +20,14 @@ taken (y ∷ xs) x ys zero e = absurd (omega arith)
 taken (y ∷ xs) x ys (suc n) e = ap (λ z. y ∷ z) (taken xs x ys n (omega arith))
 
 module _ {T E : Type 0} (by : E → ℕ) (history : T → List E) (rests : T → Bool) where
-  others : (log : List E) (ended : ℕ) (queue : List ℕ) (u v : View E) (e : E) → Apart u v → by e ≡ v.low → v.low < v.high → Sits by log ended queue u → Sits by (log ++ e ∷ []) ended queue u
-  others log ended queue u v e apart own some_number a = let n = a.numbers in let told = a.told in record {
+  others : (log : List E) (u v : View E) (e : E) → Apart u v → by e ≡ v.low → v.low < v.high → Sits by log u → Sits by (log ++ e ∷ []) u
+  others log u v e apart own some_number a = let n = a.numbers in let told = a.told in record {
     rest = a.rest ++ e ∷ [];
     begins = sym (append_assoc u.seen a.rest (e ∷ [])) ∙ ap (λ z. z ++ e ∷ []) a.begins;
     foreign = none_by_snoc by u.low u.high a.rest e a.foreign (⊎_elim (λ l. inr (omega arith)) (λ l. inl (omega arith)) apart);
     told = (told.0 ++ e ∷ [], sym (append_assoc u.told told.0 (e ∷ [])) ∙ ap (λ z. z ++ e ∷ []) told.1);
     numbers = a.numbers;
-    idle = a.idle;
-    queued = a.queued;
-    holds = a.holds;
+    one = a.one;
   }
 
   pub adds : (slots id : ℕ) (me : Seat T E) (e : E) (rest : List E) → me.0.stage ≡ Holding → carried history me.1 ≡ me.0.seen ++ e ∷ rest → by e ≡ me.0.low → length (carried history me.1) < 2 ^ 64
@@ -41,9 +37,7 @@ module _ {T E : Type 0} (by : E → ℕ) (history : T → List E) (rests : T →
       let xs : List E = v.seen ++ e ∷ [] in
       let w : View E = saw xs v in
       let it = r.seats id v at in
-      let n = it.numbers in
-      let p = it.queued (holding_busy v.stage turn) in
-      let one = p.0 in
+      let one = it.one turn in
       let h = away by history rests s r id v at turn in
       let log : List E = r.log ++ e ∷ [] in
       let same : xs ≡ log = ap (λ z. z ++ e ∷ []) h.1 in
@@ -57,22 +51,27 @@ module _ {T E : Type 0} (by : E → ℕ) (history : T → List E) (rests : T →
         tt,
         record {
           log = log;
-          ended = r.ended;
-          queue = r.queue;
-          words = ap (λ (z : List ℕ). set z 0 ((get_or s.words 0 0 + 1) % 2 ^ 64)) r.words ∙ ap (λ (z : ℕ). z ∷ (r.ended + length r.queue) % 2 ^ 64 ∷ r.ended % 2 ^ 64 ∷ []) new;
-          distinct = r.distinct;
-          seats = set_all (λ _ u. Sits by log r.ended r.queue u) s.views id w record {
+          lock = r.lock;
+          words = ap (λ (z : List ℕ). set z 0 ((get_or s.words 0 0 + 1) % 2 ^ 64)) r.words ∙ ap (λ (z : ℕ). z ∷ r.lock ∷ []) new;
+          seats = set_all (λ _ u. Sits by log u) s.views id w record {
             rest = [];
             begins = append-nil xs ∙ same;
             foreign = tt;
             told = (log, refl);
             numbers = it.numbers;
-            idle = it.idle;
-            queued = it.queued;
-            holds = it.holds;
-          } (λ j u ne e'. others r.log r.ended r.queue u v e (r.apart j id u v e' at ne) own (omega arith) (r.seats j u e'));
+            one = it.one;
+          } (λ j u ne e'. others r.log u v e (r.apart j id u v e' at ne) own (omega arith) (r.seats j u e'));
           apart = set_apart s.views id w r.apart (same_apart s.views id v w at r.apart refl refl);
-          place = inr (h.0, id, w, set_at by history rests s.views id w v at, turn, same);
+          place = inr (
+            h.2,
+            h.0,
+            id,
+            w,
+            set_at s.views id w v at,
+            turn,
+            same,
+            set_all (λ j (z : View E). z.stage ≡ Holding → j ≡ id) s.views id w (λ _. refl) (λ j u _ e' two. one_holds by history rests s r j id u v e' at two turn),
+          );
         },
         (ap (λ (z : List E). saw z v) (sym (ap (take (length v.seen + 1)) has ∙ taken v.seen e rest _ refl)), refl),
       )

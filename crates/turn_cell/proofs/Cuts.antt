@@ -14,9 +14,8 @@ use Rattle.turn_cell.specs.Rule.{most_callers, Sits, Home, Away, Rule}
 use Rattle.turn_cell.specs.Plays.{Learns}
 use Rattle.turn_cell.specs.declared.view.View.{View}
 use Rattle.turn_cell.specs.declared.view.Stage.TheVariants.{Idle, Holding}
-use Rattle.turn_cell.proofs.Stays.{apart_sym, EachApart, set_apart, set_all, same_apart, away}
-use Rattle.turn_cell.proofs.Queues.{none_by_within}
-use Rattle.turn_cell.proofs.Serves.{all_seen, set_at}
+use Rattle.turn_cell.proofs.Stays.{apart_sym, EachApart, set_apart, set_all, same_apart, same_place, away, none_by_within}
+use Rattle.turn_cell.proofs.Grabs.{all_seen}
 
 module _ {E : Type 0} where
   -- a new seat, apart from each
@@ -45,20 +44,18 @@ module _ {E : Type 0} where
   none_by_nobody by [] = tt
   none_by_nobody by (e ∷ es) = (inr (omega arith), none_by_nobody by es)
 
-  pub sits_blank : (by : E → ℕ) (log : List E) (ended : ℕ) (queue : List ℕ) → Sits by log ended queue spent
-  sits_blank by log ended queue = record {
+  sits_blank : (by : E → ℕ) (log : List E) → Sits by log spent
+  sits_blank by log = record {
     rest = log;
     begins = refl;
     foreign = none_by_nobody by log;
     told = (log, refl);
     numbers = (omega arith, omega arith);
-    idle = λ h k l m. absurd (omega arith);
-    queued = λ h. absurd (h refl);
-    holds = λ h. absurd (cc h);
+    one = λ h. absurd (cc h);
   }
 
 module _ {T E : Type 0} (by : E → ℕ) (history : T → List E) (rests : T → Bool) where
-  cuts : (s : CellState T E) (r : Rule by history rests s) (id : ℕ) (v l n : View E) → get_elem? s.views id ≡ some v → Sits by r.log r.ended r.queue l → Sits by r.log r.ended r.queue n
+  cuts : (s : CellState T E) (r : Rule by history rests s) (id : ℕ) (v l n : View E) → get_elem? s.views id ≡ some v → Sits by r.log l → Sits by r.log n
       → l.stage ≡ v.stage → l.seen ≡ v.seen → n.stage ≡ Idle → (v.low ≤ l.low) × (l.high ≤ v.high) → (v.low ≤ n.low) × (n.high ≤ v.high) → Apart n l
       → Rule by history rests record { words = s.words; homes = s.homes; views = set s.views id l ++ n ∷ [] }
   cuts s r id v l n at sl sn stage seen none_ inl_ inn two =
@@ -66,33 +63,37 @@ module _ {T E : Type 0} (by : E → ℕ) (history : T → List E) (rests : T →
       let within : (z : View E) → v.low ≤ z.low → z.high ≤ v.high → (j : ℕ) (u : View E) → j ≢ id → get_elem? s.views j ≡ some u → Apart z u =
       λ z a b j u ne e. ⊎_elim (λ x. inl (omega arith)) (λ x. inr (omega arith)) (r.apart id j v u at e (λ p. ne (sym p))) in
       let vs : List (View E) = set s.views id l in
+      let between : CellState T E = record { words = s.words; homes = s.homes; views = vs } in
+      let nobody : (u : View E) → n ≡ u → u.stage ≡ Holding → ⊥ = λ u p t. cc (sym t ∙ (sym (ap (λ (z : View E). z.stage) p) ∙ none_)) in
       record {
         log = r.log;
-        ended = r.ended;
-        queue = r.queue;
+        lock = r.lock;
         words = r.words;
-        distinct = r.distinct;
         seats = λ j u e. ⊎_elim
-            (λ (p : get_elem? vs j ≡ some u). set_all (λ _ z. Sits by r.log r.ended r.queue z) s.views id l sl (λ i z _ f. r.seats i z f) j u p)
-            (λ (p : n ≡ u). subst (λ (z : View E). Sits by r.log r.ended r.queue z) p sn)
+            (λ (p : get_elem? vs j ≡ some u). set_all (λ _ z. Sits by r.log z) s.views id l sl (λ i z _ f. r.seats i z f) j u p)
+            (λ (p : n ≡ u). subst (λ (z : View E). Sits by r.log z) p sn)
             (at_snoc vs n u j e);
         apart = snoc_apart vs n (set_apart s.views id l r.apart (within l inl_.0 inl_.1)) (set_all (λ _ u. Apart n u) s.views id l two (within n inn.0 inn.1));
         place = ⊎_elim
-            (λ (h : Home by history rests r.log s). inl (
+            (λ (h : Home by history rests r.log r.lock between). inl (
               h.0,
               h.1,
               h.2,
               h.3,
-              λ j u e. ⊎_elim
-                  (λ (p : get_elem? vs j ≡ some u). set_all (λ _ (z : View E). z.stage ≢ Holding) s.views id l (λ t. h.4 id v at (sym stage ∙ t)) (λ i z _ f. h.4 i z f) j u p)
-                  (λ (p : n ≡ u). λ t. absurd (cc (sym t ∙ (sym (ap (λ (z : View E). z.stage) p) ∙ none_))))
-                  (at_snoc vs n u j e),
+              h.4,
+              λ j u e. ⊎_elim (λ (p : get_elem? vs j ≡ some u). h.5 j u p) (λ (p : n ≡ u). λ t. nobody u p t) (at_snoc vs n u j e),
             ))
-            (λ (h : Away by history rests r.log s). inr (dite (ℕ_discrete h.1 id)
-            (λ e. let same : some h.2 ≡ some v = sym h.3 ∙ (ap (get_elem? s.views) e ∙ at) in let is : h.2 ≡ v = some-injective _ _ same in
-            (h.0, id, l, at_longer vs (n ∷ []) id l (set_at by history rests s.views id l v at), stage ∙ (sym (ap (λ (z : View E). z.stage) is) ∙ h.4), seen ∙ (sym (ap (λ (z : View E). z.seen) is) ∙ h.5)))
-            (λ ne. (h.0, h.1, h.2, at_longer vs (n ∷ []) h.1 h.2 (set_else s.views id h.1 l ne ∙ h.3), h.4, h.5))))
-            r.place;
+            (λ (h : Away by history rests r.log r.lock between). inr (
+              h.0,
+              h.1,
+              h.2,
+              h.3,
+              at_longer vs (n ∷ []) h.2 h.3 h.4,
+              h.5,
+              h.6,
+              λ j u e t. ⊎_elim (λ (p : get_elem? vs j ≡ some u). h.7 j u p t) (λ (p : n ≡ u). absurd (nobody u p t)) (at_snoc vs n u j e),
+            ))
+            (same_place by history rests s r s.words id v l at stage (λ t. seen ∙ (away by history rests s r id v at t).1));
       }
 
   pub cuts_caller : (id : ℕ) (v : View E) → v.stage ≡ Idle → v.low < v.high → Splits (Rule by history rests) id v (other_callers v) (first_caller v)
@@ -104,18 +105,14 @@ module _ {T E : Type 0} (by : E → ℕ) (history : T → List E) (rests : T →
         foreign = none_by_within by v.low v.high (v.low + 1) v.high it.rest (omega arith) (omega arith) it.foreign;
         told = it.told;
         numbers = (omega arith, omega arith);
-        idle = λ h k l m. it.idle h k (omega arith) m;
-        queued = λ h. absurd (h idle);
-        holds = λ h. absurd (cc (sym h ∙ idle));
+        one = λ h. absurd (cc (sym h ∙ idle));
       } record {
         rest = it.rest;
         begins = it.begins;
         foreign = none_by_within by v.low v.high v.low (v.low + 1) it.rest (omega arith) (omega arith) it.foreign;
         told = (r.log, refl);
         numbers = (omega arith, omega arith);
-        idle = λ h k l m. it.idle idle k l (omega arith);
-        queued = λ h. absurd (h refl);
-        holds = λ h. absurd (cc h);
+        one = λ h. absurd (cc h);
       } refl refl refl (omega arith, omega arith) (omega arith, omega arith) (inl (omega arith))
 
   pub cuts_note : (id : ℕ) (v : View E) → Splits (Rule by history rests) id v v (note v)
@@ -127,29 +124,19 @@ module _ {T E : Type 0} (by : E → ℕ) (history : T → List E) (rests : T →
         foreign = none_by_within by v.low v.high v.low v.low it.rest (omega arith) (omega arith) it.foreign;
         told = (r.log, refl);
         numbers = (omega arith, omega arith);
-        idle = λ h k l m. absurd (omega arith);
-        queued = λ h. absurd (h refl);
-        holds = λ h. absurd (cc h);
+        one = λ h. absurd (cc h);
       } refl refl refl (omega arith, omega arith) (omega arith, omega arith) (inl (omega arith))
 
   -- the view of one seat is changed, with its numbers and its stage as before
-  changes : (s : CellState T E) (r : Rule by history rests s) (id : ℕ) (v w : View E) → get_elem? s.views id ≡ some v → Sits by r.log r.ended r.queue w → w.low ≡ v.low → w.high ≡ v.high → w.stage ≡ v.stage
+  changes : (s : CellState T E) (r : Rule by history rests s) (id : ℕ) (v w : View E) → get_elem? s.views id ≡ some v → Sits by r.log w → w.low ≡ v.low → w.high ≡ v.high → w.stage ≡ v.stage
       → (v.stage ≡ Holding → w.seen ≡ r.log) → Rule by history rests record { words = s.words; homes = s.homes; views = set s.views id w }
   changes s r id v w at sw low high stage seen = record {
     log = r.log;
-    ended = r.ended;
-    queue = r.queue;
+    lock = r.lock;
     words = r.words;
-    distinct = r.distinct;
-    seats = set_all (λ _ z. Sits by r.log r.ended r.queue z) s.views id w sw (λ i z _ f. r.seats i z f);
+    seats = set_all (λ _ z. Sits by r.log z) s.views id w sw (λ i z _ f. r.seats i z f);
     apart = set_apart s.views id w r.apart (same_apart s.views id v w at r.apart low high);
-    place = ⊎_elim
-        (λ (h : Home by history rests r.log s). inl (h.0, h.1, h.2, h.3, set_all (λ _ (z : View E). z.stage ≢ Holding) s.views id w (λ t. h.4 id v at (sym stage ∙ t)) (λ i z _ f. h.4 i z f)))
-        (λ (h : Away by history rests r.log s). inr (dite (ℕ_discrete h.1 id)
-        (λ e. let same : some h.2 ≡ some v = sym h.3 ∙ (ap (get_elem? s.views) e ∙ at) in let two : v.stage ≡ Holding = sym (ap (λ (z : View E). z.stage) (some-injective _ _ same)) ∙ h.4 in
-        (h.0, id, w, set_at by history rests s.views id w v at, stage ∙ two, seen two))
-        (λ ne. (h.0, h.1, h.2, set_else s.views id h.1 w ne ∙ h.3, h.4, h.5))))
-        r.place;
+    place = same_place by history rests s r s.words id v w at stage seen;
   }
 
   pub learns : (slots id : ℕ) (me : Seat T E) → Allows (Rule by history rests) slots id me 0 (λ n. n) (Learns by (step slots 0 0 0 none) me)
@@ -158,7 +145,7 @@ module _ {T E : Type 0} (by : E → ℕ) (history : T → List E) (rests : T →
     keeps,
     tt,
     subst (λ (z : List ℕ). Rule by history rests record { words = z; homes = s.homes; views = set s.views id w }) (sym (set-get_or s.words 0 0))
-        (changes s r id v w at (all_seen by history rests s r id v w at refl refl refl refl refl (r.log, refl)) refl refl refl (λ _. refl)),
+        (changes s r id v w at (all_seen by history rests s r id v w at refl refl it.one refl (r.log, refl)) refl refl refl (λ _. refl)),
     (r.log, (it.rest, sym it.begins, it.foreign), it.told, refl, refl),
   )
 
@@ -166,24 +153,11 @@ module _ {T E : Type 0} (by : E → ℕ) (history : T → List E) (rests : T →
   blanks : (s : CellState T E) (r : Rule by history rests s) (id : ℕ) (u : View E) → get_elem? s.views id ≡ some u → u.stage ≡ Idle → Rule by history rests record { words = s.words; homes = s.homes; views = set s.views id spent }
   blanks s r id u at idle = record {
     log = r.log;
-    ended = r.ended;
-    queue = r.queue;
+    lock = r.lock;
     words = r.words;
-    distinct = r.distinct;
-    seats = set_all (λ _ z. Sits by r.log r.ended r.queue z) s.views id spent (sits_blank by r.log r.ended r.queue) (λ i z _ f. r.seats i z f);
+    seats = set_all (λ _ z. Sits by r.log z) s.views id spent (sits_blank by r.log) (λ i z _ f. r.seats i z f);
     apart = set_apart s.views id spent r.apart (λ j z ne e. inl (omega arith));
-    place = ⊎_elim
-        (λ (h : Home by history rests r.log s). inl (h.0, h.1, h.2, h.3, set_all (λ _ (z : View E). z.stage ≢ Holding) s.views id spent (λ t. absurd (cc t)) (λ i z _ f. h.4 i z f)))
-        (λ (h : Away by history rests r.log s). inr (
-          h.0,
-          h.1,
-          h.2,
-          set_else s.views id h.1 spent (λ e.
-              let same : some h.2 ≡ some u = sym h.3 ∙ (ap (get_elem? s.views) e ∙ at) in let st : h.2.stage ≡ u.stage = ap (λ (z : View E). z.stage) (some-injective _ _ same) in absurd (cc (sym h.4 ∙ (st ∙ idle)))) ∙ h.3,
-          h.4,
-          h.5,
-        ))
-        r.place;
+    place = same_place by history rests s r s.words id u spent at (sym idle) (λ t. absurd (cc (sym t ∙ idle)));
   }
 
   pub joins : (id : ℕ) (v : View E) (other : ℕ) (u : View E) → u.stage ≡ Idle → Joins (Rule by history rests) id v other u (told_by v u) spent
@@ -197,32 +171,26 @@ module _ {T E : Type 0} (by : E → ℕ) (history : T → List E) (rests : T →
         foreign = it.foreign;
         told = (b.rest, b.begins);
         numbers = it.numbers;
-        idle = it.idle;
-        queued = it.queued;
-        holds = it.holds;
+        one = it.one;
       } refl refl refl (λ t. (away by history rests s r id v at t).1) in
       blanks record { words = s.words; homes = s.homes; views = set s.views id w } r' other u there idle
 
   -- the table at the start
-  pub opens : (h : T) (callers : ℕ) (log : List E) → history h ≡ log → rests h ≡ true → callers ≤ most_callers → Rule by history rests (opening (length log ∷ 0 ∷ 0 ∷ []) (Some h ∷ []) (first_view callers log))
+  pub opens : (h : T) (callers : ℕ) (log : List E) → history h ≡ log → rests h ≡ true → callers ≤ most_callers → Rule by history rests (opening (length log ∷ 0 ∷ []) (Some h ∷ []) (first_view callers log))
   opens h callers log all resting few = record {
     log = log;
-    ended = 0;
-    queue = [];
+    lock = 0;
     words = refl;
-    distinct = tt;
-    seats = only (λ v. Sits by log 0 [] v) record {
+    seats = only (λ v. Sits by log v) record {
       rest = [];
       begins = append-nil log;
       foreign = tt;
       told = (log, refl);
       numbers = (omega arith, few);
-      idle = λ h k l m. tt;
-      queued = λ h. absurd (h refl);
-      holds = λ h. absurd (cc h);
+      one = λ h. absurd (cc h);
     };
     apart = λ i j v w a b ne. one_seat i j v w a b ne;
-    place = inl (h, refl, all, resting, only (λ (v : View E). v.stage ≢ Holding) (λ e. absurd (cc e)));
+    place = inl (refl, h, refl, all, resting, only (λ (v : View E). v.stage ≢ Holding) (λ e. absurd (cc e)));
   } where
     only : (P : View E → Type 0) → P (first_view callers log) → (i : ℕ) (v : View E) → get_elem? (first_view callers log ∷ []) i ≡ some v → P v
     only P p zero v e = subst P (some-injective _ _ e) p

@@ -1,21 +1,29 @@
 -- What any step keeps: the seats' numbers, and what the other seats know.
-use Rattle.std.proofs.Common.{◌≡◌, ℕ, ◌-◌, ◌≢◌, Bool, true, refl, List, [], ◌∷◌, set, Some, slice_get, sym, ap, ◌∙◌, subst, inl, inr, ⊎_elim, arith}
+use Rattle.std.proofs.Common.{◌≡◌, ℕ, zero, suc, ◌<◌, ◌≤◌, ◌≢◌, ◌⊎◌, Bool, true, refl, List, [], ◌∷◌, ◌++◌, length, set, sym, ap, ◌∙◌, subst, inl, inr, ⊎_elim, arith}
 use mathlib.Core.Logic.{dite}
 use mathlib.Core.Option.{none, some, some-injective}
 use native.Mathlib.Decide.{ℕ_discrete}
 use lib.ListN.{get_elem?}
-use Rattle.atomic_table.proofs.Lists.{at_set}
+use Rattle.atomic_table.proofs.Lists.{at_set, set_here, set_else}
+use Rattle.turn_cell.specs.Entries.{NoneBy}
 use Rattle.turn_cell.specs.Views.{CellState, is_holding, Apart}
-use Rattle.turn_cell.specs.Rule.{Sits, Home, Away, Rule}
+use Rattle.turn_cell.specs.Rule.{Home, Away, Rule}
 use Rattle.turn_cell.specs.declared.view.View.{View}
 use Rattle.turn_cell.specs.declared.view.Stage.{Stage}
-use Rattle.turn_cell.specs.declared.view.Stage.TheVariants.{Idle, Waiting, Holding}
+use Rattle.turn_cell.specs.declared.view.Stage.TheVariants.{Idle, Holding}
 
 -- a stage at which the turn is out
 pub is_holding-true : (stage : Stage) → is_holding stage ≡ true → stage ≡ Holding
 is_holding-true Idle h = absurd (cc h)
-is_holding-true Waiting h = absurd (cc h)
 is_holding-true Holding h = refl
+
+at_inside : {A : Type 0} (l : List A) (i : ℕ) (a : A) → get_elem? l i ≡ some a → i < length l
+at_inside [] i a e = absurd cc
+at_inside (x ∷ l) zero a e = omega arith
+at_inside (x ∷ l) (suc i) a e = let n = at_inside l i a e in omega arith
+
+pub set_at : {A : Type 0} (l : List A) (i : ℕ) (a b : A) → get_elem? l i ≡ some b → get_elem? (set l i a) i ≡ some a
+set_at l i a b e = set_here l i a (at_inside l i b e)
 
 module _ {E : Type 0} where
   pub apart_sym : (v w : View E) → Apart v w → Apart w v
@@ -23,9 +31,6 @@ module _ {E : Type 0} where
 
   abbrev pub EachApart : List (View E) → Type 0
   EachApart vs = (i j : ℕ) (v w : View E) → get_elem? vs i ≡ some v → get_elem? vs j ≡ some w → i ≢ j → Apart v w
-
-  abbrev pub EachSits : (E → ℕ) → List E → ℕ → List ℕ → List (View E) → Type 0
-  EachSits by log ended queue vs = (i : ℕ) (v : View E) → get_elem? vs i ≡ some v → Sits by log ended queue v
 
   -- one seat's view is changed
   pub set_apart : (vs : List (View E)) (me : ℕ) (w : View E) → EachApart vs → ((j : ℕ) (u : View E) → j ≢ me → get_elem? vs j ≡ some u → Apart w u) → EachApart (set vs me w)
@@ -51,32 +56,47 @@ module _ {E : Type 0} where
   pub same_apart : (vs : List (View E)) (me : ℕ) (v w : View E) → get_elem? vs me ≡ some v → EachApart vs → w.low ≡ v.low → w.high ≡ v.high → (j : ℕ) (u : View E) → j ≢ me → get_elem? vs j ≡ some u → Apart w u
   same_apart vs me v w at old low high j u ne e = ⊎_elim (λ l. inl (omega arith)) (λ l. inr (omega arith)) (old me j v u at e (λ p. ne (sym p)))
 
--- who has the turn is not idle
-pub holding_busy : (stage : Stage) → stage ≡ Holding → stage ≢ Idle
-holding_busy stage holding idle = cc (sym holding ∙ idle)
+module _ {E : Type 0} (by : E → ℕ) (low high : ℕ) where
+  pub none_by_snoc : (es : List E) (e : E) → NoneBy by low high es → (by e < low) ⊎ (high ≤ by e) → NoneBy by low high (es ++ e ∷ [])
+  none_by_snoc [] e f o = (o, tt)
+  none_by_snoc (x ∷ es) e f o = (f.0, none_by_snoc es e f.1 o)
+
+  -- of numbers within
+  pub none_by_within : (low' high' : ℕ) (es : List E) → low ≤ low' → high' ≤ high → NoneBy by low high es → NoneBy by low' high' es
+  none_by_within low' high' [] a b f = tt
+  none_by_within low' high' (e ∷ es) a b f = (⊎_elim (λ l. inl (omega arith)) (λ l. inr (omega arith)) f.0, none_by_within low' high' es a b f.1)
 
 module _ {T E : Type 0} (by : E → ℕ) (history : T → List E) (rests : T → Bool) where
-  -- who has the turn is one seat, and the value is away
-  pub one_holds : (s : CellState T E) (r : Rule by history rests s) (i j : ℕ) (v w : View E) → get_elem? s.views i ≡ some v → get_elem? s.views j ≡ some w → v.stage ≡ Holding → w.stage ≢ Idle → w.ticket ≡ r.ended → i ≡ j
-  one_holds s r i j v w ev ew hv hw tw = dite (ℕ_discrete i j) (λ e. e) (λ ne.
-      let a = r.seats i v ev in let b = r.seats j w ew in
-      let p = a.queued (holding_busy v.stage hv) in let q = b.queued hw in
-      let sv = a.holds hv in
-      let zv : v.ticket - r.ended ≡ 0 = omega arith in
-      let zw : w.ticket - r.ended ≡ 0 = omega arith in
-      let same : Some v.low ≡ Some w.low = sym (subst (λ (z : ℕ). slice_get r.queue z ≡ Some v.low) zv p.2) ∙ subst (λ (z : ℕ). slice_get r.queue z ≡ Some w.low) zw q.2 in
-      let lows : v.low ≡ w.low = cc same in
-      let hv' = p.0 in let hw' = q.0 in
-      ⊎_elim (λ l. absurd (omega arith)) (λ l. absurd (omega arith)) (r.apart i j v w ev ew ne))
+  -- who has the turn is one seat
+  pub one_holds : (s : CellState T E) (r : Rule by history rests s) (i j : ℕ) (v w : View E) → get_elem? s.views i ≡ some v → get_elem? s.views j ≡ some w → v.stage ≡ Holding → w.stage ≡ Holding → i ≡ j
+  one_holds s r i j v w ev ew hv hw = ⊎_elim
+      (λ (h : Home by history rests r.log r.lock s). absurd (h.5 i v ev hv))
+      (λ (h : Away by history rests r.log r.lock s). h.7 i v ev hv ∙ sym (h.7 j w ew hw))
+      r.place
 
-  pub away : (s : CellState T E) (r : Rule by history rests s) (i : ℕ) (v : View E) → get_elem? s.views i ≡ some v → v.stage ≡ Holding → (s.homes ≡ none ∷ []) × (v.seen ≡ r.log)
+  -- meanwhile the value is away, and it has seen all
+  pub away : (s : CellState T E) (r : Rule by history rests s) (i : ℕ) (v : View E) → get_elem? s.views i ≡ some v → v.stage ≡ Holding → (s.homes ≡ none ∷ []) × (v.seen ≡ r.log) × (0 < r.lock)
   away s r i v ev hv = ⊎_elim
-      (λ (h : Home by history rests r.log s). absurd (h.4 i v ev hv))
-      (λ (h : Away by history rests r.log s). (
+      (λ (h : Home by history rests r.log r.lock s). absurd (h.5 i v ev hv))
+      (λ (h : Away by history rests r.log r.lock s). (
+        h.1,
+        let same : some h.3 ≡ some v = sym h.4 ∙ (ap (get_elem? s.views) (sym (h.7 i v ev hv)) ∙ ev) in
+            ap (λ (z : View E). z.seen) (sym (some-injective _ _ same)) ∙ h.6,
         h.0,
-        let it = (r.seats i v ev) in
-            let e = one_holds s r h.1 i h.2 v h.3 ev h.4 (holding_busy v.stage hv) (it.holds hv) in
-            let same : some h.2 ≡ some v = sym h.3 ∙ (ap (get_elem? s.views) e ∙ ev) in
-            ap (λ (z : View E). z.seen) (sym (some-injective _ _ same)) ∙ h.5,
       ))
+      r.place
+
+  -- the place after one seat has changed, whose stage is as before
+  pub same_place : (s : CellState T E) (r : Rule by history rests s) (words : List ℕ) (id : ℕ) (v w : View E) → get_elem? s.views id ≡ some v → w.stage ≡ v.stage → (v.stage ≡ Holding → w.seen ≡ r.log)
+      → Home by history rests r.log r.lock record { words = words; homes = s.homes; views = set s.views id w } ⊎ Away by history rests r.log r.lock record { words = words; homes = s.homes; views = set s.views id w }
+  same_place s r words id v w at stage seen = ⊎_elim
+      (λ (h : Home by history rests r.log r.lock s). inl (h.0, h.1, h.2, h.3, h.4, set_all (λ _ (z : View E). z.stage ≢ Holding) s.views id w (λ t. h.5 id v at (sym stage ∙ t)) (λ i z _ f. h.5 i z f)))
+      (λ (h : Away by history rests r.log r.lock s).
+      let only = set_all (λ i (z : View E). z.stage ≡ Holding → i ≡ h.2) s.views id w (λ t. h.7 id v at (sym stage ∙ t)) (λ i z _ f. h.7 i z f) in
+      inr (dite (ℕ_discrete h.2 id)
+      (λ e.
+      let same : some h.3 ≡ some v = sym h.4 ∙ (ap (get_elem? s.views) e ∙ at) in
+      let two : v.stage ≡ Holding = sym (ap (λ (z : View E). z.stage) (some-injective _ _ same)) ∙ h.5 in
+      (h.0, h.1, h.2, w, ap (get_elem? (set s.views id w)) e ∙ set_at s.views id w v at, stage ∙ two, seen two, only))
+      (λ ne. (h.0, h.1, h.2, h.3, set_else s.views id h.2 w ne ∙ h.4, h.5, h.6, only))))
       r.place

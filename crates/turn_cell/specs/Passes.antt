@@ -36,9 +36,9 @@ module _ {T Entry : Type 0} where
   abbrev pub pass_view : TableId → ℕ → Seat T Entry → PassView Entry
   pass_view cell number seat = record { cell = cell; number = number; seen = seat.0.seen; holds = is_holding seat.0.stage }
 
-  -- Its seat has its caller alone, and waits for no turn. While the turn is out the slot is with it, and the pass keeps the length of what it has seen
+  -- Its seat has its caller alone. While the turn is out the slot is with it, and the pass keeps the length of what it has seen
   pub record Fits (cell : TableId) (number seen_count : ℕ) (seat : Seat T Entry) : Type 0 where
-    pub words : cell.words ≡ 3
+    pub words : cell.words ≡ 2
     pub slots : cell.slots ≡ 1
     pub low : seat.0.low ≡ number
     pub high : seat.0.high ≡ number + 1

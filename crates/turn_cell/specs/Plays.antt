@@ -1,23 +1,19 @@
 -- What each step on a word tells the caller that makes it: of its seat before, what the step found in the word, and its seat after.
-use Rattle.std.specs.Prelude.{◌≡◌, ◌≢◌, ℕ, ◌+◌, ◌%◌, ◌^◌, Bool, true, List, [], ◌∷◌, length, take, Some, Option}
+use Rattle.std.specs.Prelude.{◌≡◌, ◌≢◌, ℕ, ◌+◌, Bool, true, List, [], ◌∷◌, length, take, Some, Option}
 use mathlib.Core.List.{IsPrefix}
 use Rattle.atomic_table.specs.Table.{Step}
 use Rattle.turn_cell.specs.declared.view.View.{View}
-use Rattle.turn_cell.specs.declared.view.Stage.TheVariants.{Idle, Waiting, Holding}
+use Rattle.turn_cell.specs.declared.view.Stage.TheVariants.{Idle, Holding}
 use Rattle.turn_cell.specs.Views.{Seat, staged, saw, carried, GoesOn}
 
 module _ {T Entry : Type 0} where
-  -- what was found is its ticket, modulo 2^64
-  abbrev pub Draws : Step (Option T) → Seat T Entry → ℕ → Seat T Entry → Type 0
-  Draws _ before found after = (ticket : ℕ) × (after.0 ≡ staged Waiting ticket before.0) × (ticket % 2 ^ 64 ≡ found) × (after.1 ≡ before.1)
-
   -- who has the turn finds the length of what it has seen, which is the whole history
   abbrev pub Counts : Step (Option T) → Seat T Entry → ℕ → Seat T Entry → Type 0
   Counts _ before found after = (after ≡ before) × (before.0.stage ≡ Holding → found ≡ length before.0.seen)
 
   -- the value is at home again, and the turn has ended
   abbrev pub Gives : Step (Option T) → Seat T Entry → ℕ → Seat T Entry → Type 0
-  Gives _ before found after = (after.0 ≡ staged Idle 0 before.0) × (after.1 ≡ [])
+  Gives _ before found after = (after.0 ≡ staged Idle before.0) × (after.1 ≡ [])
 
 module _ {T Entry : Type 0} (caller : Entry → ℕ) where
   -- it has now seen a history that goes on from what it had seen, and of which what it was told is a beginning
@@ -32,17 +28,12 @@ module _ {T Entry : Type 0} (history : T → List Entry) where
 module _ {T Entry : Type 0} (caller : Entry → ℕ) (history : T → List Entry) (rests : T → Bool) where
   -- the turn has come: the value is with the seat, which has seen its history
   abbrev pub Takes : Seat T Entry → Seat T Entry → Type 0
-  Takes before after = (value : T) × (after.1 ≡ (0, Some value) ∷ before.1) × (rests value ≡ true) × GoesOn caller before.0 (history value) × (after.0 ≡ saw (history value) (staged Holding before.0.ticket before.0))
+  Takes before after = (value : T) × (after.1 ≡ (0, Some value) ∷ []) × (rests value ≡ true) × GoesOn caller before.0 (history value) × (after.0 ≡ saw (history value) (staged Holding before.0))
 
-  -- where its ticket was found the turn has come, else nothing has changed
-  abbrev pub Serves : Step (Option T) → Seat T Entry → ℕ → Seat T Entry → Type 0
-  Serves _ before found after = (before.0.ticket % 2 ^ 64 ≡ found → Takes before after) × (before.0.ticket % 2 ^ 64 ≢ found → after ≡ before)
+  -- where the lock was found free the turn has come, else nothing has changed
+  abbrev pub Grabs : Step (Option T) → Seat T Entry → ℕ → Seat T Entry → Type 0
+  Grabs _ before found after = (found ≡ 0 → Takes before after) × (found ≢ 0 → after ≡ before)
 
--- What several steps tell together: a ticket was drawn, and then the turn has come
-abbrev pub Reaches : {T Entry : Type 0} → (Entry → ℕ) → (T → List Entry) → (T → Bool) → Seat T Entry → Seat T Entry → Type 0
-Reaches {T} caller history rests before after =
-    (ticket : ℕ) × (value : T) × (after.0 ≡ saw (history value) (staged Holding ticket before.0)) × (after.1 ≡ (0, Some value) ∷ []) × (rests value ≡ true) × GoesOn caller before.0 (history value)
-
--- the same of additions to the count: it has seen this much, with the same callers and the same stage
+-- What several additions to the count tell together: it has seen this much, with the same callers and the same stage
 abbrev pub HasSeen : {Entry : Type 0} → List Entry → View Entry → View Entry → Type 0
 HasSeen seen before after = (after.seen ≡ seen) × (after.low ≡ before.low) × (after.high ≡ before.high) × (after.stage ≡ before.stage)

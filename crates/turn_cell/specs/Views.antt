@@ -3,7 +3,7 @@ use Rattle.std.specs.Prelude.{◌≡◌, ℕ, ◌+◌, ◌≤◌, Bool, true, fa
 use Rattle.atomic_table.specs.Table.{State, Me}
 use Rattle.turn_cell.specs.declared.view.View.{View}
 use Rattle.turn_cell.specs.declared.view.Stage.{Stage}
-use Rattle.turn_cell.specs.declared.view.Stage.TheVariants.{Idle, Waiting, Holding}
+use Rattle.turn_cell.specs.declared.view.Stage.TheVariants.{Idle, Holding}
 use Rattle.turn_cell.specs.Entries.{NoneBy}
 
 -- the words, the slot and the views of all seats
@@ -16,44 +16,43 @@ Seat T Entry = Me (Option T) (View Entry)
 
 abbrev pub is_holding : Stage → Bool
 is_holding Idle = false
-is_holding Waiting = false
 is_holding Holding = true
 
 module _ {Entry : Type 0} where
-  abbrev pub view : ℕ → ℕ → Stage → ℕ → List Entry → List Entry → View Entry
-  view low high stage ticket seen told = record { low = low; high = high; stage = stage; ticket = ticket; seen = seen; told = told }
+  abbrev pub view : ℕ → ℕ → Stage → List Entry → List Entry → View Entry
+  view low high stage seen told = record { low = low; high = high; stage = stage; seen = seen; told = told }
 
   -- the view of the first seat, from which those of all callers are cut
   abbrev pub first_view : ℕ → List Entry → View Entry
-  first_view callers history = view 0 callers Idle 0 history []
+  first_view callers history = view 0 callers Idle history []
 
   -- the view of a seat that was joined to another: no caller's, and nothing seen
   abbrev pub spent : View Entry
-  spent = view 0 0 Idle 0 [] []
+  spent = view 0 0 Idle [] []
 
-  -- its stage and its ticket have changed
-  abbrev pub staged : Stage → ℕ → View Entry → View Entry
-  staged stage ticket v = view v.low v.high stage ticket v.seen v.told
+  -- its stage has changed
+  abbrev pub staged : Stage → View Entry → View Entry
+  staged stage v = view v.low v.high stage v.seen v.told
 
   -- it has now seen this much
   abbrev pub saw : List Entry → View Entry → View Entry
-  saw seen v = view v.low v.high v.stage v.ticket seen []
+  saw seen v = view v.low v.high v.stage seen []
 
   -- what another has seen is told to it
   abbrev pub told_by : View Entry → View Entry → View Entry
-  told_by v other = view v.low v.high v.stage v.ticket v.seen other.seen
+  told_by v other = view v.low v.high v.stage v.seen other.seen
 
   -- the first caller, cut off
   abbrev pub first_caller : View Entry → View Entry
-  first_caller v = view v.low (v.low + 1) Idle 0 v.seen []
+  first_caller v = view v.low (v.low + 1) Idle v.seen []
 
   -- the callers that are left
   abbrev pub other_callers : View Entry → View Entry
-  other_callers v = view (v.low + 1) v.high v.stage v.ticket v.seen v.told
+  other_callers v = view (v.low + 1) v.high v.stage v.seen v.told
 
   -- no caller's, with as much seen
   abbrev pub note : View Entry → View Entry
-  note v = view v.low v.low Idle 0 v.seen []
+  note v = view v.low v.low Idle v.seen []
 
   -- no caller is of both
   abbrev pub Apart : View Entry → View Entry → Type 0

@@ -3,30 +3,38 @@ ghost use mathlib.Core.List.{IsPrefix};
 ghost use Rattle.turn_cell.specs.declared.view.Stage.TheVariants.{Idle, Holding};
 ghost use Rattle.turn_cell.specs.Entries.{Extends};
 ghost use Rattle.turn_cell.specs.Views.{carried, first_view};
-ghost use Rattle.turn_cell.specs.Plays.{Reaches, HasSeen};
+ghost use Rattle.turn_cell.specs.Plays.{Takes, HasSeen};
 ghost use Rattle.turn_cell.specs.Passes.{AllFresh, mine};
 
 use crate::kept::Kept;
 use crate::pass::{Pass, Turn};
-use crate::plays::{Add, Caller, Count, Draw, Give, Learn, Note, Serve, Tell};
+use crate::plays::{Add, Caller, Count, Give, Grab, Learn, Note, Tell};
 use crate::view::{Start, Turns, View};
 use atomic_table::{Seat, Table};
 use std::alloc::{AllocError, Global};
+use std::hint;
 use std::marker::Model;
 use std::snapshot::Snapshot;
 use std::sync::Wait;
-use std::thread;
 
 type Place<T> = Seat<Option<T>, View<<T as Kept>::Entry>>;
 
 // The words of the table, and its one slot.
 const COUNT: usize = 0;
 
-const TICKET: usize = 1;
-
-const SERVING: usize = 2;
+const LOCK: usize = 1;
 
 const VALUE: usize = 0;
+
+// The lock: nobody has the turn, somebody has it, and somebody has it while others may sleep.
+const FREE: u64 = 0;
+
+const HELD: u64 = 1;
+
+const AWAITED: u64 = 2;
+
+// How often a caller looks at the lock before it sleeps.
+const LOOKS: u32 = 100;
 
 /// A value that one caller at a time has.
 ///
@@ -48,28 +56,47 @@ impl<T: Kept> Model for TurnCell<T> {
 }
 
 impl<T: Kept> TurnCell<T> {
-    // Draws a ticket, and takes the value when it is served.
+    // Looks at the lock for a short while, as long as its holder may soon free it and nobody sleeps.
+    fn look(&self)
+        requires { self.now.words ≡ 2 }
+    {
+        for _ in 0..LOOKS {
+            if self.table.shared.peek(LOCK) != HELD {
+                return;
+            }
+            hint::spin_loop();
+        }
+    }
+
+    // Takes the value once the lock is free. Who has slept locks it as awaited, since others may still sleep.
     fn wait<R: Wait>(&self, rt: &R, seat: &mut Place<T>)
-        requires cell { (seat.old.table_id ≡ self.now) × (seat.old.table_id.words ≡ 3) }
+        requires cell { (seat.old.table_id ≡ self.now) × (seat.old.table_id.words ≡ 2) }
         requires idle { (seat.old.me.0.stage ≡ Idle) × (seat.old.me.1 ≡ []) }
         requires caller { seat.old.me.0.high ≡ seat.old.me.0.low + 1 }
         ensures cell { seat.new.table_id ≡ seat.old.table_id }
-        ensures reached { Reaches T.caller T.history T.rests seat.old.me seat.new.me }
+        ensures taken { Takes T.caller T.history T.rests seat.old.me seat.new.me }
     {
         let shared = &self.table.shared;
-        let ticket = shared.fetch_add::<Draw<T>>(seat, TICKET, 1);
+        if shared.compare_exchange::<Grab<T>>(seat, LOCK, FREE, HELD) == FREE {
+            return;
+        }
+        self.look();
+        if shared.compare_exchange::<Grab<T>>(seat, LOCK, FREE, HELD) == FREE {
+            return;
+        }
         for _ in rt.forever() {
-            if shared.load::<Serve<T>>(seat, SERVING) == ticket {
+            if shared.swap::<Grab<T>>(seat, LOCK, AWAITED) == FREE {
                 return;
             }
-            thread::yield_now();
+            shared.park(rt, LOCK, AWAITED as u32);
+            self.look();
         }
         unreachable!()
     }
 
     /// Waits for the turn, and hands out the value.
     ///
-    /// It waits by loading the serving number again, with a yield between two loads. It takes no memory.
+    /// It sleeps while another has the turn. Callers that wait are served in no order. It takes no memory.
     pub fn take<R: Wait>(&self, rt: &R, pass: &mut Pass<T>) -> Turn<T>
         requires cell { pass.old.cell ≡ self.now }
         requires idle { pass.old.holds ≡ false }
@@ -90,7 +117,7 @@ impl<T: Kept> TurnCell<T> {
 
     // Adds to the count the entries that the value has beyond what the seat has seen.
     fn add(&self, seat: &mut Place<T>, from: u64, count: u64)
-        requires cell { (seat.old.table_id ≡ self.now) × (seat.old.table_id.words ≡ 3) }
+        requires cell { (seat.old.table_id ≡ self.now) × (seat.old.table_id.words ≡ 2) }
         requires turn { seat.old.me.0.stage ≡ Holding }
         requires grown { Extends T.caller seat.old.me.0.low seat.old.me.0.seen (carried T.history seat.old.me.1) }
         requires counts { (from ≡ length seat.old.me.0.seen) × (count ≡ length (carried T.history seat.old.me.1)) }
@@ -127,7 +154,9 @@ impl<T: Kept> TurnCell<T> {
             Some(_) => unreachable!(),
         }
         self.add(&mut pass.seat, pass.seen_count, count);
-        shared.fetch_add::<Give<T>>(&mut pass.seat, SERVING, 1);
+        if shared.swap::<Give<T>>(&mut pass.seat, LOCK, FREE) == AWAITED {
+            shared.wake_one(LOCK);
+        }
     }
 
     /// Tells `a` what `b` has seen.
@@ -157,7 +186,7 @@ impl<T: Kept + Drop> TurnCell<T> {
         mut first: Place<T>,
         callers: u32,
     ) -> Result<Vec<Pass<T>>, AllocError>
-        requires cell { (first.table_id ≡ self.now) × (first.table_id.words ≡ 3) × (first.table_id.slots ≡ 1) }
+        requires cell { (first.table_id ≡ self.now) × (first.table_id.words ≡ 2) × (first.table_id.slots ≡ 1) }
         requires first { first.me.0 ≡ first_view callers first.me.0.seen }
         ensures { IfOk result (λ passes. (length passes.items ≡ callers) × AllFresh self.now first.me.0.seen 0 passes.items) }
     {
@@ -193,7 +222,7 @@ impl<T: Kept + Drop> TurnCell<T> {
         };
         let mut slots = Vec::with_capacity(alloc, 1)?;
         slots.push(Some(value))?;
-        let Ok((table, first)) = Table::new(alloc, &[count, 0, 0], slots, &start) else {
+        let Ok((table, first)) = Table::new(alloc, &[count, FREE], slots, &start) else {
             return Err(AllocError);
         };
         let cell = TurnCell { table };

@@ -1,5 +1,5 @@
-//! The seven kinds of step on the table, five on a word, one that cuts a seat and one that joins two. Each names what it tells.
-ghost use Rattle.turn_cell.specs.Plays.{Draws, Serves, Counts, Learns, Adds, Gives};
+//! The six kinds of step on the table, four on a word, one that cuts a seat and one that joins two. Each names what it tells.
+ghost use Rattle.turn_cell.specs.Plays.{Grabs, Counts, Learns, Adds, Gives};
 ghost use Rattle.turn_cell.specs.Views.{other_callers, first_caller, note, told_by, spent};
 
 use crate::kept::Kept;
@@ -7,22 +7,13 @@ use crate::view::View;
 use atomic_table::{Join, Play, Split};
 use std::marker::PhantomData;
 
-/// Draws a ticket.
-pub struct Draw<T> {
+/// Locks the lock, by a swap or a compare-exchange, and takes the value where the lock was free.
+pub struct Grab<T> {
     of: PhantomData<T>,
 }
 
-impl<T: Kept> Play<Option<T>, View<T::Entry>> for Draw<T> {
-    ghost then = { Draws };
-}
-
-/// Loads the serving number, and takes the value where it is the caller's ticket.
-pub struct Serve<T> {
-    of: PhantomData<T>,
-}
-
-impl<T: Kept> Play<Option<T>, View<T::Entry>> for Serve<T> {
-    ghost then = { Serves T.caller T.history T.rests };
+impl<T: Kept> Play<Option<T>, View<T::Entry>> for Grab<T> {
+    ghost then = { Grabs T.caller T.history T.rests };
 }
 
 /// Loads the count during a turn.
@@ -52,7 +43,7 @@ impl<T: Kept> Play<Option<T>, View<T::Entry>> for Add<T> {
     ghost then = { Adds T.history };
 }
 
-/// Adds 1 to the serving number, which brings the value home.
+/// Frees the lock, which brings the value home.
 pub struct Give<T> {
     of: PhantomData<T>,
 }

@@ -7,11 +7,9 @@ use std::snapshot::Snapshot;
 
 /// Where a caller stands.
 pub enum Stage {
-    /// It has no ticket.
+    /// It has no turn.
     Idle,
-    /// It has drawn a ticket.
-    Waiting,
-    /// Its ticket is served, and the value is with it.
+    /// It has the turn, and the value is with it.
     Holding,
 }
 
@@ -22,8 +20,6 @@ pub struct View<E> {
     pub low: u32,
     pub high: u32,
     pub stage: Stage,
-    /// The ticket, counted without end, where the seat isn't idle.
-    pub ticket: u64,
     /// A beginning of the history.
     pub seen: LinkedList<E>,
     /// Another beginning of the history, which another seat has seen.

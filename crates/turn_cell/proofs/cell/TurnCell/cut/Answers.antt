@@ -24,7 +24,7 @@ loop-number-preserved g c =
     let k : ℕ = c.loop-number.number in
     let items = c.in_ok-push.ensures.items in
     let cell = s.3 ∙ (h.cell ∙ c.requires.cell.0) in
-    let me : c.split_seat-seat.result.me.0 ≡ first_caller (view k c.args.callers Idle 0 xs []) = ap (λ m. m.0) s.4 ∙ ap first_caller h.left in
+    let me : c.split_seat-seat.result.me.0 ≡ first_caller (view k c.args.callers Idle xs []) = ap (λ m. m.0) s.4 ∙ ap first_caller h.left in
     let is : pass_view c.split_seat-seat.result.table_id k c.split_seat-seat.result.me ≡ fresh c.args.self.now k xs
     = λ i. record { cell = cell i; number = k; seen = (me i).seen; holds = is_holding (me i).stage } in
     let long = h.count in

@@ -12,8 +12,8 @@ use Rattle.turn_cell.proofs.Gives.{does_give}
 use Rattle.turn_cell.proofs.Mine.{made_extends}
 use Rattle.turn_cell.proofs.cell.TurnCell.give.Goals as goal
 
-pub fetch_add-requires : goal.fetch_add-requires
-fetch_add-requires g c =
+pub swap-requires : goal.swap-requires
+swap-requires g c =
     let x = c.exchange.ensures in
     let v = c.args.turn.value in
     let two : c.pass.inside.seat.me.0.stage ≡ Holding = is_holding-true _ (ap (λ z. z.holds) c.pass.view_is ∙ c.requires.holds) in
@@ -35,7 +35,7 @@ returns-clause-mine g c xs has =
     let put : c.exchange.new.seat.me.1 ≡ (0, Some v) ∷ [] = ap (λ m. m.1) x.3 ∙ ap (λ z. (0, Some v) ∷ rest z) out in
     let is : k ≡ c.args.pass.now.number = ap (λ z. z.number) c.pass.view_is in
     let was : c.pass.inside.seat.me.0.seen ≡ c.args.pass.now.seen = ap (λ z. z.seen) c.pass.view_is in
-    let seen : c.fetch_add.new.seat.me.0.seen ≡ g.T.Kept.history v = ap (λ (z : View _). z.seen) c.fetch_add.ensures.2.0 ∙ (c.add.ensures.seen.0 ∙ ap (carried g.T.Kept.history) put) in
+    let seen : c.swap.new.seat.me.0.seen ≡ g.T.Kept.history v = ap (λ (z : View _). z.seen) c.swap.ensures.2.0 ∙ (c.add.ensures.seen.0 ∙ ap (carried g.T.Kept.history) put) in
     let own : r.0 ≡ xs = append_cancel_left c.args.pass.now.seen r.0 xs (sym r.1 ∙ has) in
-    made_extends by k c.pass.inside.seat.me.0.seen c.fetch_add.new.seat.me.0.seen xs (seen ∙ (has ∙ ap (λ z. z ++ xs) (sym was))) (subst (λ (z : List _). AllBy by k z) own (subst (λ (z : ℕ). AllBy by z r.0) (sym is) r.2))
+    made_extends by k c.pass.inside.seat.me.0.seen c.swap.new.seat.me.0.seen xs (seen ∙ (has ∙ ap (λ z. z ++ xs) (sym was))) (subst (λ (z : List _). AllBy by k z) own (subst (λ (z : ℕ). AllBy by z r.0) (sym is) r.2))
     ∙ ap (λ z. z ++ xs) (ap (mine by) c.pass.view_is)
