@@ -17,7 +17,7 @@ use Rattle.commit_check.specs.Known.{Knows}
 use Rattle.commit_check.specs.Offers.{added_file, added_path, app_of, apps_of, paths_added, paths_removed, read_state, removed_path, state_at}
 use Rattle.commit_check.specs.ReadFiles.{IsReading}
 use Rattle.commit_check.specs.Shown.{first_from, first_shown, shown, told}
-use Rattle.commit_check.specs.Winners.{adds_read, adds_same, changes_read, has_app_of, next_version, removes_same}
+use Rattle.commit_check.specs.Winners.{adds_read, adds_same, changes_read, has_app_of, next_version, removes_same, winners}
 use Rattle.commit_check.specs.declared.conflict.Conflict.{Conflict}
 use Rattle.commit_check.specs.declared.conflict.Conflict.TheVariants as conflict
 use Rattle.commit_check.specs.declared.offer.Offer.{Offer}
@@ -58,22 +58,23 @@ or_two : (a b x y : Bool) → a ≡ x → b ≡ y → (a || b) ≡ (x || y)
 or_two a b x y p q = rw (p, q) refl
 
 -- what is told of a test that says the same
-same_told : (say : ℕ → Conflict) (from : ℕ) (log : List (List Action)) (p r : Action → Bool) → ((a : Action) → p a ≡ r a) → option_map say (first_from p from log) ≡ option_map say (first_from r from log)
-same_told say from log p r same = ap (λ t. option_map say (first_from t from log)) (fun_ext same)
+same_told : (say : ℕ → Conflict) (from : ℕ) (commits : List (List Action)) (p r : Action → Bool) → ((a : Action) → p a ≡ r a) → option_map say (first_from p from commits) ≡ option_map say (first_from r from commits)
+same_told say from commits p r same = ap (λ t. option_map say (first_from t from commits)) (fun_ext same)
 
 -- the first conflict of the code is that of the winning commits
 pub shown_is : (log : List (List Action)) (offer : Offer) (o : Offered) (r : Reading) → Knows o offer.actions → IsReading offer.reads (read_state log offer.read) r
-    → first_shown o r (next_version offer.read) log ≡ winners_conflict log (read_state log offer.read) offer
+    → first_shown o r (next_version offer.read) (winners log offer.read) ≡ winners_conflict log (read_state log offer.read) offer
 shown_is log offer o r k is =
     let state = read_state log offer.read in
     let rise = read_rises log offer.read in
     let from = next_version offer.read in
-    let transaction = same_told (λ v. conflict.ConcurrentTransaction v) from log (shown sign.Transaction o r) (has_app_of offer.actions) (λ a. has_is o.apps (apps_of offer.actions) (app_of a) k.apps) in
-    let deleted = same_told (λ v. conflict.ConcurrentDeleteDelete v) from log (shown sign.DeleteDelete o r) (removes_same offer.actions) (λ a. has_is o.removed (paths_removed offer.actions) (removed_path a) k.removed) in
-    let added = same_told (λ v. conflict.ConcurrentAddAdd v) from log (shown sign.AddAdd o r) (adds_same offer.actions) (λ a. or_three _ _ _ _ _ _
+    let won = winners log offer.read in
+    let transaction = same_told (λ v. conflict.ConcurrentTransaction v) from won (shown sign.Transaction o r) (has_app_of offer.actions) (λ a. has_is o.apps (apps_of offer.actions) (app_of a) k.apps) in
+    let deleted = same_told (λ v. conflict.ConcurrentDeleteDelete v) from won (shown sign.DeleteDelete o r) (removes_same offer.actions) (λ a. has_is o.removed (paths_removed offer.actions) (removed_path a) k.removed) in
+    let added = same_told (λ v. conflict.ConcurrentAddAdd v) from won (shown sign.AddAdd o r) (adds_same offer.actions) (λ a. or_three _ _ _ _ _ _
     (has_is o.added (paths_added offer.actions) (added_path a) k.added) (has_is o.removed (paths_removed offer.actions) (added_path a) k.removed) (has_is o.added (paths_added offer.actions) (removed_path a) k.added)) in
-    let changed = same_told (λ v. conflict.ConcurrentDeleteRead v) from log (shown sign.DeleteRead o r) (changes_read offer.reads state) (λ a. or_two _ _ _ _
+    let changed = same_told (λ v. conflict.ConcurrentDeleteRead v) from won (shown sign.DeleteRead o r) (changes_read offer.reads state) (λ a. or_two _ _ _ _
     (reads_path offer.reads state r (added_path a) is rise) (reads_path offer.reads state r (removed_path a) is rise)) in
-    let appended = same_told (λ v. conflict.ConcurrentAppend v) from log (shown sign.Append o r) (adds_read offer.reads state) (λ a. reads_file offer.reads state r (added_file a) is) in
-    λ i. option_or (told (λ v. conflict.ProtocolChanged v) sign.Protocol o r from log) (option_or (told (λ v. conflict.MetadataChanged v) sign.MetaData o r from log)
+    let appended = same_told (λ v. conflict.ConcurrentAppend v) from won (shown sign.Append o r) (adds_read offer.reads state) (λ a. reads_file offer.reads state r (added_file a) is) in
+    λ i. option_or (told (λ v. conflict.ProtocolChanged v) sign.Protocol o r from won) (option_or (told (λ v. conflict.MetadataChanged v) sign.MetaData o r from won)
     (option_or (transaction i) (option_or (deleted i) (option_or (added i) (option_or (changed i) (appended i))))))

@@ -4,22 +4,22 @@ use Rattle.std.specs.Prelude.{◌||◌, IfSome}
 use Rattle.std.specs.List.{list_any, position_from}
 use Rattle.std.proofs.lemmas.List.{drop_more, drop_all, get_or-map, length-map}
 
--- from a place on the first is that place or a later one
-pub first_here : {X : Type 0} (p : X → Bool) (xs : List X) (i : ℕ) (x : X) → i < length xs → x ≡ get_or xs i x → position_from p i (drop i xs) ≡ cond (p x) (Some i) (position_from p (i + 1) (drop (i + 1) xs))
-first_here p xs i x lt is = ap (position_from p i) (drop_more xs i x lt ∙ ap (λ y. y ∷ drop (i + 1) xs) (sym is))
+-- from a place on, which is counted as k, the first is that place or a later one
+pub first_here : {X : Type 0} (p : X → Bool) (xs : List X) (i k : ℕ) (x : X) → i < length xs → x ≡ get_or xs i x → position_from p k (drop i xs) ≡ cond (p x) (Some k) (position_from p (k + 1) (drop (i + 1) xs))
+first_here p xs i k x lt is = ap (position_from p k) (drop_more xs i x lt ∙ ap (λ y. y ∷ drop (i + 1) xs) (sym is))
 
 -- the element at the place doesn't pass
-pub first_later : {X : Type 0} (p : X → Bool) (xs : List X) (i : ℕ) (x : X) (o : Option ℕ) → i < length xs → x ≡ get_or xs i x → p x ≡ false → position_from p i (drop i xs) ≡ o
-    → position_from p (i + 1) (drop (i + 1) xs) ≡ o
-first_later p xs i x o lt is fails left = sym (first_here p xs i x lt is ∙ ap (λ b. cond b (Some i) (position_from p (i + 1) (drop (i + 1) xs))) fails) ∙ left
+pub first_later : {X : Type 0} (p : X → Bool) (xs : List X) (i k : ℕ) (x : X) (o : Option ℕ) → i < length xs → x ≡ get_or xs i x → p x ≡ false → position_from p k (drop i xs) ≡ o
+    → position_from p (k + 1) (drop (i + 1) xs) ≡ o
+first_later p xs i k x o lt is fails left = sym (first_here p xs i k x lt is ∙ ap (λ b. cond b (Some k) (position_from p (k + 1) (drop (i + 1) xs))) fails) ∙ left
 
 -- it does
-pub first_found : {X : Type 0} (p : X → Bool) (xs : List X) (i : ℕ) (x : X) (o : Option ℕ) → i < length xs → x ≡ get_or xs i x → p x ≡ true → position_from p i (drop i xs) ≡ o → Some i ≡ o
-first_found p xs i x o lt is passes left = sym (first_here p xs i x lt is ∙ ap (λ b. cond b (Some i) (position_from p (i + 1) (drop (i + 1) xs))) passes) ∙ left
+pub first_found : {X : Type 0} (p : X → Bool) (xs : List X) (i k : ℕ) (x : X) (o : Option ℕ) → i < length xs → x ≡ get_or xs i x → p x ≡ true → position_from p k (drop i xs) ≡ o → Some k ≡ o
+first_found p xs i k x o lt is passes left = sym (first_here p xs i k x lt is ∙ ap (λ b. cond b (Some k) (position_from p (k + 1) (drop (i + 1) xs))) passes) ∙ left
 
 -- no element is left
-pub first_nowhere : {X : Type 0} (p : X → Bool) (xs : List X) (i : ℕ) (o : Option ℕ) → length xs ≤ i → position_from p i (drop i xs) ≡ o → None ≡ o
-first_nowhere p xs i o all left = ap (position_from p i) (sym (drop_all i xs all)) ∙ left
+pub first_nowhere : {X : Type 0} (p : X → Bool) (xs : List X) (i k : ℕ) (o : Option ℕ) → length xs ≤ i → position_from p k (drop i xs) ≡ o → None ≡ o
+first_nowhere p xs i k o all left = ap (position_from p k) (sym (drop_all i xs all)) ∙ left
 
 -- an element of a list that is looked at through a function
 pub at_map : {X Y : Type 0} (f : X → Y) (xs : List X) (i : ℕ) (x : X) → i < length xs → x ≡ get_or xs i x → f x ≡ get_or (map f xs) i (f x)

@@ -1,7 +1,8 @@
 // Whether an offer may be added to a table's log.
-ghost use Rattle.std.specs.Prelude.{◌≡◌, IfOk, option_map, map, length};
+ghost use Rattle.std.specs.Prelude.{◌≡◌, ◌≤◌, ◌^◌, List, IfOk, option_map, map, length};
 ghost use Rattle.std.specs.Arc.{arc_value};
 ghost use Rattle.std.specs.Option.{option_or};
+ghost use Rattle.log_actions.specs.declared.actions.Action.{Action};
 ghost use Rattle.log_replay.specs.State.{IsHead, State};
 ghost use Rattle.commit_check.specs.Admission as spec;
 ghost use Rattle.commit_check.specs.Offers as offers;
@@ -45,9 +46,10 @@ fn read_ahead(versions: u64, read: Option<Version>) -> Option<Conflict>
     }
 }
 
-// The first version after the one that was read.
-fn next_version(read: Option<Version>) -> u64
-    ensures { result ≡ won.next_version read }
+/// The first version after the one that was read, 0 where none was.
+pub fn next_version(read: Option<Version>) -> u64
+    ensures next { result ≡ won.next_version read }
+    ensures most { result ≤ 2 ^ 63 }
 {
     match read {
         Some(version) => version.get() + 1,
@@ -87,40 +89,42 @@ fn refused_late(at: Option<&Snapshot>, head: Option<&Snapshot>, offer: &Offer) -
 // The first conflict that the winning commits show.
 fn winners_conflict(
     alloc: Global,
-    log: &[Arc<Commit>],
+    winners: &[Arc<Commit>],
     at: Option<&Snapshot>,
     offer: &Offer,
 ) -> Result<Option<Conflict>, AllocError>
-    requires { option_map (λ s. s.now) at ≡ offers.read_state (map arc_value log.now) offer.now.read }
-    ensures { IfOk result (λ o. o ≡ spec.winners_conflict (map arc_value log.now) (offers.read_state (map arc_value log.now) offer.now.read) offer.now) }
+    ensures { (log : List (List Action)) → map arc_value winners.now ≡ won.winners log offer.now.read → option_map (λ s. s.now) at.entry ≡ offers.read_state log offer.now.read
+        → IfOk result (λ o. o ≡ spec.winners_conflict log (offers.read_state log offer.now.read) offer.now) }
 {
     let offered = Offered::of(alloc, offer.actions.items())?;
     let reading = Reading::of(alloc, &offer.reads, at)?;
-    let from = next_version(offer.read) as usize;
-    Ok(first_conflict(&offered, &reading, log, from))
+    let from = next_version(offer.read);
+    Ok(first_conflict(&offered, &reading, from, winners))
 }
 
 /// The commit of an offer, to be added to a table's log as its next version: the offer's actions
 /// after one commitInfo with the timestamp `now`; or the first conflict that holds, as [`Conflict`]
-/// says, or want of memory. `head` is the last state of the log, `at` the state at the version that
-/// was read, where that is kept.
+/// says, or want of memory.
 ///
-/// Time and memory are those of the offer's actions and of the winning commits', which are those
-/// after the version that was read, and of the metaData: no state is copied, and each path is looked
-/// up by halving.
+/// Of the log it needs no more than how many `versions` it has, the `winners` (the commits after the
+/// version that was read, all where none was), the state `at` that version, where that is kept, and
+/// the last one, `head`. What it answers is right for each log of which they are.
+///
+/// Time and memory are those of the offer's actions, of the winners' and of the metaData: no state is
+/// copied, and each path is looked up by halving.
 pub fn admit(
     alloc: Global,
-    log: &[Arc<Commit>],
+    versions: u64,
+    winners: &[Arc<Commit>],
     at: Option<&Snapshot>,
     head: Option<&Snapshot>,
     now: CommitTime,
     offer: &Offer,
 ) -> Result<Commit, NotAdmitted>
-    requires head { IsHead (map arc_value log.now) (option_map (λ s. s.now) head) }
-    requires at { option_map (λ s. s.now) at ≡ offers.read_state (map arc_value log.now) offer.now.read }
-    ensures { spec.Answers result (spec.admitted (map arc_value log.now) now offer.now) }
+    ensures { (log : List (List Action)) → length log ≡ versions → map arc_value winners.now ≡ won.winners log offer.now.read
+        → option_map (λ s. s.now) at.entry ≡ offers.read_state log offer.now.read → IsHead log (option_map (λ s. s.now) head.entry)
+        → spec.Answers result (spec.admitted log now offer.now) }
 {
-    let versions = log.len() as u64;
     if let Some(conflict) = refused_early(versions, head, offer) {
         return Err(conflict.into());
     }
@@ -128,7 +132,7 @@ pub fn admit(
     if let Some(conflict) = refused_late(at, head, offer) {
         return Err(conflict.into());
     }
-    match winners_conflict(alloc, log, at, offer)? {
+    match winners_conflict(alloc, winners, at, offer)? {
         Some(conflict) => Err(conflict.into()),
         None => Ok(commit),
     }

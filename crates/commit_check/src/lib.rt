@@ -12,7 +12,7 @@ mod reading;
 mod winners;
 mod written;
 
-pub use admission::admit;
+pub use admission::{admit, next_version};
 pub use conflict::{Conflict, NotAdmitted};
 pub use laws::{admitted_is_lawful, read_still_holds};
 pub use offer::{Offer, Reads};

@@ -1,5 +1,5 @@
 // What the winning commits show: those after the version that was read.
-ghost use Rattle.std.specs.Prelude.{◌≡◌, ◌||◌, map, option_map};
+ghost use Rattle.std.specs.Prelude.{◌≡◌, ◌||◌, ◌+◌, ◌<◌, ◌^◌, length, map, option_map};
 ghost use Rattle.std.specs.List.{list_any};
 ghost use Rattle.std.specs.Arc.{arc_value};
 ghost use Rattle.commit_check.specs.Lookups.{has_one};
@@ -64,52 +64,54 @@ fn is_shown(sign: Sign, offered: &Offered<'_>, reading: &Reading<'_>, actions: &
         .any(|action| shows(sign, offered, reading, action))
 }
 
-// The first commit from a version on that shows the sign.
+// The first winner that shows the sign. They have the versions from that one on.
 fn first_winner(
     sign: Sign,
     offered: &Offered<'_>,
     reading: &Reading<'_>,
-    log: &[Arc<Commit>],
-    from: usize,
+    from: u64,
+    winners: &[Arc<Commit>],
 ) -> Option<u64>
-    ensures { result ≡ spec.first_from (spec.shown sign offered.now reading.now) from (map arc_value log.now) }
+    requires { from + length winners.now < 2 ^ 64 }
+    ensures { result ≡ spec.first_from (spec.shown sign offered.now reading.now) from (map arc_value winners.now) }
 {
-    for version in from..log.len() {
-        if is_shown(sign, offered, reading, log[version].actions()) {
-            return Some(version as u64);
+    for place in 0..winners.len() {
+        if is_shown(sign, offered, reading, winners[place].actions()) {
+            return Some(from + place as u64);
         }
     }
     None
 }
 
-/// The first conflict that the commits from a version on show.
+/// The first conflict that the winners show. They have the versions from that one on.
 pub(crate) fn first_conflict(
     offered: &Offered<'_>,
     reading: &Reading<'_>,
-    log: &[Arc<Commit>],
-    from: usize,
+    from: u64,
+    winners: &[Arc<Commit>],
 ) -> Option<Conflict>
-    ensures { result ≡ spec.first_shown offered.now reading.now from (map arc_value log.now) }
+    requires { from + length winners.now < 2 ^ 64 }
+    ensures { result ≡ spec.first_shown offered.now reading.now from (map arc_value winners.now) }
 {
-    if let Some(version) = first_winner(Sign::Protocol, offered, reading, log, from) {
+    if let Some(version) = first_winner(Sign::Protocol, offered, reading, from, winners) {
         return Some(Conflict::ProtocolChanged { version });
     }
-    if let Some(version) = first_winner(Sign::MetaData, offered, reading, log, from) {
+    if let Some(version) = first_winner(Sign::MetaData, offered, reading, from, winners) {
         return Some(Conflict::MetadataChanged { version });
     }
-    if let Some(version) = first_winner(Sign::Transaction, offered, reading, log, from) {
+    if let Some(version) = first_winner(Sign::Transaction, offered, reading, from, winners) {
         return Some(Conflict::ConcurrentTransaction { version });
     }
-    if let Some(version) = first_winner(Sign::DeleteDelete, offered, reading, log, from) {
+    if let Some(version) = first_winner(Sign::DeleteDelete, offered, reading, from, winners) {
         return Some(Conflict::ConcurrentDeleteDelete { version });
     }
-    if let Some(version) = first_winner(Sign::AddAdd, offered, reading, log, from) {
+    if let Some(version) = first_winner(Sign::AddAdd, offered, reading, from, winners) {
         return Some(Conflict::ConcurrentAddAdd { version });
     }
-    if let Some(version) = first_winner(Sign::DeleteRead, offered, reading, log, from) {
+    if let Some(version) = first_winner(Sign::DeleteRead, offered, reading, from, winners) {
         return Some(Conflict::ConcurrentDeleteRead { version });
     }
-    if let Some(version) = first_winner(Sign::Append, offered, reading, log, from) {
+    if let Some(version) = first_winner(Sign::Append, offered, reading, from, winners) {
         return Some(Conflict::ConcurrentAppend { version });
     }
     None

@@ -1,11 +1,8 @@
 // An offer to a table that has a version, over the states of its log.
-ghost use Rattle.std.specs.Prelude.{◌≡◌, ◌<◌, IfSome, Some, Ok, length, map, option_map};
-ghost use Rattle.std.specs.Arc.{arc_value};
-ghost use Rattle.log_replay.specs.State.{IsHead, state_of};
-ghost use Rattle.commit_check.specs.Offers.{read_state};
+ghost use Rattle.std.specs.Prelude.{◌<◌, length};
 
 use crate::offers::NOW;
-use commit_check::{Conflict, NotAdmitted, Offer, admit};
+use commit_check::{Conflict, NotAdmitted, Offer, admit, next_version};
 use json_tree::Version;
 use log_actions::{Commit, CommitTime};
 use log_commit::bytes_of;
@@ -25,7 +22,6 @@ struct Work;
 
 fn replayed(alloc: Global, log: &[Arc<Commit>]) -> Option<Snapshot>
     requires { 0 < length log.now }
-    ensures { IfSome result (λ s. state_of (map arc_value log.now) ≡ Ok s) }
 {
     let mut steps: Steps<Work> = Steps::new();
     match replay(alloc, log, &mut steps) {
@@ -35,9 +31,11 @@ fn replayed(alloc: Global, log: &[Arc<Commit>]) -> Option<Snapshot>
 }
 
 // The state at the version that was read, none within where the log doesn't have that version.
-fn state_read(alloc: Global, log: &[Arc<Commit>], read: Option<Version>) -> Option<Option<Snapshot>>
-    ensures { IfSome result (λ o. o ≡ read_state (map arc_value log.now) read) }
-{
+fn state_read(
+    alloc: Global,
+    log: &[Arc<Commit>],
+    read: Option<Version>,
+) -> Option<Option<Snapshot>> {
     let Some(version) = read else {
         return Some(None);
     };
@@ -62,12 +60,11 @@ fn offered_at(
     at: Option<&Snapshot>,
     head: &Snapshot,
     offer: &Offer,
-) -> Option<Answer>
-    requires head { IsHead (map arc_value log.now) (Some head.now) }
-    requires at { option_map (λ s. s.now) at ≡ read_state (map arc_value log.now) offer.now.read }
-{
+) -> Option<Answer> {
     let now = CommitTime::of(NOW)?;
-    let answer = admit(alloc, log, at, Some(head), now, offer);
+    let from = log.len().min(next_version(offer.read) as usize);
+    let versions = log.len() as u64;
+    let answer = admit(alloc, versions, &log[from..], at, Some(head), now, offer);
     told(alloc, &answer)
 }
 
@@ -76,9 +73,7 @@ fn offered_under(
     log: &[Arc<Commit>],
     head: &Snapshot,
     offer: &Offer,
-) -> Option<Answer>
-    requires { IsHead (map arc_value log.now) (Some head.now) }
-{
+) -> Option<Answer> {
     let at = state_read(alloc, log, offer.read)?;
     offered_at(alloc, log, at.as_ref(), head, offer)
 }

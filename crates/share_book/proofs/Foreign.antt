@@ -1,12 +1,11 @@
 -- What isn't in a recipient's view leaves it.
-use Rattle.std.proofs.Common.{◌≡◌, ◌≢◌, ℕ, ◌+◌, ◌-◌, ◌<◌, ◌==◌, List, [], ◌∷◌, ◌++◌, Bool, true, false, Option, Some, None, option_map, option_and_then, suc, length, refl, sym, ap, ◌∙◌, subst, arith}
+use Rattle.std.proofs.Common.{◌≡◌, ◌≢◌, ℕ, ◌+◌, ◌-◌, ◌<◌, ◌==◌, List, [], ◌∷◌, ◌++◌, Bool, true, false, Option, Some, None, option_map, option_and_then, length, refl, sym, ap, ◌∙◌, subst, arith}
 use Rattle.std.specs.FinMap as maps
-use Rattle.std.specs.List.{filter_map, position, slice_get}
+use Rattle.std.specs.List.{position, slice_get}
 use Rattle.std.specs.Option.{IfSome}
 use Rattle.std.proofs.lemmas.Bool.{ne_eqb}
 use Rattle.std.proofs.lemmas.List.Elements.{filter_map-append}
 use Rattle.share_catalog.specs.Catalogue.{credential, tables_bound}
-use Rattle.share_catalog.specs.Laws.{with}
 use Rattle.share_catalog.specs.TableNames.{parts_of, texts_cmp}
 use Rattle.share_catalog.specs.Views.{CatalogView, Spot, named, shared, table_of, tables_of, view_of}
 use Rattle.share_catalog.specs.Views as catalog
@@ -20,10 +19,10 @@ use Rattle.share_catalog.proofs.ListingLemmas.{same_texts}
 use Rattle.share_catalog.proofs.Orders.{texts_total}
 use Rattle.share_catalog.proofs.ViewLemmas.{none_in_map, tables_are_shown}
 use Rattle.share_book.specs.History.{block_of, block_on, commit_of, commit_on, edit_in, edits, grown, start_in, starts, table_on}
-use Rattle.share_book.specs.Laws.{ForeignEntriesLeaveViews, IsForeign, IsForeignEdit, ShowsTheSame, ViewsAreShown}
+use Rattle.share_book.specs.Laws.{ForeignEntriesLeaveViews, IsForeign, IsForeignEdit, ViewsAreShown}
 use Rattle.share_book.specs.Legal.{is_at}
 use Rattle.share_book.specs.Legal.{log_at as number_at}
-use Rattle.share_book.specs.Views.{Log, View, log_at, log_of, log_of_spot, logs_of, seen_log, view_by, view_with}
+use Rattle.share_book.specs.Views.{Log, log_at, log_of, log_of_spot, logs_of, seen_log, view_by, view_with}
 use Rattle.share_book.specs.declared.entry.Entry.{Entry}
 use Rattle.share_book.specs.declared.entry.LogStart.{LogStart}
 use Rattle.share_book.proofs.Growth.{position_goes_on, still_none}

@@ -1,5 +1,5 @@
 -- What a history keeps as it goes on.
-use Rattle.std.proofs.Common.{◌≡◌, ℕ, ◌+◌, ◌-◌, ◌<◌, ◌≤◌, List, [], ◌∷◌, ◌++◌, Bool, true, false, cond, Option, Some, None, zero, suc, refl, sym, ap, ◌∙◌, subst, append_assoc, take, length, arith}
+use Rattle.std.proofs.Common.{◌≡◌, ℕ, ◌+◌, ◌-◌, ◌≤◌, List, [], ◌∷◌, ◌++◌, Bool, true, false, cond, Option, Some, None, zero, suc, refl, sym, ap, ◌∙◌, subst, append_assoc, take, arith}
 use Rattle.std.specs.List.{filter_map, position, position_from, slice_get}
 use Rattle.std.specs.Option.{option_and_then, option_map}
 use Rattle.std.proofs.lemmas.List.{append-nil, take-append-le}
@@ -10,10 +10,9 @@ use Rattle.share_catalog.specs.Catalogue.{binding_edition, grant_edition}
 use Rattle.share_catalog.specs.declared.edit.Edit.{Edit}
 use Rattle.share_catalog.specs.declared.table_name.TableName.{TableName}
 use Rattle.share_catalog.proofs.LawProofs.{editions_rise}
-use Rattle.turn_cell.specs.Entries.{made_by}
-use Rattle.share_book.specs.History.{block_on, caller_of, commit_on, edit_in, edits, grown, open_on, start_in, starts, table_on}
+use Rattle.share_book.specs.History.{block_on, commit_on, edit_in, edits, grown, start_in, starts, table_on}
 use Rattle.share_book.specs.Laws.{EditionsRise, FrontsAreLegal, LogsGrow, OthersLeaveCatalogue, OthersLeaveLogs}
-use Rattle.share_book.specs.Legal.{IsLegal, is_at}
+use Rattle.share_book.specs.Legal.{is_at}
 use Rattle.share_book.specs.Views.{Log, log_at, seen_log}
 use Rattle.share_book.specs.declared.entry.Entry.{Entry}
 use Rattle.share_book.specs.declared.entry.LogStart.{LogStart}

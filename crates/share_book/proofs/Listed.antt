@@ -7,8 +7,7 @@ use Rattle.log_replay.proofs.AppliedLemmas.{map_take_more}
 use Rattle.share_catalog.specs.Catalogue.{IsHolder, binding_edition, bound}
 use Rattle.share_catalog.specs.Listed.{bound_entry, grant_entry}
 use Rattle.share_catalog.specs.Listing.{ListsBindings, ListsGrants}
-use Rattle.share_catalog.specs.TableNames.{texts_cmp}
-use Rattle.share_catalog.specs.Views.{Spot, behind, bindings_of, grant, grants_of, joined, name_of, shared, spot_with, tables_of}
+use Rattle.share_catalog.specs.Views.{Spot, behind, bindings_of, grant, joined, name_of, shared, spot_with}
 use Rattle.share_catalog.specs.declared.edit.Binding.{Binding}
 use Rattle.share_catalog.specs.declared.edit.Edit.{Edit}
 use Rattle.share_catalog.specs.declared.listing.Bound.{Bound}
@@ -19,7 +18,6 @@ use Rattle.share_catalog.proofs.JoinLemmas.{tables_are_joined}
 use Rattle.share_catalog.proofs.ViewLemmas.{bindings_are_listed, grants_are_listed}
 use Rattle.share_book.specs.Looked.{names_by, tables_in, tables_of_grants}
 use Rattle.share_book.specs.Looks.{share_of, table_of, who_of}
-use Rattle.share_book.specs.NamesView.{NamesView}
 use Rattle.share_book.specs.declared.look.Who.{Who}
 use Rattle.share_book.specs.declared.look.Who.TheVariants as who
 

@@ -37,6 +37,11 @@ after_base base commits = drop (first_left base) commits
 abbrev pub Makes : List (List Action) → Replay → Type 0
 Makes commits r = IsBase commits r.base × (r.commits ≡ after_base r.base commits)
 
+-- what makes the state of a version of a log, none where it doesn't have it
+abbrev pub MakesVersion : ℕ → List (List Action) → Option Replay → Type 0
+MakesVersion version commits None = length commits ≤ version
+MakesVersion version commits (Some r) = (version < length commits) × Makes (take (version + 1) commits) r
+
 -- what makes the state after all commits of a log, none where it has none
 abbrev pub MakesHead : List (List Action) → Option Replay → Type 0
 MakesHead commits None = commits ≡ []

@@ -1,6 +1,7 @@
 -- Laws of histories: what stays as one goes on, and what a recipient doesn't see.
-use Rattle.std.specs.Prelude.{◌≡◌, ◌≢◌, ℕ, ◌<◌, ◌≤◌, List, [], ◌∷◌, ◌++◌, Bool, true, false, Option, Some, IfSome, length}
+use Rattle.std.specs.Prelude.{◌≡◌, ◌≢◌, ℕ, ◌<◌, ◌≤◌, List, [], ◌∷◌, ◌++◌, true, false, Some, IfSome, Ok, length}
 use Rattle.log_actions.specs.declared.actions.Action.{Action}
+use Rattle.log_replay.specs.State.{State, state_of}
 use Rattle.share_catalog.specs.Catalogue.{binding_edition, credential, grant_edition, granted}
 use Rattle.share_catalog.specs.Laws.{names_recipient, names_share}
 use Rattle.share_catalog.specs.Views.{Spot, grant, named, shared}
@@ -19,6 +20,10 @@ pub record LogsGrow : Type 0 where
   pub grows : (history later : List Entry) (location : List ℕ) → (more : List (List Action)) × ((log_at (history ++ later) location).commits ≡ (log_at history location).commits ++ more)
   pub stays : (history later : List Entry) (location : List ℕ) (version : ℕ) → version < length (log_at history location).commits
       → up_to (log_at (history ++ later) location) version ≡ up_to (log_at history location) version
+
+-- Each version that a legal history keeps of a log has a state, so that the files of a version that is found are never refused.
+abbrev pub VersionsHaveStates : Type 0
+VersionsHaveStates = (history : List Entry) (location : List ℕ) (version : ℕ) → IsLegal history → version < length (log_at history location).commits → (state : State) × (state_of (up_to (log_at history location) version) ≡ Ok state)
 
 -- Each beginning of a legal history is legal.
 abbrev pub FrontsAreLegal : Type 0

@@ -1,5 +1,5 @@
 -- What the code knows when it looks: a table's log, and what is found of edits and logs.
-use Rattle.std.specs.Prelude.{ℕ, ◌<◌, ⊤, List, ◌∷◌, Bool, Option, Some, None, length, map, option_map}
+use Rattle.std.specs.Prelude.{ℕ, ◌<◌, ⊤, List, ◌∷◌, Bool, Option, Some, None, length, map}
 use Rattle.std.specs.FinMap as maps
 use Rattle.std.specs.List.{flat_map}
 use Rattle.log_actions.specs.declared.actions.Action.{Action}
@@ -10,7 +10,6 @@ use Rattle.share_catalog.specs.declared.table_name.TableName.{TableName}
 use Rattle.share_book.specs.History.{edits}
 use Rattle.share_book.specs.NamesView.{NamesView}
 use Rattle.share_book.specs.Looks.{share_of, table_commits, table_found, table_of}
-use Rattle.share_book.specs.Parts.{version_of}
 use Rattle.share_book.specs.Views.{Log, log_at, seen_log}
 use Rattle.share_book.specs.declared.entry.Entry.{Entry}
 use Rattle.share_book.specs.declared.look.Found.{Found}

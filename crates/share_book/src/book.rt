@@ -1,5 +1,5 @@
 // What the turn is taken for.
-ghost use Rattle.std.specs.Prelude.{◌≡◌, ℕ, ◌<◌, ◌≤◌, ◌+◌, ◌-◌, ◌++◌, ◌∷◌, [], length, slice_get, slice_index, None, Some, IfOk, IfSome, OnOk, OnErr, IsSome, MatchBool, true, map, position};
+ghost use Rattle.std.specs.Prelude.{◌≡◌, ℕ, ◌<◌, ◌≤◌, ◌+◌, ◌-◌, ◌++◌, ◌∷◌, [], length, slice_get, slice_index, None, Some, IfOk, IfSome, OnOk, OnErr, IsSome, MatchBool, true, drop, map, position};
 ghost use Rattle.std.specs.List.{list_any};
 ghost use Rattle.share_catalog.specs.Catalogue.{bound_location, refusal_of};
 ghost use Rattle.share_catalog.specs.CatalogState.{unless};
@@ -9,14 +9,13 @@ ghost use Rattle.share_book.specs.History.{caller_of, entry, open_on, pending, s
 ghost use Rattle.share_book.specs.Legal.{Follows, IsKeptLog, IsLegal, TakesCommit, There, TakesLog, has_log, locations_of, log_at};
 ghost use Rattle.log_replay.specs.Times.{marks_in};
 ghost use Rattle.share_book.specs.Looked.{commits_by, found_by, log_by, table_by};
-ghost use Rattle.share_book.specs.Bases.{CanReplay, FilesStand, IsBase, IsStateIn, MakesFound, MakesHead};
+ghost use Rattle.share_book.specs.Bases.{CanReplay, FilesStand, IsStateIn, MakesFound, MakesHead, MakesVersion};
 ghost use Rattle.share_book.specs.Looks.{commits_of, glance_of, table_commits, who_of};
 ghost use Rattle.share_book.specs.Parts.{version_of};
 ghost use Rattle.share_book.specs.Tables.{IsState};
 ghost use Rattle.share_book.specs.Views as views;
 ghost use Rattle.share_book.specs.Views.{view_by};
 ghost use Rattle.share_catalog.specs.Views.{shared};
-ghost use Rattle.std.specs.Arc.{arc_value};
 ghost use Rattle.share_book.specs.Pasts.{Raised};
 ghost use Rattle.share_book.specs.Books.{HasRooms, OthersRest, location, OwnIsLawful, commit_act, committed, is_table_at, added, edit_act, edited, loaded, rests};
 ghost use Rattle.share_book.specs.declared.entry.Act.TheVariants as act;
@@ -33,6 +32,7 @@ use edge_core::Name;
 use json_tree::Text;
 use log_actions::Commit;
 use log_replay::Mark;
+use log_store::Commits;
 use share_catalog::{Catalog, Edit, EditRefusal, TableName};
 use std::alloc::{AllocError, Global};
 use std::marker::Model;
@@ -383,15 +383,15 @@ impl Book {
         });
     }
 
-    /// The commits of a table's log. The error is want of memory.
-    pub fn commits(&self, alloc: Global, log: u32) -> Result<Vec<Arc<Commit>>, AllocError>
+    /// The commits of a table's log from a version on, none where it has no more. The error is want of memory.
+    pub fn commits_from(&self, alloc: Global, log: u32, version: u64) -> Result<Commits, AllocError>
         requires there { log < length self.now.past.rooms }
         requires table { 0 < log }
-        ensures { IfOk result (λ v. There (table_on log self.now.past.history) (λ t. t.commits ≡ map arc_value v.items)) }
+        ensures { IfOk result (λ v. There (table_on log self.now.past.history) (λ t. v ≡ drop version t.commits)) }
     {
         self.past.len();
         let table = &self.tables[log as usize - 1];
-        table.commits(alloc)
+        table.commits_from(alloc, version)
     }
 
     /// How far a table's log is known.
@@ -498,15 +498,21 @@ impl Book {
         keep_at(&mut self.tables, log as usize - 1, state)
     }
 
-    /// The latest state of a table's log that is kept of a version up to that one, none where none is. The error is want of memory.
-    pub fn base(&self, log: u32, version: u64) -> Result<Option<SharedSnapshot>, AllocError>
+    /// What makes the state of a version of a table's log, none where the log doesn't have it. The error is want of memory.
+    pub fn replay_to(
+        &self,
+        alloc: Global,
+        log: u32,
+        version: u64,
+    ) -> Result<Option<Replay>, AllocError>
         requires there { log < length self.now.past.rooms }
         requires table { 0 < log }
-        ensures { IfOk result (λ b. There (table_on log self.now.past.history) (λ t. IsBase t.commits b)) }
+        ensures makes { IfOk result (λ r. There (table_on log self.now.past.history) (λ t. MakesVersion version t.commits r)) }
+        ensures fits { IfOk result (λ r. IfSome r CanReplay) }
     {
         self.past.len();
         let table = &self.tables[log as usize - 1];
-        table.base(version)
+        SeenLog::of(table).replay_to(alloc, version)
     }
 
     /// What makes the state after all commits of a table's log, none where it has none. The error is want of memory.

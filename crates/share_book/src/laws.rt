@@ -1,5 +1,5 @@
 // Laws of histories. Each function does nothing when it is called.
-ghost use Rattle.share_book.specs.Laws.{EditionsRise, ForeignEntriesLeaveViews, FrontsAreLegal, LogsGrow, OthersLeaveCatalogue, OthersLeaveLogs, ViewsAreShown};
+ghost use Rattle.share_book.specs.Laws.{EditionsRise, ForeignEntriesLeaveViews, FrontsAreLegal, LogsGrow, OthersLeaveCatalogue, OthersLeaveLogs, VersionsHaveStates, ViewsAreShown};
 ghost use Rattle.share_book.specs.Looks.{GlancesBecomeLooks};
 
 /// A law: as a history goes on, its logs only grow, no edition falls, and each beginning of a legal one is legal. It does nothing
@@ -8,6 +8,12 @@ pub fn histories_go_on()
     ensures logs { LogsGrow }
     ensures editions { EditionsRise }
     ensures fronts { FrontsAreLegal }
+{}
+
+/// A law: each version that a legal history keeps of a log has a state, so that the files of a version that is found are never
+/// refused. It does nothing when it is called.
+pub fn versions_have_states()
+    ensures { VersionsHaveStates }
 {}
 
 /// A law: who has a Begin open finds the log, or the catalogue, as it left it, whatever others add. It does nothing when it is

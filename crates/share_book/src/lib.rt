@@ -17,10 +17,11 @@ pub use book::Book;
 pub use entry::{Act, Entry, LogStart, SharedCommit, SharedEdit};
 pub use laws::{
     foreign_entries_leave_views, glances_become_looks, histories_go_on, others_leave_what_is_begun,
+    versions_have_states,
 };
 pub use look::{
     Ask, FeedPart, Found, Look, Marks, Names, Part, PartFound, Pinned, Seen, SharedSnapshot, Spot,
     TableRefusal, Want, Who,
 };
-pub use replay::{Replay, head_state};
+pub use replay::Replay;
 pub use table::{LogState, ReadyLog, ready};

@@ -3,7 +3,7 @@ ghost use Rattle.std.specs.Prelude.{◌≡◌, ◌+◌, ◌<◌, ◌≤◌, ◌^
 ghost use Rattle.std.specs.Arc.{arc_value};
 ghost use Rattle.log_replay.specs.Times.{marks_in};
 ghost use Rattle.share_book.specs.Bases as bases;
-ghost use Rattle.share_book.specs.Bases.{CanReplay, IsBase, MakesFound, MakesHead};
+ghost use Rattle.share_book.specs.Bases.{CanReplay, IsBase, MakesFound, MakesHead, MakesVersion};
 ghost use Rattle.share_book.specs.Looked.{IsKept};
 ghost use Rattle.share_book.specs.Parts as parts;
 ghost use Rattle.share_book.specs.Views.{seen_log};
@@ -121,6 +121,22 @@ impl<'a> SeenLog<'a> {
             base,
             commits: Commits::of(after),
         })
+    }
+
+    /// What makes the state of a version, none where it isn't kept. The error is want of memory.
+    pub(crate) fn replay_to(
+        &self,
+        alloc: Global,
+        version: u64,
+    ) -> Result<Option<Replay>, AllocError>
+        ensures makes { IfOk result (MakesVersion version self.now.commits) }
+        ensures fits { IfOk result (λ r. IfSome r CanReplay) }
+    {
+        if version < self.len() {
+            Ok(Some(self.replay(alloc, version)?))
+        } else {
+            Ok(None)
+        }
     }
 
     /// What makes the state after all commits, none where there are none. The error is want of memory.

@@ -1,12 +1,12 @@
 // What is left to replay for the state of a version.
-ghost use Rattle.std.specs.Prelude.{◌≡◌, ◌+◌, ◌<◌, ◌^◌, ◌++◌, List, Ok, IfOk, OnOk, length, map, option_map, unwrap_or};
+ghost use Rattle.std.specs.Prelude.{◌≡◌, ◌+◌, ◌<◌, ◌^◌, ◌++◌, List, Ok, IfOk, OnOk, length, map, unwrap_or};
 ghost use Rattle.std.specs.Arc.{arc_value};
 ghost use Rattle.log_actions.specs.declared.actions.Action.{Action};
 ghost use Rattle.log_replay.specs.Reconciliation.{actions_in};
 ghost use Rattle.log_replay.specs.Snapshots.{Answers};
 ghost use Rattle.log_replay.specs.Standing.{IsSupported};
 ghost use Rattle.log_replay.specs.State.{state_of};
-ghost use Rattle.share_book.specs.Bases.{CanReplay, IsBase, Makes};
+ghost use Rattle.share_book.specs.Bases.{CanReplay, Makes};
 
 use crate::look::SharedSnapshot;
 use log_actions::Commit;
@@ -75,46 +75,25 @@ fn state_after<L>(
     }
 }
 
-// The state after all commits of a log, begun with a state of it where one is given.
-fn state_of_all<L>(
-    alloc: Global,
-    base: Option<&SharedSnapshot>,
-    commits: &[Arc<Commit>],
-    steps: &mut Steps<L>,
-) -> Result<SharedSnapshot, NoState>
-    requires some { 0 < length commits.now }
-    requires short { length commits.now < 2 ^ 63 }
-    requires supported { IsSupported (map arc_value commits.now) }
-    requires base { IsBase (map arc_value commits.now) (option_map (λ s. s.now) base) }
-    ensures { Answers result (state_of (map arc_value commits.now)) }
-{
-    let Some(base) = base else {
-        return replay_all(alloc, commits, steps);
-    };
-    let after: &[Arc<Commit>] = &commits[base.version() as usize + 1..];
-    state_after(alloc, base, after, steps)
-}
-
-/// The state after all commits of a log, begun with a state of it where one is given. The error is want of memory.
-pub fn head_state<L>(
-    alloc: Global,
-    base: Option<&SharedSnapshot>,
-    commits: &[Arc<Commit>],
-    steps: &mut Steps<L>,
-) -> Result<SharedSnapshot, AllocError>
-    requires some { 0 < length commits.now }
-    requires supported { IsSupported (map arc_value commits.now) }
-    requires base { IsBase (map arc_value commits.now) (option_map (λ s. s.now) base) }
-    ensures { IfOk result (λ s. state_of (map arc_value commits.now) ≡ Ok s) }
-{
-    match state_of_all(alloc, base, commits, steps) {
-        Ok(state) => Ok(state),
-        Err(NoState::NoMemory) => Err(AllocError),
-        Err(NoState::Refusal(_)) => unreachable!(),
-    }
-}
+// The work of a replay that nobody counts.
+struct Work;
 
 impl Replay {
+    /// The state of a supported log of one commit or more, of which this is the base with the commits after it. The error is want of
+    /// memory.
+    pub fn made(&self, alloc: Global) -> Result<SharedSnapshot, AllocError>
+        requires fits { CanReplay self.now }
+        requires of { (commits : List (List Action)) × IsSupported commits × (0 < length commits) × Makes commits self.now }
+        ensures { (commits : List (List Action)) → IsSupported commits → Makes commits self.now → IfOk result (λ s. state_of commits ≡ Ok s) }
+    {
+        let mut steps: Steps<Work> = Steps::new();
+        match self.state(alloc, &mut steps) {
+            Ok(state) => Ok(state),
+            Err(NoState::NoMemory) => Err(AllocError),
+            Err(NoState::Refusal(_)) => unreachable!(),
+        }
+    }
+
     /// The state of a supported log of which this is the base with the commits after it. `steps` goes up by one for each of their
     /// actions. The error is want of memory for such a log.
     pub fn state<L>(&self, alloc: Global, steps: &mut Steps<L>) -> Result<SharedSnapshot, NoState>

@@ -1,11 +1,11 @@
 // A table's log as the book keeps it.
-ghost use Rattle.std.specs.Prelude.{◌≡◌, ◌<◌, ◌≤◌, [], ◌∷◌, ◌++◌, IfOk, IfSome, OnOk, is_some, length, map};
+ghost use Rattle.std.specs.Prelude.{◌≡◌, ◌<◌, ◌≤◌, [], ◌∷◌, ◌++◌, IfOk, IfSome, OnOk, drop, is_some, length, map};
 ghost use Rattle.std.specs.Arc.{arc_value};
 ghost use Rattle.log_actions.specs.CommitTexts.{printed_bytes};
 ghost use Rattle.log_actions.specs.CommitTexts.{commit_text};
 ghost use Rattle.log_replay.specs.Times.{marks_in};
 ghost use Rattle.share_book.specs.Legal.{IsKeptLog};
-ghost use Rattle.share_book.specs.Bases.{AllStatesIn, IsBase, IsStateIn};
+ghost use Rattle.share_book.specs.Bases.{AllStatesIn, IsStateIn};
 ghost use Rattle.share_book.specs.Tables.{IsState, with_block, with_commit};
 
 use crate::entry::LogStart;
@@ -66,11 +66,15 @@ impl Table {
         &self.location
     }
 
-    /// The commits, in order. The error is want of memory.
-    pub(crate) fn commits(&self, alloc: Global) -> Result<Vec<Arc<Commit>>, AllocError>
-        ensures { IfOk result (λ v. map arc_value v.items ≡ self.now.log.commits) }
+    /// The commits from a version on, none where there are no more. The error is want of memory.
+    pub(crate) fn commits_from(&self, alloc: Global, version: u64) -> Result<Commits, AllocError>
+        ensures { IfOk result (λ v. v ≡ drop version self.now.log.commits) }
     {
-        shared(alloc, &self.commits)
+        if version > self.commits.len() as u64 {
+            return Ok(Commits::of(Vec::new(alloc)));
+        }
+        let rest: &[Arc<Commit>] = &self.commits[version as usize..];
+        Ok(Commits::of(shared(alloc, rest)?))
     }
 
     /// The commits as they are held, in order.
@@ -86,16 +90,6 @@ impl Table {
         ensures { AllStatesIn self.now.log.commits result.now }
     {
         &self.snapshots
-    }
-
-    /// The latest state that is kept of a version up to that one, none where none is. The error is want of memory.
-    pub(crate) fn base(&self, version: u64) -> Result<Option<SharedSnapshot>, AllocError>
-        ensures { IfOk result (IsBase self.now.log.commits) }
-    {
-        match self.snapshots().latest(version) {
-            Some(state) => Ok(Some(state.share()?)),
-            None => Ok(None),
-        }
     }
 
     /// The state of that version, if it is kept, is the one used last.

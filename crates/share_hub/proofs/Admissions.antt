@@ -1,27 +1,34 @@
 -- The states of a supported log, and the commit of an admitted offer.
-use Rattle.std.proofs.Common.{◌≡◌, ℕ, ◌+◌, ◌<◌, ◌≤◌, ◌^◌, List, [], ◌∷◌, ◌++◌, length, map, take, Bool, true, false, cond, nat_lt, Option, Some, None, Result, Ok, Err, is_some, option_map, sym, refl, ap, ◌∙◌, subst, arith, true≢false}
-use Rattle.std.specs.Prelude.{◌||◌, IfOk}
+use Rattle.std.proofs.Common.{◌≡◌, ℕ, ◌+◌, ◌<◌, ◌≤◌, ◌^◌, List, [], ◌∷◌, ◌++◌, length, take, Bool, true, false, cond, nat_lt, Option, Some, None, Ok, is_some, option_map, sym, refl, ap, ◌∙◌, subst, arith, true≢false}
+use Rattle.std.specs.Prelude.{◌||◌, IfSome, drop}
 use Rattle.std.specs.Option.{option_or}
 use Rattle.std.specs.Result.{result_ok}
 use Rattle.std.proofs.lemmas.Bool.{or_parts}
-use Rattle.std.specs.Arc.{arc_value}
-use Rattle.std.proofs.lemmas.List.{length-map, length-take, take-map}
-use Rattle.log_replay.proofs.Reached.{Arcs}
-use Rattle.share_book.specs.Bases.{IsBase}
-use Rattle.share_book.proofs.States.{front_stands}
+use Rattle.std.proofs.lemmas.List.{length-drop, length-take, take_all}
+use Rattle.share_book.specs.Bases.{CanReplay, Makes, MakesHead}
+use Rattle.share_book.specs.Legal.{IsKeptLog, There}
+use Rattle.share_book.specs.TableView.{TableLog}
+use Rattle.share_book.specs.Tables.{IsState}
+use Rattle.share_book.specs.declared.replay.Replay.{Replay}
+use Rattle.share_book.specs.declared.table.LogState.{LogState}
+use Rattle.share_book.proofs.States.{supported_up_to}
 use Rattle.log_actions.specs.declared.actions.Action.{Action}
 use Rattle.log_actions.specs.CommitTexts.{commit_text}
 use Rattle.log_replay.specs.Reconciliation.{actions_in, last_meta, last_protocol}
+use Rattle.log_replay.specs.Standing.{IsSupported}
 use Rattle.log_replay.specs.State.{IsHead, State, state_of}
 use Rattle.log_replay.specs.Support.{refusal_of}
-use Rattle.log_replay.specs.declared.refusal.ReplayRefusal.{ReplayRefusal}
 use Rattle.commit_check.specs.Admission.{absent, admitted, appends_only, bad_offer, bad_place, begins_badly, conflict_of, first_bad, is_bad_whole, is_long, read_ahead, unless_conflict, unwritten, whole_place, winners_conflict}
 use Rattle.commit_check.specs.Offers.{commit_with, read_state}
+use Rattle.commit_check.specs.Winners.{next_version, winners}
 use Rattle.commit_check.specs.declared.conflict.Conflict.{Conflict}
 use Rattle.commit_check.specs.declared.conflict.Conflict.TheVariants as conflict
 use Rattle.commit_check.specs.declared.offer.Offer.{Offer}
+use Rattle.commit_check.proofs.Chosen.{state_there}
 use Rattle.commit_check.proofs.Lawfulness.{admitted_lawful}
 use Rattle.share_hub.specs.CommitRounds.{IsFit}
+use Rattle.share_hub.specs.OfferLogs.{IsOfferLog, MakesRead}
+use Rattle.share_hub.specs.declared.offer_log.OfferLog.{OfferLog}
 
 -- ---- states
 
@@ -36,22 +43,54 @@ head_is_state log v (Some s) lt is = sym (ap (λ (b : Bool). cond b (result_ok (
     there : (a b : ℕ) → a < b → nat_lt a b ≡ true
     there a b l = search (arith, l)
 
-pub state_found : {E : Type 0} (commits : Arcs) (v : ℕ) (r : Result (Option State) E) → v < length commits → IfOk r (λ s. IsHead (map arc_value (take (v + 1) commits)) s) → IfOk r (λ s. s ≡ read_state (map arc_value commits) (Some v))
-state_found commits v (Err e) lt is = tt
-state_found commits v (Ok o) lt is =
-    let n = length-map commits arc_value in
-    head_is_state (map arc_value commits) v o (omega arith) (subst (λ (l : List (List Action)). IsHead l o) (sym (take-map arc_value (v + 1) commits)) is)
+-- what makes the state that was read makes that of a version that the log has
+pub makes_read : (read : Option ℕ) (commits : List (List Action)) (o : Option Replay) (r : Replay) → MakesRead read commits o → o ≡ Some r → (v : ℕ) × (read ≡ Some v) × (v < length commits) × Makes (take (v + 1) commits) r
+makes_read None commits o r m e = absurd (cc (sym m ∙ e))
+makes_read (Some v) commits None r m e = absurd (cc e)
+makes_read (Some v) commits (Some x) r m e = let same : x ≡ r = cc e in (v, refl, m.0, subst (Makes (take (v + 1) commits)) same m.1)
 
--- the state that was read of a log is a base of it
-pub base_read : (log : List (List Action)) (read : Option ℕ) (o : Option State) → o ≡ read_state log read → IsBase log o
-base_read log read None e = tt
-base_read log None (Some s) e = absurd (cc e)
-base_read log (Some v) (Some s) e = by_length (nat_lt v (length log)) (state_of (take (v + 1) log)) refl e
+-- the log up to that version can be replayed
+pub front_made : (commits : List (List Action)) (v : ℕ) (r : Replay) → IsSupported commits → v < length commits → Makes (take (v + 1) commits) r
+    → (front : List (List Action)) × IsSupported front × (0 < length front) × Makes front r
+front_made commits v r good lt m = let long = length-take (v + 1) commits in (take (v + 1) commits, supported_up_to commits (v + 1) good, omega (arith, long, lt), m)
+
+-- its state is the one that was read
+pub read_found : (read : Option ℕ) (commits : List (List Action)) (v : ℕ) (s : State) → read ≡ Some v → v < length commits → state_of (take (v + 1) commits) ≡ Ok s → Some s ≡ read_state commits read
+read_found read commits v s is lt made = head_is_state commits v (Some s) lt made ∙ ap (read_state commits) (sym is)
+
+no_state : (a b : ℕ) (o : Option State) → b ≤ a → None ≡ cond (nat_lt a b) o None
+no_state a b o le = sym (ap (λ (c : Bool). cond c o None) (past a b le))
   where
-    by_length : (c : Bool) (r : Result State ReplayRefusal) → state_of (take (v + 1) log) ≡ r → Some s ≡ cond c (result_ok r) None → IsBase log (Some s)
-    by_length false r q e = absurd (cc e)
-    by_length true (Err why) q e = absurd (cc e)
-    by_length true (Ok t) q e = let same : t ≡ s = cc e in front_stands log (v + 1) s (q ∙ ap (λ (x : State). Ok x) same)
+    past : (a b : ℕ) → b ≤ a → nat_lt a b ≡ false
+    past a b l = search (arith, l)
+
+-- where nothing makes it, none was read, or the version isn't kept
+pub none_read : (read : Option ℕ) (commits : List (List Action)) (o : Option Replay) → MakesRead read commits o → o ≡ None → None ≡ read_state commits read
+none_read None commits o m e = refl
+none_read (Some v) commits None m e = no_state v (length commits) (result_ok (state_of (take (v + 1) commits))) m
+none_read (Some v) commits (Some r) m e = absurd (cc e)
+
+-- where nothing came after it, the state that was read is the last
+pub last_read : (read : Option ℕ) (commits : List (List Action)) (s : State) → Some s ≡ read_state commits read → length (winners commits read) ≡ 0 → state_of commits ≡ Ok s
+last_read None commits s is none = absurd (cc is)
+last_read (Some v) commits s is none =
+    let n = length-drop (v + 1) commits in
+    ap state_of (sym (take_all (v + 1) commits (omega (arith, n, none)))) ∙ state_there commits v s (sym is)
+
+-- what makes the last state, where something does
+pub makes_head : (commits : List (List Action)) (o : Option Replay) (r : Replay) → MakesHead commits o → o ≡ Some r → (0 < length commits) × Makes commits r
+makes_head commits None r m e = absurd (cc e)
+makes_head commits (Some x) r m e = let same : x ≡ r = cc e in (m.0, subst (Makes commits) same m.1)
+
+pub none_made : (commits : List (List Action)) (o : Option Replay) → MakesHead commits o → o ≡ None → commits ≡ []
+none_made commits None m e = m
+none_made commits (Some r) m e = absurd (cc e)
+
+-- what one turn finds of a log
+pub found_there : (o : Option TableLog) (read : Option ℕ) (l : OfferLog) (s : LogState) → There o (λ t. l.winners ≡ drop (next_version read) t.commits) → There o (λ t. MakesRead read t.commits l.read) → There o (λ t. MakesHead t.commits l.head)
+    → There o (λ t. IsState t s × IsKeptLog t.commits) → l.versions ≡ s.kept → IfSome l.read CanReplay → IfSome l.head CanReplay → There o (λ t. IsOfferLog read t.commits l)
+found_there None read l s w r h k n f g = w
+found_there (Some t) read l s w r h k n f g = record { supported = k.1.0; counted = sym (n ∙ k.0.kept); winners = w; read = r; head = h; read_fits = f; head_fits = g }
 
 -- ---- offers
 

@@ -9,7 +9,6 @@ use Rattle.edge_core.proofs.Growth.{Grows-absent}
 use Rattle.log_actions.specs.declared.actions.Action.{Action}
 use Rattle.log_actions.specs.CommitTexts.{commit_text, printed_bytes}
 use Rattle.log_commit.specs.Names.{commit_name}
-use Rattle.log_replay.specs.Standing.{IsSupported}
 use Rattle.log_replay.proofs.NextLemmas.{supported_more}
 use Rattle.commit_check.specs.Admission.{Answers, admitted}
 use Rattle.commit_check.specs.Lawful.{is_lawful}
@@ -61,13 +60,6 @@ held_still p s j h x g = record { log = x.log; holds = record { log = x.holds.lo
 
 pub there_still : (p s : P) (j : ℕ) (Q : TableLog → Type 0) → GoesOn p s j [] → There (table_on j p.seen) Q → There (table_on j s.seen) Q
 there_still p s j Q g w = subst (λ (o : Option TableLog). There o Q) (sym (same_table p s j g)) w
-
-pub supported_there : (p : P) (j : ℕ) (h : LogHead) (cs : List (List Action)) → HoldsHead p j h → There (table_on j p.seen) (λ t. t.commits ≡ cs) → IsSupported cs
-supported_there p j h cs x w = subst IsSupported (there_at (table_on j p.seen) x.log (λ t. t.commits ≡ cs) x.holds.table w) x.head.kept.0
-
-pub told_there : (r : Result (List Action) NotAdmitted) (now : ℕ) (o : Offer) (y : Option TableLog) (cs : List (List Action)) → There y (λ t. t.commits ≡ cs) → Answers r (admitted cs now o) → There y (λ t. Answers r (admitted t.commits now o))
-told_there r now o None cs w a = w
-told_there r now o (Some t) cs w a = subst (λ (l : List (List Action)). Answers r (admitted l now o)) (sym w) a
 
 pub wanting_there : (now : ℕ) (o : Offer) (p : P) (j : ℕ) (h : LogHead) → HoldsHead p j h → There (table_on j p.seen) (λ t. Answers (Err not_admitted.NoMemory) (admitted t.commits now o))
 wanting_there now o p j h x = there_from (table_on j p.seen) x.log (λ t. Answers (Err not_admitted.NoMemory) (admitted t.commits now o)) x.holds.table tt

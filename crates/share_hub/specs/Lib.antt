@@ -8,6 +8,7 @@ pub mod Rounds
 pub mod Opens
 pub mod Refreshes
 pub mod TableTurns
+pub mod OfferLogs
 pub mod TableCalls
 pub mod FoundCommits
 pub mod TableRounds

@@ -120,14 +120,6 @@ fn turned_down(refused: NotAdmitted) -> CommitRefusal
     }
 }
 
-// The version that an offer read; of one that read none nothing is asked.
-fn version_read(offer: &Offer) -> u64 {
-    match offer.read {
-        Some(version) => version.get(),
-        None => 0,
-    }
-}
-
 impl Hub {
     // Ends what the caller began.
     fn end_commit<R: Wait>(
@@ -243,15 +235,13 @@ impl Hub {
         ensures goes { GoesOn pass.old pass.new log [] }
         ensures told { There (table_on log pass.old.seen) (λ t. Answers result (admitted t.commits now offer.now)) }
     {
-        let Ok((commits, bases)) = self.log_commits(rt, alloc, pass, log, version_read(offer))
-        else {
+        let Ok(found) = self.offer_log(rt, alloc, pass, log, offer) else {
             return Err(NotAdmitted::NoMemory);
         };
-        let latest = bases.latest.as_ref();
-        let Ok(states) = states_of(alloc, &commits, latest, bases.read.as_ref(), offer) else {
+        let Ok(states) = states_of(alloc, &found) else {
             return Err(NotAdmitted::NoMemory);
         };
-        admission(alloc, &commits, &states, now, offer)
+        admission(alloc, &found, &states, now, offer)
     }
 
     // The caller's own commit, where no further was there.

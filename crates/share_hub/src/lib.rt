@@ -10,6 +10,7 @@ mod found;
 mod hub;
 mod look;
 mod new_log;
+mod offer_log;
 mod open;
 mod places;
 mod record;

@@ -10,7 +10,6 @@ ghost use Rattle.share_hub.specs.RefreshRounds.{OpensOn, RefreshRuns, RefreshesO
 ghost use Rattle.share_hub.specs.TableRounds.{HoldsHead};
 ghost use Rattle.share_hub.specs.TableTurns.{IsLog};
 
-use crate::admission::made;
 use crate::hub::{Hub, HubPass};
 use crate::table_rounds::{LogEnd, LogHead, NextCommit, VersionObject, has_version};
 use crate::table_turns::KnownLog;
@@ -102,7 +101,7 @@ impl Hub {
                 bytes: state.bytes,
             });
         };
-        let head = made(alloc, &replay)?;
+        let head = replay.made(alloc)?;
         self.keep_made(rt, pass, log, &replay, &head);
         let support = Support::of(alloc, head.get())?;
         Ok(LogHead {

@@ -1,21 +1,23 @@
 // Calls of the hub that take one turn on a table's log.
-ghost use Rattle.std.specs.Prelude.{◌≡◌, ◌∷◌, [], false, true, IfOk, IfSome, None, Some, length, map};
-ghost use Rattle.std.specs.Arc.{arc_value};
+ghost use Rattle.std.specs.Prelude.{◌≡◌, ◌∷◌, [], false, true, IfOk, IfSome, None, Some, length};
 ghost use Rattle.log_actions.specs.CommitTexts.{commit_text};
-ghost use Rattle.share_book.specs.Bases.{CanReplay, IsBase, IsStateIn, MakesHead};
+ghost use Rattle.share_book.specs.Bases.{CanReplay, IsStateIn, MakesHead};
 ghost use Rattle.share_book.specs.Books.{OwnIsLawful};
 ghost use Rattle.share_book.specs.History.{open_on, table_on};
 ghost use Rattle.share_book.specs.Legal.{TakesCommit, There};
 ghost use Rattle.share_book.specs.declared.entry.Act.TheVariants as act;
 ghost use Rattle.share_hub.specs.Calls.{Adds, IsIdle};
+ghost use Rattle.share_hub.specs.OfferLogs.{IsOfferLog};
 ghost use Rattle.share_hub.specs.TableCalls.{BeginsLog, BlocksLog, FindsCommit, GoesOn, StartsLog, StopsOn};
 ghost use Rattle.share_hub.specs.TableTurns.{FindsLog, IsLog};
 
 use crate::hub::{Hub, HubPass};
+use crate::offer_log::{OfferLog, offer_log_in};
 use crate::table_turns::{
-    Bases, CommitPublished, KnownLog, LogOpened, abort_log_in, begin_log_in, block_log_in,
-    commits_in, find_in, head_in, keep_in, own_commit_in, publish_commit_in,
+    CommitPublished, KnownLog, LogOpened, abort_log_in, begin_log_in, block_log_in, find_in,
+    head_in, keep_in, own_commit_in, publish_commit_in,
 };
+use commit_check::Offer;
 use log_actions::Commit;
 use share_book::{LogState, Replay, SharedCommit, SharedSnapshot};
 use std::alloc::{AllocError, Global};
@@ -78,28 +80,25 @@ impl Hub {
         unreachable!()
     }
 
-    // The commits of a table's log on which the caller has begun, and states of it that are kept, by the version that was read. The
-    // error is want of memory.
-    pub(crate) fn log_commits<R: Wait>(
+    // What an offer is judged by, of a table's log on which the caller has begun. The error is want of memory.
+    pub(crate) fn offer_log<R: Wait>(
         &self,
         rt: &R,
         alloc: Global,
         pass: &mut HubPass,
         log: u32,
-        read: u64,
-    ) -> Result<(Vec<Arc<Commit>>, Bases), AllocError>
+        offer: &Offer,
+    ) -> Result<OfferLog, AllocError>
         requires cell { (pass.old.cell ≡ self.now) × (pass.old.holds ≡ false) }
         requires there { IsLog log pass.old.seen }
         requires begun { open_on log pass.old.seen ≡ Some pass.old.number }
         ensures same { IsIdle pass.old pass.new }
         ensures goes { GoesOn pass.old pass.new log [] }
-        ensures commits { IfOk result (λ v. There (table_on log pass.old.seen) (λ t. t.commits ≡ map arc_value v.0.items)) }
-        ensures latest { IfOk result (λ v. There (table_on log pass.old.seen) (λ t. IsBase t.commits v.1.latest)) }
-        ensures read { IfOk result (λ v. There (table_on log pass.old.seen) (λ t. IsBase t.commits v.1.read)) }
+        ensures offered { IfOk result (λ o. There (table_on log pass.old.seen) (λ t. IsOfferLog offer.now.read t.commits o)) }
     {
         let turn = self.cell.take(rt, pass);
         turn.value.len();
-        let found = commits_in(&turn.value, alloc, log, read);
+        let found = offer_log_in(&turn.value, alloc, log, offer);
         self.cell.give(pass, turn);
         found
     }

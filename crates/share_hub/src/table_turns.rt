@@ -1,8 +1,7 @@
 // What is done of a table's log within one turn.
-ghost use Rattle.std.specs.Prelude.{◌≡◌, ◌++◌, ◌∷◌, [], IfOk, IfSome, None, Some, length, map, slice_index, ◌-◌, ◌≤◌, ◌<◌, true};
-ghost use Rattle.std.specs.Arc.{arc_value};
+ghost use Rattle.std.specs.Prelude.{◌≡◌, ◌++◌, ◌∷◌, [], IfOk, IfSome, None, Some, length, slice_index, ◌-◌, ◌≤◌, ◌<◌, true};
 ghost use Rattle.log_actions.specs.CommitTexts.{commit_text};
-ghost use Rattle.share_book.specs.Bases.{CanReplay, IsBase, IsStateIn, MakesHead};
+ghost use Rattle.share_book.specs.Bases.{CanReplay, IsStateIn, MakesHead};
 ghost use Rattle.share_book.specs.Books.{OthersRest, OwnIsLawful, rests};
 ghost use Rattle.share_book.specs.History.{entry, open_on, pending, starts, table_on};
 ghost use Rattle.share_book.specs.Legal.{TakesCommit, There};
@@ -46,34 +45,6 @@ pub fn find_in(book: &Book, location: &str) -> Option<KnownLog>
         log,
         state: book.state(log),
     })
-}
-
-// States of a table's log that are kept.
-#[derive(Drop)]
-pub struct Bases {
-    // The latest.
-    pub latest: Option<SharedSnapshot>,
-    // The latest of a version up to the one that was read.
-    pub read: Option<SharedSnapshot>,
-}
-
-// The commits of a table's log, and states of it that are kept, by the version that was read.
-pub fn commits_in(
-    book: &Book,
-    alloc: Global,
-    log: u32,
-    read: u64,
-) -> Result<(Vec<Arc<Commit>>, Bases), AllocError>
-    requires { IsLog log book.now.past.history }
-    ensures commits { IfOk result (λ v. There (table_on log book.now.past.history) (λ t. t.commits ≡ map arc_value v.0.items)) }
-    ensures latest { IfOk result (λ v. There (table_on log book.now.past.history) (λ t. IsBase t.commits v.1.latest)) }
-    ensures read { IfOk result (λ v. There (table_on log book.now.past.history) (λ t. IsBase t.commits v.1.read)) }
-{
-    book.len();
-    let commits = book.commits(alloc, log)?;
-    let latest = book.base(log, u64::MAX)?;
-    let read = book.base(log, read)?;
-    Ok((commits, Bases { latest, read }))
 }
 
 // What makes the state after all commits of a table's log, none where it has none.

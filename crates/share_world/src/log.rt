@@ -14,28 +14,10 @@ ghost use Rattle.share_world.specs.declared.event.Event.TheVariants as event_is;
 use crate::kept::MOST_BYTES;
 use edge_core::Name;
 use log_actions::{Commit, text_len};
-use log_replay::{NoState, refusal_after};
-use share_book::{Book, Replay, SharedCommit, SharedSnapshot};
+use log_replay::refusal_after;
+use share_book::{Book, SharedCommit, SharedSnapshot};
 use std::alloc::{AllocError, Global};
 use std::sync::Arc;
-use step_count::Steps;
-
-// The work of the replays, which nobody reads.
-struct Work;
-
-// The state that a replay makes.
-fn made(alloc: Global, replay: &Replay) -> Result<SharedSnapshot, AllocError>
-    requires fits { CanReplay replay.now }
-    requires of { (commits : List (List Action)) × IsSupported commits × (0 < length commits) × Makes commits replay.now }
-    ensures { (commits : List (List Action)) → IsSupported commits → Makes commits replay.now → IfOk result (λ s. state_of commits ≡ Ok s) }
-{
-    let mut steps: Steps<Work> = Steps::new();
-    match replay.state(alloc, &mut steps) {
-        Ok(state) => Ok(state),
-        Err(NoState::NoMemory) => Err(AllocError),
-        Err(NoState::Refusal(_)) => unreachable!(),
-    }
-}
 
 // The state after all commits of a log, none where it has none. The book keeps it for the next commit.
 fn head_of(alloc: Global, book: &mut Book, log: u32) -> Result<Option<SharedSnapshot>, AllocError>
@@ -48,7 +30,7 @@ fn head_of(alloc: Global, book: &mut Book, log: u32) -> Result<Option<SharedSnap
     let Some(replay) = book.head(alloc, log)? else {
         return Ok(None);
     };
-    let head = made(alloc, &replay)?;
+    let head = replay.made(alloc)?;
     book.keep_state(log, head.share()?)?;
     Ok(Some(head))
 }

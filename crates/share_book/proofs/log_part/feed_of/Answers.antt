@@ -1,4 +1,4 @@
-use Rattle.std.proofs.Common.{◌≡◌, ◌<◌, false, length, sym, subst, ap, ◌∙◌, ℕ}
+use Rattle.std.proofs.Common.{◌<◌, false, length, sym, subst, ◌∙◌, ℕ}
 use Rattle.std.specs.Prelude.{pos}
 use Rattle.log_replay.specs.declared.times.Mark.{Mark}
 use Rattle.share_book.proofs.Feeds.{feed_is}

@@ -1,4 +1,4 @@
-use Rattle.std.proofs.Common.{◌≡◌, List, map, ap, ◌∙◌}
+use Rattle.std.proofs.Common.{List, map, ap, ◌∙◌}
 use Rattle.share_catalog.specs.declared.listing.Bound.{Bound}
 use Rattle.share_book.specs.Looked.{tables_in}
 use Rattle.share_book.proofs.Listed.{share_tables, shares_more, tables_more}

@@ -1,4 +1,4 @@
-use Rattle.std.proofs.Common.{◌≡◌, List, map, ap, ◌∙◌, subst}
+use Rattle.std.proofs.Common.{◌≡◌, map, ◌∙◌, subst}
 use Rattle.std.specs.Result.{IfOk}
 use Rattle.share_catalog.specs.declared.listing.Granted.{Granted}
 use Rattle.share_book.specs.Looked.{names_by, tables_of_grants}

@@ -1,4 +1,4 @@
-use Rattle.std.proofs.Common.{◌≡◌, Some, ap, ◌∙◌}
+use Rattle.std.proofs.Common.{Some, ap, ◌∙◌}
 use Rattle.share_book.proofs.Listed.{holder_is, none_of, some_of}
 use Rattle.share_book.proofs.spots.recipient_of.Goals as goal
 

@@ -2,8 +2,6 @@ use Rattle.std.proofs.Common.{◌≡◌, ◌<◌, List, Some, None, length, ap, 
 use Rattle.std.specs.List.{position}
 use Rattle.share_book.specs.BookView.{BookView}
 use Rattle.share_book.specs.Books.{is_table_at}
-use Rattle.share_book.specs.History.{starts}
-use Rattle.share_book.specs.Legal.{is_at}
 use Rattle.share_book.specs.TableView.{TableView}
 use Rattle.share_book.specs.Views.{log_at}
 use Rattle.share_book.proofs.Logs.{none_seen, position_at, position_less, seen_at}

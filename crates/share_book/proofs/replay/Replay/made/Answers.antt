@@ -1,5 +1,5 @@
 use Rattle.share_book.proofs.States.{replays}
-use Rattle.share_hub.proofs.admission.made.Goals as goal
+use Rattle.share_book.proofs.replay.Replay.made.Goals as goal
 
 pub unreachable-requires : goal.unreachable-requires
 unreachable-requires c =
