@@ -2,11 +2,15 @@
 #![tactic(auto)]
 
 #[cfg(test)]
+mod faults;
+#[cfg(test)]
 mod outside;
 #[cfg(test)]
 mod pool;
 #[cfg(test)]
 mod rows;
+#[cfg(test)]
+mod sockets;
 #[cfg(test)]
 mod texts;
 #[cfg(test)]

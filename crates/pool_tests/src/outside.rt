@@ -1,4 +1,8 @@
 // Stores, clocks and doors in memory.
+ghost use Rattle.std.specs.Prelude.{◌≡◌, [], IfSome};
+ghost use Rattle.edge_core.specs.Calls.{calls_failed};
+ghost use Rattle.edge_core.specs.Memory.{sink_bytes, sink_calls, source_calls};
+
 use crate::texts::{Object, STORED};
 use edge_core::{
     Foreign, Limited, MemClock, MemLine, MemListener, MemSink, MemSource, MemStore, Name, Stored,
@@ -41,18 +45,63 @@ pub(crate) fn clock(alloc: Global) -> MemClock {
     MemClock::new(Vec::new(alloc))
 }
 
-// A line that comes with a request.
-fn line(alloc: Global, request: &str) -> Option<MemLine> {
+/// The calls of a line that fail.
+#[derive(Clone, Copy)]
+pub(crate) struct Fails<'a> {
+    pub reads: &'a [u64],
+    pub writes: &'a [u64],
+}
+
+/// None fails.
+pub(crate) const SOUND: Fails<'static> = Fails {
+    reads: &[],
+    writes: &[],
+};
+
+/// Bytes come and go in pieces of that size.
+pub(crate) const PIECE: usize = 7;
+
+// The sizes of pieces, more than any line has.
+fn sizes(alloc: Global) -> Option<Vec<usize>> {
+    vec![in alloc; PIECE; 100].ok()
+}
+
+fn source(alloc: Global, request: &str, fails: &[u64]) -> Option<MemSource>
+    ensures unfailed { IfSome result (λ s. calls_failed (source_calls s) ≡ 0) }
+{
     let bytes = Vec::from_slice(alloc, request.as_bytes()).ok()?;
+    let fails = Vec::from_slice(alloc, fails).ok()?;
+    let source = MemSource::new(alloc, bytes).with_sizes(sizes(alloc)?);
+    Some(source.with_fails(fails))
+}
+
+fn sink(alloc: Global, fails: &[u64]) -> Option<MemSink>
+    ensures unfailed { IfSome result (λ s. calls_failed (sink_calls s) ≡ 0) }
+    ensures empty { IfSome result (λ s. sink_bytes s ≡ []) }
+{
+    let fails = Vec::from_slice(alloc, fails).ok()?;
     let sink = MemSink::new(alloc, 10_000, 100).ok()?;
-    Some(MemLine::new(MemSource::new(alloc, bytes), sink))
+    Some(sink.with_sizes(sizes(alloc)?).with_fails(fails))
+}
+
+// A line that comes with a request.
+fn line(alloc: Global, request: &str, fails: Fails) -> Option<MemLine> {
+    let source = source(alloc, request, fails.reads)?;
+    Some(MemLine::new(source, sink(alloc, fails.writes)?))
+}
+
+/// A door of one line.
+pub(crate) fn door_of_one(alloc: Global, request: &str, fails: Fails) -> Option<MemListener> {
+    let mut lines = Vec::new(alloc);
+    lines.push(line(alloc, request, fails)?).ok()?;
+    MemListener::new(alloc, lines).ok()
 }
 
 /// A door of a line for each request, of which it gives so many; the calls of those numbers fail.
 pub(crate) fn door(alloc: Global, asked: &[&str], most: u64, fails: &[u64]) -> Option<Door> {
     let mut lines = Vec::new(alloc);
     for request in asked {
-        lines.push(line(alloc, request)?).ok()?;
+        lines.push(line(alloc, request, SOUND)?).ok()?;
     }
     let fails = Vec::from_slice(alloc, fails).ok()?;
     let listener = MemListener::new(alloc, lines).ok()?.with_fails(fails);

@@ -3,9 +3,9 @@ ghost use Rattle.std.specs.Prelude.{◌≡◌, All, false};
 ghost use Rattle.std.proofs.Props.{props};
 ghost use Rattle.share_pool.specs.Desks.{HasPass};
 
-use crate::outside::{Door, clock};
-use edge_core::{Gate, MemClock, MemStore};
-use share_config::config_of;
+use crate::outside::clock;
+use edge_core::{Gate, Listener, MemClock, MemStore};
+use share_config::{Config, config_of};
 use share_hub::{Hub, HubPass};
 use share_pool::{Desk, ServeEnd, serve_all};
 use share_serve::Server;
@@ -17,32 +17,38 @@ use step_count::Steps;
 /// The work of a replay.
 pub(crate) struct Work;
 
-// Keys of 32 bytes each, and the digests of the tokens `admin` and `provider`.
+// Keys of 32 bytes each, the digests of the tokens `admin` and `provider`, and the endpoint up to its port.
 const CONFIG: &str =
     "{\"tokenKey\":\"0101010101010101010101010101010101010101010101010101010101010101\",\
     \"linkKey\":\"0202020202020202020202020202020202020202020202020202020202020202\",\
     \"adminDigest\":\"8c6976e5b5410415bde908bd4dee15dfb167a9c873fc4bb8a81f6f2ab448a918\",\
     \"providerDigests\":[\"5c4c1964340aca5b65393bbe9d3249cdd71be26665b3320ad694f034f2743283\"],\
     \"linkTtlSeconds\":3600,\
-    \"endpoint\":\"http://127.0.0.1:8080/delta-sharing\"}";
+    \"endpoint\":\"http://127.0.0.1:";
+
+// The configuration of a server at that port.
+fn config(alloc: Global, port: u16) -> Option<Config> {
+    let text = format!(in alloc; "{CONFIG}{port}/delta-sharing\"}}").ok()?;
+    config_of(alloc, text.as_bytes()).ok()
+}
 
 /// What a worker works with.
-pub(crate) type Place = Desk<Door, MemStore, MemClock, Work>;
+pub(crate) type Place<N> = Desk<N, MemStore, MemClock, Work>;
 
 #[derive(Drop)]
-pub(crate) struct Pool {
+pub(crate) struct Pool<N> {
     hub: Hub,
     server: Server,
     passes: Vec<HubPass>,
-    desks: Vec<Place>,
+    desks: Vec<Place<N>>,
     ghost idle: { All (λ p. (p.cell ≡ hub) × (p.holds ≡ false)) passes.items },
     ghost ready: { All (λ d. HasPass hub d.pass) desks.items } by { Prim.hlevel props },
 }
 
-impl Pool {
-    /// A server of two callers over what the store has, and no worker.
-    pub(crate) fn open(alloc: Global, store: &mut MemStore) -> Option<Pool> {
-        let config = config_of(alloc, CONFIG.as_bytes()).ok()?;
+impl<N: Listener + Send + Drop> Pool<N> {
+    /// A server at that port, of two callers over what the store has, and no worker.
+    pub(crate) fn open(alloc: Global, store: &mut MemStore, port: u16) -> Option<Pool<N>> {
+        let config = config(alloc, port)?;
         let (hub, passes) = Hub::open(alloc, store, 2).ok()?;
         Some(Pool {
             hub,
@@ -53,7 +59,7 @@ impl Pool {
     }
 
     /// Adds a worker at that door, over that store; at most two.
-    pub(crate) fn add(&mut self, alloc: Global, door: Door, store: MemStore) -> Option<()> {
+    pub(crate) fn add(&mut self, alloc: Global, door: N, store: MemStore) -> Option<()> {
         let pass = self.passes.pop()?;
         let desk = Desk {
             pass: Some(pass),
@@ -72,7 +78,7 @@ impl Pool {
         rt: &R,
         alloc: Global,
         gate: &G,
-    ) -> Option<(ServeEnd, Vec<Place>)> {
+    ) -> Option<(ServeEnd, Vec<Place<N>>)> {
         let Pool {
             hub,
             server,

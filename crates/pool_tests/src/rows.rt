@@ -1,5 +1,5 @@
 // Workers with what they are asked and what is written.
-use crate::outside::{are_written, door, store};
+use crate::outside::{Door, are_written, door, store};
 use crate::pool::{Place, Pool};
 use crate::texts::Object;
 use edge_core::Gate;
@@ -30,8 +30,8 @@ pub(crate) struct Row {
 }
 
 // The pool of a row's workers.
-fn filled(alloc: Global, row: &Row) -> Option<Pool> {
-    let mut pool = Pool::open(alloc, &mut store(alloc, &[], 0, &[])?)?;
+fn filled(alloc: Global, row: &Row) -> Option<Pool<Door>> {
+    let mut pool = Pool::open(alloc, &mut store(alloc, &[], 0, &[])?, 8080)?;
     for worker in row.workers {
         let store = store(alloc, row.later, row.from, row.fails)?;
         let door = door(alloc, worker.asked, worker.most, worker.fails)?;
@@ -41,7 +41,7 @@ fn filled(alloc: Global, row: &Row) -> Option<Pool> {
 }
 
 // Whether each worker's lines were closed with those texts.
-fn are_served(desks: Vec<Place>, workers: &[Worker]) -> bool {
+fn are_served(desks: Vec<Place<Door>>, workers: &[Worker]) -> bool {
     if desks.len() != workers.len() {
         return false;
     }

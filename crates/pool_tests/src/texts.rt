@@ -49,6 +49,9 @@ pub(crate) const VERSION_1: &str = "HTTP/1.1 200 OK\r\n\
 /// An object's name, and what it holds.
 pub(crate) type Object = (&'static str, &'static str);
 
+/// What the table's file holds.
+pub(crate) const FILE: &str = "0123456789";
+
 /// The share `s1` with the table `t1` at version 0, and the recipient `r1` with the token `abc`, to whom the share is granted.
 pub(crate) const STORED: &[Object] = &[
     (
@@ -71,8 +74,9 @@ pub(crate) const STORED: &[Object] = &[
         "tables/t1/_delta_log/00000000000000000000.json",
         "{\"protocol\":{\"minReaderVersion\":1,\"minWriterVersion\":2}}\n\
             {\"metaData\":{\"configuration\":{},\"id\":\"m1\",\"partitionColumns\":[],\"schemaString\":\"{}\"}}\n\
-            {\"add\":{\"path\":\"a\",\"size\":1}}\n",
+            {\"add\":{\"path\":\"a\",\"size\":10}}\n",
     ),
+    ("tables/t1/a", FILE),
 ];
 
 /// Record 4, by another server: the share is no longer granted.

@@ -5,7 +5,7 @@ use Rattle.pool_tests.proofs.Pushed.{all_pushed}
 use Rattle.pool_tests.proofs.pool.Pool.add.Goals as goal
 
 pub invariant_of-self-2 : goal.invariant_of-self-2
-invariant_of-self-2 c =
+invariant_of-self-2 g c =
     let s = c.args.self.now in
     let popped = All-pop (λ p. (p.cell ≡ s.hub) × (p.holds ≡ false)) s.passes.items c.pop.new.self.items (Some c.in_ok-pass.pass) c.in_ok-pass.ensures.items s.idle in record {
       idle = popped.0;
