@@ -4,7 +4,7 @@ ghost use Rattle.edge_core.specs.Calls.{calls_failed};
 ghost use Rattle.edge_core.specs.Memory.{sink_bytes, sink_calls, source_calls};
 
 use edge_core::{MemClosed, MemLine, MemLink, MemPeer, MemSink, MemSource};
-use share_client::Client;
+use share_client::{Client, ClientFault, Refusal};
 use share_config::profile_of;
 use std::alloc::{AllocError, Global};
 
@@ -75,12 +75,51 @@ pub(crate) fn link_of(alloc: Global, peers: &[Peer]) -> Result<MemLink, AllocErr
     MemLink::new(alloc, lines)
 }
 
-// The client of that profile.
-pub(crate) fn client(alloc: Global) -> Result<Client, AllocError> {
+// The client of that profile. Like the calls of the tests, it has no clause, so that what is known of an answer doesn't burden
+// the tests' proofs.
+pub(crate) fn client(alloc: Global) -> Result<Client, ClientFault> {
     match profile_of(alloc, PROFILE) {
         Ok(profile) => Ok(Client::new(profile)),
-        Err(_) => Err(AllocError),
+        Err(_) => Err(ClientFault::NoMemory),
     }
+}
+
+// What a call ended in: a word, and the numbers that come with it.
+pub(crate) type Told = (&'static str, u64, u64);
+
+fn refusal_word(refusal: Option<Refusal>) -> &'static str {
+    match refusal {
+        Some(refusal) => refusal.word(),
+        None => "refused",
+    }
+}
+
+pub(crate) fn told_by(fault: &ClientFault) -> Told {
+    match fault {
+        ClientFault::Refused { status, refusal } => (refusal_word(*refusal), *status as u64, 0),
+        ClientFault::BadReply { at } => ("bad reply", *at, 0),
+        ClientFault::SizeChanged { first, other } => ("size changed", *first, *other),
+        ClientFault::BadUrl => ("bad url", 0, 0),
+        ClientFault::PeerFault => ("peer fault", 0, 0),
+        ClientFault::ReadFault => ("read fault", 0, 0),
+        ClientFault::WriteFault => ("write fault", 0, 0),
+        _ => ("other", 0, 0),
+    }
+}
+
+pub(crate) fn told_size(ended: &Result<u64, ClientFault>) -> Told {
+    match ended {
+        Ok(length) => ("file", *length, 0),
+        Err(fault) => told_by(fault),
+    }
+}
+
+pub(crate) fn is_told(told: Told, word: &str, first: u64, second: u64) -> bool {
+    told.0 == word && told.1 == first && told.2 == second
+}
+
+pub(crate) fn sink_of(alloc: Global, room: usize) -> Result<MemSink, AllocError> {
+    MemSink::new(alloc, room, 8)
 }
 
 // Whether that was written to the closed lines.

@@ -1,6 +1,7 @@
 // Lists of tables.
-use crate::calls::{Peer, are_written, client, link_of, peer_of};
-use share_client::{ClientFault, Refusal, SharedTable};
+use crate::calls::{Peer, Told, are_written, client, is_told, link_of, peer_of, told_by};
+use edge_core::MemLink;
+use share_client::{ClientFault, SharedTable};
 use std::alloc::{AllocError, Global};
 
 const FIRST_SHARES: &str =
@@ -17,7 +18,7 @@ const TABLES: &str =
 const UNKNOWN: &str =
     "HTTP/1.1 404 Not Found\r\n\r\n{\"errorCode\":\"NOT_FOUND\",\"message\":\"not found\"}";
 
-const REQUESTS: [&str; 4] = [
+static REQUESTS: [&str; 4] = [
     "GET /delta-sharing/shares HTTP/1.1\r\nHost: peer:8080\r\nAuthorization: Bearer abc\r\nConnection: close\r\n\r\n",
     "GET /delta-sharing/shares?pageToken=x%2By HTTP/1.1\r\nHost: peer:8080\r\nAuthorization: Bearer abc\r\nConnection: close\r\n\r\n",
     "GET /delta-sharing/shares/a%20b/all-tables HTTP/1.1\r\nHost: peer:8080\r\nAuthorization: Bearer abc\r\nConnection: close\r\n\r\n",
@@ -37,6 +38,10 @@ fn are_tables(tables: &[SharedTable]) -> bool {
     }
 }
 
+fn list(alloc: Global, link: &mut MemLink) -> Result<Vec<SharedTable>, ClientFault> {
+    client(alloc)?.list_tables(alloc, link)
+}
+
 #[test]
 fn tables_come_share_by_share(rt: HostRuntime) -> Result<(), AllocError> {
     let alloc = rt.alloc();
@@ -46,106 +51,98 @@ fn tables_come_share_by_share(rt: HostRuntime) -> Result<(), AllocError> {
         peer_of(NO_TABLES),
         peer_of(TABLES),
     ];
-    let client = client(alloc)?;
     let mut link = link_of(alloc, &peers)?;
-    match client.list_tables(alloc, &mut link) {
-        Ok(tables) => assert!(rt; are_tables(&tables)),
+    match &list(alloc, &mut link) {
+        Ok(tables) => assert!(rt; are_tables(tables)),
         Err(_) => assert!(rt; false),
     }
     assert!(rt; are_written(link.closed(), &REQUESTS));
     Ok(())
 }
 
-// What a call ended in.
-#[derive(Clone, Copy, PartialEq, Eq)]
-enum Told {
-    Tables,
-    Refused(u16, Option<Refusal>),
-    Bad(u64),
-    Peer,
-    Read,
-    Write,
-    Other,
-}
-
-fn end_of(alloc: Global, peers: &[Peer]) -> Result<Told, AllocError> {
-    let client = client(alloc)?;
-    let mut link = link_of(alloc, peers)?;
-    Ok(match client.list_tables(alloc, &mut link) {
-        Ok(_) => Told::Tables,
-        Err(ClientFault::Refused { status, refusal }) => Told::Refused(status, refusal),
-        Err(ClientFault::BadReply { at }) => Told::Bad(at),
-        Err(ClientFault::PeerFault) => Told::Peer,
-        Err(ClientFault::ReadFault) => Told::Read,
-        Err(ClientFault::WriteFault) => Told::Write,
-        Err(_) => Told::Other,
+// What a list ends in over this line.
+fn end_of(alloc: Global, peer: Peer) -> Result<Told, AllocError> {
+    let mut link = link_of(alloc, &[peer])?;
+    Ok(match &list(alloc, &mut link) {
+        Ok(_) => ("tables", 0, 0),
+        Err(fault) => told_by(fault),
     })
 }
 
+static ENDS: [(&str, &str, u64); 12] = [
+    ("HTTP/1.1 200 OK\r\n\r\n{\"items\":null}", "tables", 0),
+    ("HTTP/1.1 200 OK\r\n\r\n[]", "bad reply", 0),
+    ("HTTP/1.1 200 OK\r\n\r\n{\"items\":[{}]}", "bad reply", 0),
+    ("HTTP/1.1 200 OK\r\n\r\n{\"items\":{}}", "bad reply", 0),
+    (
+        "HTTP/1.1 200 OK\r\n\r\n{\"nextPageToken\":1}",
+        "bad reply",
+        0,
+    ),
+    (
+        "HTTP/1.1 200 OK\r\n\r\n{\"items\":[{\"name\":\"s\"}]}",
+        "peer fault",
+        0,
+    ),
+    (
+        "HTTP/1.1 200 OK\r\nContent-Length: 3\r\n\r\n{}",
+        "bad reply",
+        0,
+    ),
+    (
+        "HTTP/1.1 200 OK\r\nContent-Length: x\r\n\r\n{}",
+        "bad reply",
+        0,
+    ),
+    ("", "bad reply", 0),
+    (UNKNOWN, "NOT_FOUND", 404),
+    ("HTTP/1.1 204 No Content\r\n\r\n", "refused", 204),
+    ("HTTP/1.1 500 Oops\r\n\r\n{}", "refused", 500),
+];
+
 #[test]
 fn what_is_no_list_is_told(rt: HostRuntime) -> Result<(), AllocError> {
-    let alloc = rt.alloc();
-    for (response, wanted) in [
-        ("HTTP/1.1 200 OK\r\n\r\n{\"items\":null}", Told::Tables),
-        ("HTTP/1.1 200 OK\r\n\r\n[]", Told::Bad(0)),
-        ("HTTP/1.1 200 OK\r\n\r\n{\"items\":[{}]}", Told::Bad(0)),
-        ("HTTP/1.1 200 OK\r\n\r\n{\"items\":{}}", Told::Bad(0)),
-        ("HTTP/1.1 200 OK\r\n\r\n{\"nextPageToken\":1}", Told::Bad(0)),
-        (
-            "HTTP/1.1 200 OK\r\n\r\n{\"items\":[{\"name\":\"s\"}]}",
-            Told::Peer,
-        ),
-        (
-            "HTTP/1.1 200 OK\r\nContent-Length: 3\r\n\r\n{}",
-            Told::Bad(0),
-        ),
-        (
-            "HTTP/1.1 200 OK\r\nContent-Length: x\r\n\r\n{}",
-            Told::Bad(0),
-        ),
-        ("", Told::Bad(0)),
-        (UNKNOWN, Told::Refused(404, Some(Refusal::NotFound))),
-        ("HTTP/1.1 204 No Content\r\n\r\n", Told::Refused(204, None)),
-        ("HTTP/1.1 500 Oops\r\n\r\n{}", Told::Refused(500, None)),
-    ] {
-        assert!(rt; end_of(alloc, &[peer_of(response)])? == wanted);
+    for (response, word, number) in &ENDS {
+        let told = end_of(rt.alloc(), peer_of(response))?;
+        assert!(rt; is_told(told, word, *number, 0));
     }
     Ok(())
+}
+
+fn ends_in(alloc: Global, peer: Peer, word: &str) -> Result<bool, AllocError> {
+    Ok(is_told(end_of(alloc, peer)?, word, 0, 0))
 }
 
 #[test]
 fn faults_are_told_apart(rt: HostRuntime) -> Result<(), AllocError> {
     let alloc = rt.alloc();
     let good = peer_of(NO_TABLES);
-    for (line, wanted) in [
-        (good, Told::Tables),
-        (Peer { port: 80, ..good }, Told::Peer),
-        (
-            Peer {
-                host: "Peer",
-                ..good
-            },
-            Told::Peer,
-        ),
-    ] {
-        assert!(rt; end_of(alloc, &[line])? == wanted);
-    }
+    let other_port = Peer { port: 80, ..good };
+    let other_host = Peer {
+        host: "Peer",
+        ..good
+    };
+    assert!(rt; ends_in(alloc, good, "tables")?);
+    assert!(rt; ends_in(alloc, other_port, "peer fault")?);
+    assert!(rt; ends_in(alloc, other_host, "peer fault")?);
     Ok(())
 }
+
+// What a list ends in whose read of that number fails, and what one whose write fails.
+static FAULTS: [(u64, &str, &str); 5] = [
+    (0, "read fault", "write fault"),
+    (1, "read fault", "write fault"),
+    (2, "read fault", "write fault"),
+    (3, "read fault", "tables"),
+    (4, "tables", "tables"),
+];
 
 // The response is read in four pieces, and the request is written in three.
 #[test]
 fn each_read_and_write_that_fails_is_told(rt: HostRuntime) -> Result<(), AllocError> {
-    let alloc = rt.alloc();
     let good = peer_of(NO_TABLES);
-    for (number, read, written) in [
-        (0, Told::Read, Told::Write),
-        (1, Told::Read, Told::Write),
-        (2, Told::Read, Told::Write),
-        (3, Told::Read, Told::Tables),
-        (4, Told::Tables, Told::Tables),
-    ] {
-        let fails = [number];
+    for (number, read, written) in &FAULTS {
+        let fails = [*number];
         let reads = Peer {
             read_fails: &fails,
             ..good
@@ -154,8 +151,8 @@ fn each_read_and_write_that_fails_is_told(rt: HostRuntime) -> Result<(), AllocEr
             write_fails: &fails,
             ..good
         };
-        assert!(rt; end_of(alloc, &[reads])? == read);
-        assert!(rt; end_of(alloc, &[writes])? == written);
+        assert!(rt; ends_in(rt.alloc(), reads, read)?);
+        assert!(rt; ends_in(rt.alloc(), writes, written)?);
     }
     Ok(())
 }

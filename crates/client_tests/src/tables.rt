@@ -1,7 +1,8 @@
 // Tables' files and changes.
-use crate::calls::{Peer, are_written, client, link_of, peer_of};
+use crate::calls::{Told, are_written, client, is_told, link_of, peer_of, told_by};
+use edge_core::MemLink;
 use json_tree::Text;
-use share_client::{ClientFault, FileLine, Line, QueryBody, Refusal, SharedTable, TableRead};
+use share_client::{ClientFault, FileLine, Line, QueryBody, SharedTable, TableRead};
 use std::alloc::{AllocError, Global};
 
 // Lines that end with CR LF, members and fields beside those of the protocol, and chunks that are cut inside lines.
@@ -14,7 +15,7 @@ const LAST_PAGE: &str =
 
 const BODY: &str = "{\"limitHint\":3, \"predicateHints\":[]}";
 
-const REQUESTS: [&str; 2] = [
+static REQUESTS: [&str; 2] = [
     "POST /delta-sharing/shares/a%20b/schemas/sc/tables/t%2F1/query HTTP/1.1\r\nHost: peer:8080\r\nAuthorization: Bearer abc\r\nContent-Type: application/json\r\nContent-Length: 36\r\nConnection: close\r\n\r\n{\"limitHint\":3, \"predicateHints\":[]}",
     "POST /delta-sharing/shares/a%20b/schemas/sc/tables/t%2F1/query HTTP/1.1\r\nHost: peer:8080\r\nAuthorization: Bearer abc\r\nContent-Type: application/json\r\nContent-Length: 53\r\nConnection: close\r\n\r\n{\"limitHint\":3,\"pageToken\":\"t/1\",\"predicateHints\":[]}",
 ];
@@ -38,6 +39,17 @@ fn body_of(alloc: Global) -> Result<QueryBody, AllocError> {
     }
 }
 
+fn read(alloc: Global, link: &mut MemLink) -> Result<TableRead, ClientFault> {
+    let table = table_of(alloc)?;
+    let body = body_of(alloc)?;
+    client(alloc)?.read_table(alloc, link, &table, &body)
+}
+
+fn changes(alloc: Global, link: &mut MemLink, last: u64) -> Result<Vec<Line>, ClientFault> {
+    let table = table_of(alloc)?;
+    client(alloc)?.read_changes(alloc, link, &table, 0, last)
+}
+
 fn is_file(file: &FileLine, url: &str, id: &str) -> bool {
     file.url.as_str() == url && file.id.as_str() == id
 }
@@ -58,43 +70,46 @@ fn is_metadata(line: &Line) -> bool {
     }
 }
 
-fn is_whole(read: &TableRead) -> bool {
-    read.version == 7 && read.pages == 2 && is_metadata(&read.meta) && are_files(&read.files)
+fn is_whole(answer: &Result<TableRead, ClientFault>) -> bool {
+    match answer {
+        Ok(read) => {
+            read.version == 7
+                && read.pages == 2
+                && is_metadata(&read.meta)
+                && are_files(&read.files)
+        }
+        Err(_) => false,
+    }
 }
 
 #[test]
 fn pages_of_a_table_are_joined(rt: HostRuntime) -> Result<(), AllocError> {
     let alloc = rt.alloc();
-    let client = client(alloc)?;
     let mut link = link_of(alloc, &[peer_of(FIRST_PAGE), peer_of(LAST_PAGE)])?;
-    let table = table_of(alloc)?;
-    let body = body_of(alloc)?;
-    match client.read_table(alloc, &mut link, &table, &body) {
-        Ok(read) => assert!(rt; is_whole(&read)),
-        Err(_) => assert!(rt; false),
-    }
+    assert!(rt; is_whole(&read(alloc, &mut link)));
     assert!(rt; are_written(link.closed(), &REQUESTS));
     Ok(())
 }
 
+static QUERIES: [(&str, bool); 9] = [
+    ("{}", true),
+    (
+        " {\"a\":[18446744073709551615,-9223372036854775808]} ",
+        true,
+    ),
+    ("", false),
+    ("[]", false),
+    ("{", false),
+    ("{\"a\":1.5}", false),
+    ("{\"a\":1e3}", false),
+    ("{\"a\":{\"b\":[0,-0]}}", false),
+    ("{\"a\":18446744073709551616}", false),
+];
+
 #[test]
 fn a_query_is_an_object_without_floats(rt: HostRuntime) -> Result<(), AllocError> {
-    let alloc = rt.alloc();
-    for (text, wanted) in [
-        ("{}", true),
-        (
-            " {\"a\":[18446744073709551615,-9223372036854775808]} ",
-            true,
-        ),
-        ("", false),
-        ("[]", false),
-        ("{", false),
-        ("{\"a\":1.5}", false),
-        ("{\"a\":1e3}", false),
-        ("{\"a\":{\"b\":[0,-0]}}", false),
-        ("{\"a\":18446744073709551616}", false),
-    ] {
-        assert!(rt; QueryBody::of(alloc, text)?.is_some() == wanted);
+    for (text, wanted) in &QUERIES {
+        assert!(rt; QueryBody::of(rt.alloc(), text)?.is_some() == *wanted);
     }
     Ok(())
 }
@@ -102,14 +117,6 @@ fn a_query_is_an_object_without_floats(rt: HostRuntime) -> Result<(), AllocError
 // A first page with a token, whose second page differs from it.
 const PAGE_WITH_TOKEN: &str =
     "HTTP/1.1 200 OK\r\nDelta-Table-Version: 7\r\n\r\n{\"protocol\":{\"minReaderVersion\":1}}\n{\"metaData\":{\"partitionColumns\":[\"d\"],\"schemaString\":\"{}\",\"id\":\"m\"}}\n{\"endStreamAction\":{\"nextPageToken\":\"x+y\"}}\n";
-
-fn read(alloc: Global, peers: &[Peer]) -> Result<Result<TableRead, ClientFault>, AllocError> {
-    let client = client(alloc)?;
-    let mut link = link_of(alloc, peers)?;
-    let table = table_of(alloc)?;
-    let body = body_of(alloc)?;
-    Ok(client.read_table(alloc, &mut link, &table, &body))
-}
 
 fn is_changed(answer: &Result<TableRead, ClientFault>, one: &str, another: &str) -> bool {
     match answer {
@@ -120,126 +127,138 @@ fn is_changed(answer: &Result<TableRead, ClientFault>, one: &str, another: &str)
     }
 }
 
+// Second pages, and what they and the first differ in.
+static CHANGED: [(&str, (&str, &str)); 2] = [
+    (
+        "HTTP/1.1 200 OK\r\nDelta-Table-Version: 8\r\n\r\n{\"protocol\":{\"minReaderVersion\":1}}\n{\"metaData\":{\"partitionColumns\":[\"d\"],\"schemaString\":\"{}\",\"id\":\"n\"}}\n",
+        ("7", "8"),
+    ),
+    (
+        "HTTP/1.1 200 OK\r\nDelta-Table-Version: 7\r\n\r\n{\"protocol\":{\"minReaderVersion\":1}}\n{\"metaData\":{\"partitionColumns\":[\"d\"],\"schemaString\":\"{}\",\"id\":\"n\"}}\n",
+        (
+            "{\"metaData\":{\"format\":{\"provider\":\"parquet\"},\"id\":\"m\",\"partitionColumns\":[\"d\"],\"schemaString\":\"{}\"}}",
+            "{\"metaData\":{\"format\":{\"provider\":\"parquet\"},\"id\":\"n\",\"partitionColumns\":[\"d\"],\"schemaString\":\"{}\"}}",
+        ),
+    ),
+];
+
 #[test]
 fn a_page_that_differs_is_told(rt: HostRuntime) -> Result<(), AllocError> {
     let alloc = rt.alloc();
-    for (second, wanted) in [
-        (
-            "HTTP/1.1 200 OK\r\nDelta-Table-Version: 8\r\n\r\n{\"protocol\":{\"minReaderVersion\":1}}\n{\"metaData\":{\"partitionColumns\":[\"d\"],\"schemaString\":\"{}\",\"id\":\"n\"}}\n",
-            ("7", "8"),
-        ),
-        (
-            "HTTP/1.1 200 OK\r\nDelta-Table-Version: 7\r\n\r\n{\"protocol\":{\"minReaderVersion\":1}}\n{\"metaData\":{\"partitionColumns\":[\"d\"],\"schemaString\":\"{}\",\"id\":\"n\"}}\n",
-            (
-                "{\"metaData\":{\"format\":{\"provider\":\"parquet\"},\"id\":\"m\",\"partitionColumns\":[\"d\"],\"schemaString\":\"{}\"}}",
-                "{\"metaData\":{\"format\":{\"provider\":\"parquet\"},\"id\":\"n\",\"partitionColumns\":[\"d\"],\"schemaString\":\"{}\"}}",
-            ),
-        ),
-    ] {
-        let answer = read(alloc, &[peer_of(PAGE_WITH_TOKEN), peer_of(second)])?;
-        assert!(rt; is_changed(&answer, wanted.0, wanted.1));
+    for (second, wanted) in &CHANGED {
+        let mut link = link_of(alloc, &[peer_of(PAGE_WITH_TOKEN), peer_of(second)])?;
+        assert!(rt; is_changed(&read(alloc, &mut link), wanted.0, wanted.1));
     }
     Ok(())
 }
 
-// What a call ended in: the pages and their files, or a fault.
-#[derive(Clone, Copy, PartialEq, Eq)]
-enum Told {
-    Pages(u64, usize),
-    Refused(u16, Option<Refusal>),
-    Bad(u64),
-    Peer,
-    Other,
-}
-
-fn told_of(answer: &Result<TableRead, ClientFault>) -> Told {
+// What the read of a table ends in: the pages and their files, or a fault.
+fn told_read(answer: &Result<TableRead, ClientFault>) -> Told {
     match answer {
-        Ok(read) => Told::Pages(read.pages, read.files.len()),
-        Err(ClientFault::Refused { status, refusal }) => Told::Refused(*status, *refusal),
-        Err(ClientFault::BadReply { at }) => Told::Bad(*at),
-        Err(ClientFault::PeerFault) => Told::Peer,
-        Err(_) => Told::Other,
+        Ok(read) => ("pages", read.pages, read.files.len() as u64),
+        Err(fault) => told_by(fault),
     }
 }
 
+// The same over one line with this response.
+fn end_of(alloc: Global, response: &str) -> Result<Told, AllocError> {
+    let mut link = link_of(alloc, &[peer_of(response)])?;
+    Ok(told_read(&read(alloc, &mut link)))
+}
+
+// The lines of pages, each by a letter: in capitals one that no page has.
+fn line_of(letter: char) -> &'static str {
+    match letter {
+        'p' => "{\"protocol\":{\"minReaderVersion\":1}}\n",
+        'P' => "{\"protocol\":{\"minReaderVersion\":2}}\n",
+        'm' =>
+            "{\"metaData\":{\"partitionColumns\":[\"d\"],\"schemaString\":\"{}\",\"id\":\"m\"}}\n",
+        'f' =>
+            "{\"file\":{\"url\":\"http://peer/b\",\"id\":\"b\",\"partitionValues\":{\"d\":null},\"size\":0}}",
+        'F' => "{\"file\":{\"id\":\"b\",\"partitionValues\":{},\"size\":0}}",
+        'A' =>
+            "{\"add\":{\"url\":\"u\",\"id\":\"a\",\"partitionValues\":{},\"size\":1,\"timestamp\":0,\"version\":0}}",
+        'U' => "{\"unknown\":{}}\n",
+        'n' => "{\"endStreamAction\":{\"nextPageToken\":\"x+y\"}}\n",
+        'e' => "\n{\"endStreamAction\":{\"nextPageToken\":\"\"}}",
+        _ => "",
+    }
+}
+
+// The page with these fields behind the status line, and these lines.
+fn page(alloc: Global, fields: &str, letters: &str) -> Result<String, AllocError> {
+    let mut text = String::from_str(alloc, "HTTP/1.1 200 OK\r\n")?;
+    text.push_str(fields)?;
+    text.push_str("\r\n")?;
+    for letter in letters.chars() {
+        text.push_str(line_of(letter))?;
+    }
+    Ok(text)
+}
+
+// Fields and lines of a page, and what its read ends in.
+static ENDS: [(&str, &str, &str, u64, u64); 16] = [
+    ("Delta-Table-Version: 7\r\n", "pm", "pages", 1, 0),
+    ("Delta-Table-Version: 7\r\n", "pmfe", "pages", 1, 1),
+    ("Delta-Table-Version: 7\r\n", "pmn", "peer fault", 0, 0),
+    ("Delta-Table-Version: 7\r\n", "", "bad reply", 0, 0),
+    ("Delta-Table-Version: 7\r\n", "pf", "bad reply", 0, 0),
+    ("Delta-Table-Version: 7\r\n", "mp", "bad reply", 0, 0),
+    ("Delta-Table-Version: 7\r\n", "pmnf", "bad reply", 0, 0),
+    ("Delta-Table-Version: 7\r\n", "pmA", "bad reply", 0, 0),
+    ("Delta-Table-Version: 7\r\n", "pmUf", "bad reply", 105, 0),
+    ("Delta-Table-Version: 7\r\n", "Pm", "bad reply", 0, 0),
+    ("Delta-Table-Version: 7\r\n", "pmF", "bad reply", 105, 0),
+    ("", "pm", "bad reply", 0, 0),
+    ("Delta-Table-Version: -1\r\n", "pm", "bad reply", 0, 0),
+    (
+        "Delta-Table-Version: 9223372036854775808\r\n",
+        "pm",
+        "bad reply",
+        0,
+        0,
+    ),
+    (
+        "Delta-Table-Version: 7\r\nContent-Length: 268435457\r\n",
+        "p",
+        "bad reply",
+        0,
+        0,
+    ),
+    (
+        "Delta-Table-Version: 7\r\nContent-Length: 100\r\n",
+        "p",
+        "bad reply",
+        0,
+        0,
+    ),
+];
+
 #[test]
 fn what_is_no_page_is_told(rt: HostRuntime) -> Result<(), AllocError> {
-    let alloc = rt.alloc();
-    for (response, wanted) in [
-        (
-            "HTTP/1.1 200 OK\r\nDelta-Table-Version: 7\r\n\r\n{\"protocol\":{\"minReaderVersion\":1}}\n{\"metaData\":{\"partitionColumns\":[\"d\"],\"schemaString\":\"{}\",\"id\":\"m\"}}\n",
-            Told::Pages(1, 0),
-        ),
-        (
-            "HTTP/1.1 200 OK\r\nDelta-Table-Version: 7\r\n\r\n{\"protocol\":{\"minReaderVersion\":1}}\n{\"metaData\":{\"partitionColumns\":[\"d\"],\"schemaString\":\"{}\",\"id\":\"m\"}}\n{\"file\":{\"url\":\"http://peer/b\",\"id\":\"b\",\"partitionValues\":{\"d\":null},\"size\":0}}\n{\"endStreamAction\":{\"nextPageToken\":\"\"}}",
-            Told::Pages(1, 1),
-        ),
-        (
-            "HTTP/1.1 200 OK\r\nDelta-Table-Version: 7\r\n\r\n{\"protocol\":{\"minReaderVersion\":1}}\n{\"metaData\":{\"partitionColumns\":[\"d\"],\"schemaString\":\"{}\",\"id\":\"m\"}}\n{\"endStreamAction\":{\"nextPageToken\":\"x+y\"}}\n",
-            Told::Peer,
-        ),
-        (
-            "HTTP/1.1 200 OK\r\nDelta-Table-Version: 7\r\n\r\n",
-            Told::Bad(0),
-        ),
-        (
-            "HTTP/1.1 200 OK\r\nDelta-Table-Version: 7\r\n\r\n{\"protocol\":{\"minReaderVersion\":1}}\n{\"file\":{\"url\":\"http://peer/b\",\"id\":\"b\",\"partitionValues\":{\"d\":null},\"size\":0}}",
-            Told::Bad(0),
-        ),
-        (
-            "HTTP/1.1 200 OK\r\nDelta-Table-Version: 7\r\n\r\n{\"metaData\":{\"partitionColumns\":[\"d\"],\"schemaString\":\"{}\",\"id\":\"m\"}}\n{\"protocol\":{\"minReaderVersion\":1}}\n",
-            Told::Bad(0),
-        ),
-        (
-            "HTTP/1.1 200 OK\r\nDelta-Table-Version: 7\r\n\r\n{\"protocol\":{\"minReaderVersion\":1}}\n{\"metaData\":{\"partitionColumns\":[\"d\"],\"schemaString\":\"{}\",\"id\":\"m\"}}\n{\"endStreamAction\":{\"nextPageToken\":\"x+y\"}}\n{\"file\":{\"url\":\"http://peer/b\",\"id\":\"b\",\"partitionValues\":{\"d\":null},\"size\":0}}",
-            Told::Bad(0),
-        ),
-        (
-            "HTTP/1.1 200 OK\r\nDelta-Table-Version: 7\r\n\r\n{\"protocol\":{\"minReaderVersion\":1}}\n{\"metaData\":{\"partitionColumns\":[\"d\"],\"schemaString\":\"{}\",\"id\":\"m\"}}\n{\"add\":{\"url\":\"u\",\"id\":\"a\",\"partitionValues\":{},\"size\":1,\"timestamp\":0,\"version\":0}}",
-            Told::Bad(0),
-        ),
-        (
-            "HTTP/1.1 200 OK\r\nDelta-Table-Version: 7\r\n\r\n{\"protocol\":{\"minReaderVersion\":1}}\n{\"metaData\":{\"partitionColumns\":[\"d\"],\"schemaString\":\"{}\",\"id\":\"m\"}}\n{\"unknown\":{}}\n{\"file\":{\"url\":\"http://peer/b\",\"id\":\"b\",\"partitionValues\":{\"d\":null},\"size\":0}}",
-            Told::Bad(105),
-        ),
-        (
-            "HTTP/1.1 200 OK\r\nDelta-Table-Version: 7\r\n\r\n{\"protocol\":{\"minReaderVersion\":2}}\n{\"metaData\":{\"partitionColumns\":[\"d\"],\"schemaString\":\"{}\",\"id\":\"m\"}}\n",
-            Told::Bad(0),
-        ),
-        (
-            "HTTP/1.1 200 OK\r\nDelta-Table-Version: 7\r\n\r\n{\"protocol\":{\"minReaderVersion\":1}}\n{\"metaData\":{\"partitionColumns\":[\"d\"],\"schemaString\":\"{}\",\"id\":\"m\"}}\n{\"file\":{\"id\":\"b\",\"partitionValues\":{},\"size\":0}}",
-            Told::Bad(105),
-        ),
-        (
-            "HTTP/1.1 200 OK\r\n\r\n{\"protocol\":{\"minReaderVersion\":1}}\n{\"metaData\":{\"partitionColumns\":[\"d\"],\"schemaString\":\"{}\",\"id\":\"m\"}}\n",
-            Told::Bad(0),
-        ),
-        (
-            "HTTP/1.1 200 OK\r\nDelta-Table-Version: -1\r\n\r\n{\"protocol\":{\"minReaderVersion\":1}}\n{\"metaData\":{\"partitionColumns\":[\"d\"],\"schemaString\":\"{}\",\"id\":\"m\"}}\n",
-            Told::Bad(0),
-        ),
-        (
-            "HTTP/1.1 200 OK\r\nDelta-Table-Version: 9223372036854775808\r\n\r\n{\"protocol\":{\"minReaderVersion\":1}}\n{\"metaData\":{\"partitionColumns\":[\"d\"],\"schemaString\":\"{}\",\"id\":\"m\"}}\n",
-            Told::Bad(0),
-        ),
-        (
-            "HTTP/1.1 200 OK\r\nDelta-Table-Version: 7\r\nContent-Length: 268435457\r\n\r\n{\"protocol\":{\"minReaderVersion\":1}}\n",
-            Told::Bad(0),
-        ),
-        (
-            "HTTP/1.1 200 OK\r\nDelta-Table-Version: 7\r\nContent-Length: 100\r\n\r\n{\"protocol\":{\"minReaderVersion\":1}}\n",
-            Told::Bad(0),
-        ),
-        (
-            "HTTP/1.1 404 Not Found\r\n\r\n{\"errorCode\":\"NOT_FOUND\",\"message\":\"not found\"}",
-            Told::Refused(404, Some(Refusal::NotFound)),
-        ),
-        (
-            "HTTP/1.1 403 Forbidden\r\n\r\n<html>",
-            Told::Refused(403, None),
-        ),
-    ] {
-        assert!(rt; told_of(&read(alloc, &[peer_of(response)])?) == wanted);
+    for (fields, letters, word, first, second) in &ENDS {
+        let told = end_of(rt.alloc(), &page(rt.alloc(), fields, letters)?)?;
+        assert!(rt;
+            is_told(told, word, *first, *second),
+            "at {fields} {letters}"
+        );
+    }
+    Ok(())
+}
+
+static REFUSED: [(&str, &str, u64); 2] = [
+    (
+        "HTTP/1.1 404 Not Found\r\n\r\n{\"errorCode\":\"NOT_FOUND\",\"message\":\"not found\"}",
+        "NOT_FOUND",
+        404,
+    ),
+    ("HTTP/1.1 403 Forbidden\r\n\r\n<html>", "refused", 403),
+];
+
+#[test]
+fn a_refusal_is_told(rt: HostRuntime) -> Result<(), AllocError> {
+    for (response, word, status) in &REFUSED {
+        assert!(rt; is_told(end_of(rt.alloc(), response)?, word, *status, 0));
     }
     Ok(())
 }
@@ -250,7 +269,7 @@ const FIRST_CHANGES: &str =
 const LAST_CHANGES: &str =
     "HTTP/1.1 200 OK\r\nDelta-Table-Version: 7\r\n\r\n{\"protocol\":{\"minReaderVersion\":1}}\n{\"metaData\":{\"partitionColumns\":[\"d\"],\"schemaString\":\"{}\",\"id\":\"m\"}}\n{\"remove\":{\"url\":\"w\",\"id\":\"w\",\"partitionValues\":{},\"size\":1,\"timestamp\":-5,\"version\":9}}\n";
 
-const CHANGES_REQUESTS: [&str; 2] = [
+static CHANGES_REQUESTS: [&str; 2] = [
     "GET /delta-sharing/shares/a%20b/schemas/sc/tables/t%2F1/changes?startingVersion=0&endingVersion=9 HTTP/1.1\r\nHost: peer:8080\r\nAuthorization: Bearer abc\r\nConnection: close\r\n\r\n",
     "GET /delta-sharing/shares/a%20b/schemas/sc/tables/t%2F1/changes?startingVersion=0&endingVersion=9&pageToken=x%2By HTTP/1.1\r\nHost: peer:8080\r\nAuthorization: Bearer abc\r\nConnection: close\r\n\r\n",
 ];
@@ -267,11 +286,9 @@ fn are_changes(lines: &[Line]) -> bool {
 #[test]
 fn pages_of_changes_are_joined(rt: HostRuntime) -> Result<(), AllocError> {
     let alloc = rt.alloc();
-    let client = client(alloc)?;
     let mut link = link_of(alloc, &[peer_of(FIRST_CHANGES), peer_of(LAST_CHANGES)])?;
-    let table = table_of(alloc)?;
-    match client.read_changes(alloc, &mut link, &table, 0, 9) {
-        Ok(lines) => assert!(rt; are_changes(&lines)),
+    match &changes(alloc, &mut link, 9) {
+        Ok(lines) => assert!(rt; are_changes(lines)),
         Err(_) => assert!(rt; false),
     }
     assert!(rt; are_written(link.closed(), &CHANGES_REQUESTS));
@@ -282,12 +299,10 @@ fn pages_of_changes_are_joined(rt: HostRuntime) -> Result<(), AllocError> {
 #[test]
 fn files_are_no_changes(rt: HostRuntime) -> Result<(), AllocError> {
     let alloc = rt.alloc();
-    let client = client(alloc)?;
     let mut link = link_of(alloc, &[peer_of(LAST_PAGE)])?;
-    let table = table_of(alloc)?;
-    match client.read_changes(alloc, &mut link, &table, 0, 0) {
-        Err(ClientFault::BadReply { at }) => assert!(rt; at == 0),
-        _ => assert!(rt; false),
+    match &changes(alloc, &mut link, 0) {
+        Err(fault) => assert!(rt; is_told(told_by(fault), "bad reply", 0, 0)),
+        Ok(_) => assert!(rt; false),
     }
     Ok(())
 }

@@ -136,7 +136,7 @@ const PIECES: Case<'static> = Case {
     ..CLIENT
 };
 
-const ANSWERED: [Case<'static>; 5] = [
+static ANSWERED: [Case<'static>; 5] = [
     Case {
         peers: &[SHARES, TABLES],
         output: &["s 1 sc t1\ns 1 sc t2\n"],
@@ -164,7 +164,7 @@ const ANSWERED: [Case<'static>; 5] = [
     },
 ];
 
-const REFUSED: [Case<'static>; 5] = [
+static REFUSED: [Case<'static>; 5] = [
     Case {
         peers: &[FIRST_PAGE, OTHER_PAGE],
         status: 7,
@@ -198,7 +198,7 @@ const REFUSED: [Case<'static>; 5] = [
     },
 ];
 
-const WRONG: [Case<'static>; 6] = [
+static WRONG: [Case<'static>; 6] = [
     Case {
         words: &["client", "fetch", "p/me.share", "http://peer:8080/a", "0"],
         status: 2,

@@ -34,7 +34,7 @@ pub(crate) const PRINTED_FILE: &str =
     "{\"file\":{\"id\":\"a\",\"partitionValues\":{},\"size\":2,\"url\":\"a\"}}\n";
 
 // What fails: at its first call, or the store at a call of that number, counted from 0.
-#[derive(Clone, Copy, PartialEq, Eq)]
+#[derive(Clone, Copy)]
 pub(crate) enum Failing {
     Nothing,
     Input,
@@ -91,7 +91,7 @@ fn joined(alloc: Global, texts: &[&str]) -> Result<Vec<u8>, AllocError> {
     Ok(bytes)
 }
 
-fn first_call(alloc: Global, fails: bool) -> Result<Vec<u64>, AllocError> {
+pub(crate) fn first_call(alloc: Global, fails: bool) -> Result<Vec<u64>, AllocError> {
     let mut calls = Vec::new(alloc);
     if fails {
         calls.push(0)?;
@@ -113,46 +113,87 @@ fn stock(store: &mut MemStore, name: String, bytes: Vec<u8>) {
     }
 }
 
-pub(crate) fn store_of(alloc: Global, case: &Case<'_>) -> Result<MemStore, AllocError> {
-    let mut store = MemStore::new(alloc, 8, 4_096, Vec::new(alloc))?;
-    for (version, lines) in case.commits.iter().enumerate() {
+// The objects of a log, version after version.
+fn stock_commits(
+    alloc: Global,
+    store: &mut MemStore,
+    commits: &[&[&str]],
+) -> Result<(), AllocError> {
+    for (version, lines) in commits.iter().enumerate() {
         let name = format!(in alloc; "t/_delta_log/{version:020}.json")?;
-        stock(&mut store, name, joined(alloc, lines)?);
+        stock(store, name, joined(alloc, lines)?);
     }
+    Ok(())
+}
+
+fn stock_text(
+    alloc: Global,
+    store: &mut MemStore,
+    name: &str,
+    text: &str,
+) -> Result<(), AllocError> {
+    let name = String::from_str(alloc, name)?;
+    stock(store, name, Vec::from_slice(alloc, text.as_bytes())?);
+    Ok(())
+}
+
+fn stock_texts(
+    alloc: Global,
+    store: &mut MemStore,
+    objects: &[(&str, &str)],
+) -> Result<(), AllocError> {
+    for (name, text) in objects {
+        stock_text(alloc, store, name, text)?;
+    }
+    Ok(())
+}
+
+fn stocked(alloc: Global, case: &Case<'_>) -> Result<MemStore, AllocError> {
+    let mut store = MemStore::new(alloc, 8, 4_096, Vec::new(alloc))?;
+    stock_commits(alloc, &mut store, case.commits)?;
+    stock_texts(alloc, &mut store, case.objects)?;
     if !case.other.is_empty() {
-        stock(
-            &mut store,
-            String::from_str(alloc, case.other)?,
-            Vec::new(alloc),
-        );
+        stock_text(alloc, &mut store, case.other, "")?;
     }
-    for (name, text) in case.objects {
-        let bytes = Vec::from_slice(alloc, text.as_bytes())?;
-        stock(&mut store, String::from_str(alloc, name)?, bytes);
-    }
-    Ok(store.with_fails(store_call(alloc, case.failing)?, Vec::new(alloc)))
+    Ok(store)
+}
+
+pub(crate) fn store_of(alloc: Global, case: &Case<'_>) -> Result<MemStore, AllocError> {
+    let fails = store_call(alloc, case.failing)?;
+    Ok(stocked(alloc, case)?.with_fails(fails, Vec::new(alloc)))
 }
 
 // Room for what the cases write, which goes out in pieces of at most 7 bytes at first.
 fn sink(alloc: Global, fails: bool) -> Result<MemSink, AllocError> {
-    let mut sizes = Vec::new(alloc);
-    sizes.push(1)?;
-    sizes.push(7)?;
-    let sink = MemSink::new(alloc, 4_096, 16)?.with_sizes(sizes);
-    Ok(sink.with_fails(first_call(alloc, fails)?))
+    let sizes = Vec::from_slice(alloc, &[1, 7])?;
+    let fails = first_call(alloc, fails)?;
+    Ok(
+        MemSink::new(alloc, 4_096, 16)?
+            .with_sizes(sizes)
+            .with_fails(fails),
+    )
+}
+
+// The output and the notes.
+fn sinks(alloc: Global, failing: Failing) -> Result<(MemSink, MemSink), AllocError> {
+    let output = sink(alloc, matches!(failing, Failing::Output))?;
+    let notes = sink(alloc, matches!(failing, Failing::Notes))?;
+    Ok((output, notes))
 }
 
 fn source(alloc: Global, case: &Case<'_>) -> Result<MemSource, AllocError> {
     let bytes = Vec::from_slice(alloc, case.input.as_bytes())?;
-    let fails = first_call(alloc, case.failing == Failing::Input)?;
+    let fails = first_call(alloc, matches!(case.failing, Failing::Input))?;
     Ok(MemSource::new(alloc, bytes).with_fails(fails))
 }
 
 pub(crate) fn edge_of(alloc: Global, case: &Case<'_>) -> Result<Memory, AllocError> {
+    let (output, notes) = sinks(alloc, case.failing)?;
+    let input = source(alloc, case)?;
     Ok(Edge {
-        input: source(alloc, case)?,
-        output: sink(alloc, case.failing == Failing::Output)?,
-        notes: sink(alloc, case.failing == Failing::Notes)?,
+        input,
+        output,
+        notes,
         store: store_of(alloc, case)?,
         clock: MemClock::new(Vec::new(alloc)),
         gate: OpenGate,
@@ -204,41 +245,61 @@ pub(crate) fn status_of<R: Threads + Wait + Sync>(
     run(rt, alloc, words, edge, desks, way)
 }
 
-// Whether that is on the output and on the notes.
-pub(crate) fn is_told(edge: &Memory, output: &[u8], notes: &str) -> bool {
-    edge.output.bytes() == output && edge.notes.bytes() == notes.as_bytes()
+// Whether the bytes are the texts, one after another.
+fn are_texts(bytes: &[u8], texts: &[&str]) -> bool {
+    let mut rest = bytes;
+    for text in texts {
+        match rest.strip_prefix(text.as_bytes()) {
+            Some(behind) => rest = behind,
+            None => return false,
+        }
+    }
+    rest.is_empty()
 }
 
-// Runs the case, and looks at the status, the output, the notes and what was written to peers.
-fn expect<R: Abort + Threads + Wait + Sync>(
+// Whether that is on the output and on the notes.
+pub(crate) fn is_told(edge: &Memory, output: &[&str], notes: &str) -> bool {
+    are_texts(edge.output.bytes(), output) && edge.notes.bytes() == notes.as_bytes()
+}
+
+// Whether the run of the case has its status, its output and its notes, and asks peers so.
+fn is_run<R: Threads + Wait + Sync>(
     rt: &R,
     alloc: Global,
     case: &Case<'_>,
-) -> Result<(), AllocError> {
-    let words = words_of(alloc, case.words)?;
-    let output = joined(alloc, case.output)?;
-    let mut edge = edge_of(alloc, case)?;
+    words: &[String],
+    mut edge: Memory,
+    mut way: MemLink,
+) -> bool {
     let mut desks: Vec<MemDesk> = Vec::new(alloc);
-    let mut way = way_of(alloc, case.peers)?;
-    let status = status_of(rt, alloc, &words, &mut edge, &mut desks, &mut way);
-    assert_eq!(rt; status, case.status);
-    assert!(rt; is_told(&edge, &output, case.notes));
-    assert!(rt; are_asked(&way, case.peers));
-    Ok(())
+    let status = status_of(rt, alloc, words, &mut edge, &mut desks, &mut way);
+    status == case.status && is_told(&edge, case.output, case.notes) && are_asked(&way, case.peers)
 }
 
+fn holds<R: Threads + Wait + Sync>(
+    rt: &R,
+    alloc: Global,
+    case: &Case<'_>,
+) -> Result<bool, AllocError> {
+    let words = words_of(alloc, case.words)?;
+    let way = way_of(alloc, case.peers)?;
+    Ok(is_run(rt, alloc, case, &words, edge_of(alloc, case)?, way))
+}
+
+// Runs the cases, each of which is to do so.
 pub(crate) fn expect_all<R: Abort + Threads + Wait + Sync>(
     rt: &R,
     alloc: Global,
     cases: &[Case<'_>],
 ) -> Result<(), AllocError> {
-    for case in cases {
-        expect(rt, alloc, case)?;
+    for (number, case) in cases.iter().enumerate() {
+        let holds = holds(rt, alloc, case)?;
+        assert!(rt; holds, "at {number}");
     }
     Ok(())
 }
 
-const WRONG_WORDS: [&[&str]; 21] = [
+static WRONG_WORDS: [&[&str]; 21] = [
     &[],
     &["query"],
     &["Stdio"],
@@ -262,76 +323,76 @@ const WRONG_WORDS: [&[&str]; 21] = [
     &["rehearse", "4294967296"],
 ];
 
-#[test]
-fn prints_the_latest_version(rt: HostRuntime) -> Result<(), AllocError> {
-    let opened = Case {
+const CHANGED: Case<'static> = Case {
+    commits: &[&[OPENING, ADD_OF_SIZE_1], &[REMOVE], &[ADD_OF_SIZE_2]],
+    output: &[PRINTED_OPENING, PRINTED_FILE],
+    ..QUERY
+};
+
+static LATEST: [Case<'static>; 3] = [
+    Case {
         commits: &[&[OPENING]],
         output: &[PRINTED_OPENING],
         ..QUERY
-    };
-    let file = [PRINTED_OPENING, PRINTED_FILE];
-    let commits: [&[&str]; 3] = [&[OPENING, ADD_OF_SIZE_1], &[REMOVE], &[ADD_OF_SIZE_2]];
-    let changed = Case {
-        commits: &commits,
-        output: &file,
-        ..QUERY
-    };
-    let beside = Case {
+    },
+    CHANGED,
+    Case {
         other: "t/_delta_log/_last_checkpoint",
-        commits: &commits,
-        output: &file,
+        ..CHANGED
+    },
+];
+
+#[test]
+fn prints_the_latest_version(rt: HostRuntime) -> Result<(), AllocError> {
+    expect_all(&rt, rt.alloc(), &LATEST)
+}
+
+// A run of words that are none.
+fn wrong<'a>(words: &'a [&'a str]) -> Case<'a> {
+    Case {
+        words,
+        input: "{",
+        commits: &[&[OPENING]],
+        status: 2,
+        notes: "share: words\n",
         ..QUERY
-    };
-    expect_all(&rt, rt.alloc(), &[opened, changed, beside])
+    }
 }
 
 #[test]
-fn answers_words_and_input(rt: HostRuntime) -> Result<(), AllocError> {
-    for words in WRONG_WORDS {
-        let wrong = Case {
-            words,
-            input: "{",
-            commits: &[&[OPENING]],
-            status: 2,
-            notes: "share: words\n",
-            ..QUERY
-        };
-        expect(&rt, rt.alloc(), &wrong)?;
+fn answers_words_that_are_none(rt: HostRuntime) -> Result<(), AllocError> {
+    for (number, words) in WRONG_WORDS.iter().enumerate() {
+        let holds = holds(&rt, rt.alloc(), &wrong(words))?;
+        assert!(rt; holds, "at {number}");
     }
-    let help = Case {
+    Ok(())
+}
+
+static WORDS: [Case<'static>; 3] = [
+    Case {
         words: &["--help"],
         input: "{",
         output: &[HELP],
         ..QUERY
-    };
-    let version = Case {
+    },
+    Case {
         words: &["--version"],
         input: "{",
         output: &[VERSION],
         ..QUERY
-    };
-    let input = Case {
+    },
+    Case {
         input: "{",
         commits: &[&[OPENING]],
         status: 3,
         notes: "share: input\n",
         ..QUERY
-    };
-    expect_all(&rt, rt.alloc(), &[help, version, input])
-}
+    },
+];
 
 #[test]
-fn says_why_a_table_is_not_read(rt: HostRuntime) -> Result<(), AllocError> {
-    for other in ["", "t/a.parquet", "t/_delta_log/99999999999999999999.json"] {
-        let none = Case {
-            other,
-            status: 4,
-            notes: "share: table: no commits\n",
-            ..QUERY
-        };
-        expect(&rt, rt.alloc(), &none)?;
-    }
-    Ok(())
+fn answers_words_and_input(rt: HostRuntime) -> Result<(), AllocError> {
+    expect_all(&rt, rt.alloc(), &WORDS)
 }
 
 const PASSED_BY_READERS: &str =
@@ -343,7 +404,21 @@ const ADD_WITH_VECTOR: &str =
 const REFUSED: Case<'static> = Case { status: 4, ..QUERY };
 
 // Tables that aren't read, each with why.
-const UNREAD: [Case<'static>; 8] = [
+static UNREAD: [Case<'static>; 11] = [
+    Case {
+        notes: "share: table: no commits\n",
+        ..REFUSED
+    },
+    Case {
+        other: "t/a.parquet",
+        notes: "share: table: no commits\n",
+        ..REFUSED
+    },
+    Case {
+        other: "t/_delta_log/99999999999999999999.json",
+        notes: "share: table: no commits\n",
+        ..REFUSED
+    },
     Case {
         commits: &[&[OPENING], &[]],
         other: "t/_delta_log/00000000000000000003.json",
@@ -397,52 +472,57 @@ const UNREAD: [Case<'static>; 8] = [
 ];
 
 #[test]
-fn says_why_a_log_is_not_read(rt: HostRuntime) -> Result<(), AllocError> {
+fn says_why_a_table_is_not_read(rt: HostRuntime) -> Result<(), AllocError> {
     expect_all(&rt, rt.alloc(), &UNREAD)
 }
 
-#[test]
-fn passes_over_what_it_does_not_know(rt: HostRuntime) -> Result<(), AllocError> {
-    let mixed = Case {
-        commits: &[&[
-            OPENING,
-            " \t\r\n",
-            "{\"other\":{}}\n{\"txn\":{\"appId\":\"app\",\"version\":1}}\n",
-            "{\"commitInfo\":{\"operation\":\"WRITE\"}}",
-        ]],
-        output: &[PRINTED_OPENING],
-        ..QUERY
-    };
-    expect(&rt, rt.alloc(), &mixed)
-}
+static MIXED: [Case<'static>; 1] = [Case {
+    commits: &[&[
+        OPENING,
+        " \t\r\n",
+        "{\"other\":{}}\n{\"txn\":{\"appId\":\"app\",\"version\":1}}\n",
+        "{\"commitInfo\":{\"operation\":\"WRITE\"}}",
+    ]],
+    output: &[PRINTED_OPENING],
+    ..QUERY
+}];
 
 #[test]
-fn tells_which_part_failed(rt: HostRuntime) -> Result<(), AllocError> {
-    let opened = Case {
-        commits: &[&[OPENING]],
-        status: 5,
-        ..QUERY
-    };
-    let input = Case {
+fn passes_over_what_it_does_not_know(rt: HostRuntime) -> Result<(), AllocError> {
+    expect_all(&rt, rt.alloc(), &MIXED)
+}
+
+const OPENED: Case<'static> = Case {
+    commits: &[&[OPENING]],
+    status: 5,
+    ..QUERY
+};
+
+static FAULTS: [Case<'static>; 4] = [
+    Case {
         failing: Failing::Input,
         notes: "share: read fault\n",
-        ..opened
-    };
-    let store = Case {
+        ..OPENED
+    },
+    Case {
         failing: Failing::Store(0),
         notes: "share: store fault\n",
-        ..opened
-    };
-    let output = Case {
+        ..OPENED
+    },
+    Case {
         failing: Failing::Output,
         notes: "share: write fault\n",
-        ..opened
-    };
-    let notes = Case {
+        ..OPENED
+    },
+    Case {
         failing: Failing::Notes,
         input: "{",
         status: 3,
-        ..opened
-    };
-    expect_all(&rt, rt.alloc(), &[input, store, output, notes])
+        ..OPENED
+    },
+];
+
+#[test]
+fn tells_which_part_failed(rt: HostRuntime) -> Result<(), AllocError> {
+    expect_all(&rt, rt.alloc(), &FAULTS)
 }

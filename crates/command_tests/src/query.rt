@@ -14,7 +14,7 @@ const THREE: Case<'static> = Case {
     ..QUERY
 };
 
-const BY_VERSION: [Case<'static>; 6] = [
+static BY_VERSION: [Case<'static>; 6] = [
     Case {
         input: "{\"version\":1}",
         output: &[PRINTED_OPENING],
@@ -69,7 +69,7 @@ const TIMED: Case<'static> = Case {
     ..QUERY
 };
 
-const BY_MOMENT: [Case<'static>; 4] = [
+static BY_MOMENT: [Case<'static>; 4] = [
     Case {
         input: "{\"timestamp\":\"1970-01-01T00:00:00.100Z\"}",
         output: &[PRINTED_OPENING, PRINTED_FIRST],
@@ -126,7 +126,7 @@ const DAYS: Case<'static> = Case {
 };
 
 // A file whose day can't be read is listed, whatever is asked of its day.
-const BY_PREDICATE: [Case<'static>; 3] = [
+static BY_PREDICATE: [Case<'static>; 3] = [
     Case {
         input: "{\"jsonPredicateHints\":\"{\\\"op\\\":\\\"equal\\\",\\\"children\\\":[{\\\"op\\\":\\\"column\\\",\\\"name\\\":\\\"day\\\",\\\"valueType\\\":\\\"int\\\"},{\\\"op\\\":\\\"literal\\\",\\\"value\\\":\\\"7\\\",\\\"valueType\\\":\\\"int\\\"}]}\"}",
         output: &[PRINTED_BY_DAY, PRINTED_7, PRINTED_007],

@@ -60,7 +60,7 @@ const FILE_HEAD: &str =
 const GET_FILE: &str =
     "GET /delta-sharing/files/s1/sc/t1/a?b=1&e=3600000&g=1&r=r1&t=0ff11fb3bbaeefa6a0399bca8526e68e949d35e5b810cf4f364d36fceb9651aa HTTP/1.1\r\nHost: a\r\n\r\n";
 
-const ANSWERED: [Case<'static>; 4] = [
+static ANSWERED: [Case<'static>; 4] = [
     SERVED,
     Case {
         input: "GET /delta-sharing/shares HTTP/1.1\r\nHost: a\r\nAuthorization: Bearer abc\r\n\r\nPOST /delta-sharing/admin/edit HTTP/1.1\r\nHost: a\r\nAuthorization: Bearer admin\r\nContent-Length: 26\r\n\r\n{\"newShare\":{\"name\":\"s2\"}}",
@@ -94,7 +94,7 @@ pub(crate) const UNCONFIGURED: Case<'static> = Case {
     ..STDIO
 };
 
-const UNSERVED: [Case<'static>; 5] = [
+static UNSERVED: [Case<'static>; 5] = [
     UNCONFIGURED,
     Case {
         objects: &[("_share_log/config.json", "{")],
@@ -139,7 +139,7 @@ const WRONG: Case<'static> = Case {
     ..SERVED
 };
 
-const CUT_SHORT: [Case<'static>; 3] = [
+static CUT_SHORT: [Case<'static>; 3] = [
     Case {
         input: "GET /delta-sharing/shares HTTP/1.1\r\n",
         ..WRONG
@@ -176,7 +176,7 @@ const STORE_FAILED: Case<'static> = Case {
 
 // The store is called twice for the configuration and for each of four records, three times for the log, once for a fifth record;
 // then for the file's size, and for its bytes.
-const FAULTS: [Case<'static>; 8] = [
+static FAULTS: [Case<'static>; 8] = [
     Case {
         failing: Failing::Input,
         notes: "share: read fault\n",

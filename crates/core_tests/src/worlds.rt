@@ -1,7 +1,8 @@
 // Worlds: what their requests are answered.
 use crate::made::{Step, events, keys};
-use share_core::{Body, Reply, join_pages, run, two_worlds};
-use share_lines::Line;
+use share_core::{Body, Event, Reply, join_pages, run, two_worlds};
+use share_lines::{Line, Lines};
+use share_reply::ReplyKeys;
 use std::alloc::Global;
 
 const FIRST: &str =
@@ -113,37 +114,62 @@ fn is_file(line: &Line, id: &str) -> bool {
     }
 }
 
+// The statuses and versions of the replies.
+static WANTED: [(u16, Option<u64>); 5] = [
+    (401, None),
+    (200, Some(4)),
+    (200, Some(4)),
+    (200, Some(4)),
+    (200, Some(5)),
+];
+
+fn are_told(replies: &[Reply]) -> bool {
+    replies.len() == WANTED.len()
+        && replies.iter().zip(&WANTED).all(|(reply, (status, version))| tells(
+            reply, *status, *version,
+        ))
+}
+
+static IDS: [&str; 5] = ["a", "b", "c", "d", "e"];
+
+fn are_files(files: &[Line]) -> bool {
+    files.len() == IDS.len() && files.iter().zip(&IDS).all(|(line, id)| is_file(line, id))
+}
+
+// The files of a chain of pages, none where they are no chain.
+fn joined(alloc: Global, replies: &[Reply]) -> Option<Option<Lines>> {
+    join_pages(alloc, replies).ok()
+}
+
 // The statuses and versions of the replies, and the files of its chain.
 fn is_told(alloc: Global, replies: &[Reply]) -> Option<bool> {
-    let want = [
-        (401, None),
-        (200, Some(4)),
-        (200, Some(4)),
-        (200, Some(4)),
-        (200, Some(5)),
-    ];
-    let told = replies.len() == 5
-        && replies.iter().zip(&want).all(|(reply, (status, version))| tells(
-            reply, *status, *version,
-        ));
-    let joined = join_pages(alloc, replies.get(1..4)?).ok()??;
-    let files = joined.items();
-    let ids = ["a", "b", "c", "d", "e"];
-    let whole = files.len() == 5 && files.iter().zip(&ids).all(|(line, id)| is_file(line, id));
-    let none = join_pages(alloc, replies).ok()?.is_none();
-    Some(told && whole && none)
+    let chain = joined(alloc, replies.get(1..4)?)??;
+    let none = joined(alloc, replies)?.is_none();
+    Some(none && are_told(replies) && are_files(chain.items()))
+}
+
+fn replies(alloc: Global, keys: &ReplyKeys, events: &[Event]) -> Option<Vec<Reply>> {
+    run(alloc, keys, events).ok()
 }
 
 fn one_is_told(alloc: Global) -> Option<bool> {
-    let replies = run(alloc, &keys(alloc)?, &events(alloc, &ONE)?).ok()?;
-    is_told(alloc, &replies)
+    let keys = keys(alloc)?;
+    let events = events(alloc, &ONE)?;
+    is_told(alloc, &replies(alloc, &keys, &events)?)
+}
+
+type Replies = (Vec<Reply>, Vec<Reply>);
+
+fn both(alloc: Global, one: &[Event], other: &[Event]) -> Option<Replies> {
+    let keys = keys(alloc)?;
+    two_worlds(alloc, &keys, one, other, "r1").ok()
 }
 
 // Both worlds give the recipient the same four replies; that before it was there is nobody's.
 fn worlds_are_alike(alloc: Global) -> Option<bool> {
     let one = events(alloc, &ONE)?;
     let other = events(alloc, &OTHER)?;
-    let (a, b) = two_worlds(alloc, &keys(alloc)?, &one, &other, "r1").ok()?;
+    let (a, b) = both(alloc, &one, &other)?;
     Some(a.len() == 4 && same_replies(&a, &b))
 }
 

@@ -1,22 +1,37 @@
 // What looks replay: the state of each is kept, and later ones begin with it.
-use crate::server::{Server, stock};
-use edge_core::MemStore;
-use itoa::Buffer;
+use crate::script::{Act, Place, Step};
 use std::alloc::Global;
 use std::sync::Wait;
 
-const EDITS: [&str; 4] = [
-    "{\"newShare\":{\"name\":\"s\"}}",
-    "{\"newRecipient\":{\"digest\":\"0101010101010101010101010101010101010101010101010101010101010101\",\"expires\":null,\"name\":\"r\"}}",
-    "{\"bind\":{\"history\":true,\"location\":\"t\",\"schema\":\"d\",\"share\":\"s\",\"table\":\"t\"}}",
-    "{\"grant\":{\"recipient\":\"r\",\"share\":\"s\"}}",
+// A server shows its recipient the table.
+static OPENED: [Step; 4] = [
+    (
+        Act::Edit,
+        "{\"newShare\":{\"name\":\"s\"}}",
+        ("record", 0, 0),
+    ),
+    (
+        Act::Edit,
+        "{\"newRecipient\":{\"digest\":\"0101010101010101010101010101010101010101010101010101010101010101\",\"expires\":null,\"name\":\"r\"}}",
+        ("record", 1, 0),
+    ),
+    (
+        Act::Edit,
+        "{\"bind\":{\"history\":true,\"location\":\"t\",\"schema\":\"d\",\"share\":\"s\",\"table\":\"t\"}}",
+        ("record", 2, 0),
+    ),
+    (
+        Act::Edit,
+        "{\"grant\":{\"recipient\":\"r\",\"share\":\"s\"}}",
+        ("record", 3, 0),
+    ),
 ];
 
 const COMMIT_0: &str = "{\"protocol\":{\"minReaderVersion\":1,\"minWriterVersion\":2}}\n\
     {\"metaData\":{\"id\":\"t\",\"schemaString\":\"{}\"}}\n{\"add\":{\"path\":\"a\",\"size\":1}}\n";
 
 // Versions 1 to 4 of the table, after which it has the files `a` to `e`.
-const COMMITS: [&str; 4] = [
+static COMMITS: [&str; 4] = [
     "{\"add\":{\"path\":\"b\",\"size\":1}}\n",
     "{\"add\":{\"path\":\"c\",\"size\":1}}\n{\"add\":{\"path\":\"d\",\"size\":1}}\n",
     "{\"add\":{\"path\":\"e\",\"size\":1}}\n",
@@ -35,7 +50,7 @@ type Row = (Option<u64>, Option<u64>, usize, u64);
 const FIRST: Row = (Some(4), None, 8, 5);
 
 // After version 5 was found.
-const ROWS: [Row; 6] = [
+static ROWS: [Row; 6] = [
     (Some(4), Some(4), 0, 5),
     (None, Some(4), 6, 6),
     (None, Some(5), 0, 6),
@@ -44,147 +59,116 @@ const ROWS: [Row; 6] = [
     (Some(5), Some(5), 0, 6),
 ];
 
-// The row holds, or nothing is answered.
-fn check<R: Wait>(rt: &R, alloc: Global, server: &mut Server, row: &Row) -> Option<()> {
+// Whether the row holds, none where nothing is answered.
+fn holds<R: Wait>(rt: &R, alloc: Global, place: &mut Place, row: &Row) -> Option<bool> {
     let (version, base, actions, files) = *row;
-    let left = server.left(rt, alloc, version)?;
-    let found = server.files_at(rt, alloc, version)?;
-    if left == (base, actions) && found.1 == files {
-        Some(())
-    } else {
-        None
-    }
+    let left = place.left(rt, alloc, version)?;
+    Some(left == (base, actions) && place.files(rt, alloc, version)? == files)
 }
 
-// What stands before the digits of a version below 100.
-fn front_of(version: u64) -> &'static str {
-    if version < 10 {
-        "t/_delta_log/0000000000000000000"
-    } else {
-        "t/_delta_log/000000000000000000"
-    }
-}
-
-// The name of a version's commit.
-fn version_name(alloc: Global, version: u64) -> Option<String> {
-    let mut name = String::from_str(alloc, front_of(version)).ok()?;
-    name.push_str(Buffer::new().format(version)).ok()?;
-    name.push_str(".json").ok()?;
-    Some(name)
-}
-
-fn stock_version(alloc: Global, store: &mut MemStore, version: u64, text: &str) -> Option<()> {
-    stock(alloc, store, version_name(alloc, version)?.as_str(), text)
-}
-
-fn edit_all<R: Wait>(
-    rt: &R,
-    alloc: Global,
-    server: &mut Server,
-    store: &mut MemStore,
-) -> Option<()> {
-    for text in &EDITS {
-        let edited = server.edit(rt, alloc, store, text)?;
-        if edited.is_err() {
-            return None;
+fn hold<R: Wait>(rt: &R, alloc: Global, place: &mut Place, rows: &[Row]) -> bool {
+    for row in rows {
+        if holds(rt, alloc, place, row) != Some(true) {
+            return false;
         }
     }
-    Some(())
+    true
 }
 
-// A server that shows its recipient the table.
-fn opened<R: Wait>(rt: &R, alloc: Global, store: &mut MemStore) -> Option<Server> {
-    let mut server = Server::open(alloc, store)?;
-    edit_all(rt, alloc, &mut server, store)?;
-    Some(server)
-}
-
-fn stock_first(alloc: Global, store: &mut MemStore) -> Option<()> {
-    stock_version(alloc, store, 0, COMMIT_0)?;
-    for place in 0..COMMITS.len() {
-        stock_version(alloc, store, place as u64 + 1, COMMITS[place])?;
+// A server over versions 0 to 4.
+fn stocked(alloc: Global) -> Option<Place> {
+    let mut place = Place::open(alloc)?;
+    place.stock_version(alloc, 0, COMMIT_0)?;
+    for (before, text) in COMMITS.iter().enumerate() {
+        place.stock_version(alloc, before as u64 + 1, text)?;
     }
-    Some(())
+    Some(place)
 }
 
-fn check_rows<R: Wait>(
-    rt: &R,
-    alloc: Global,
-    server: &mut Server,
-    store: &mut MemStore,
-) -> Option<()> {
-    check(rt, alloc, server, &FIRST)?;
-    stock_version(alloc, store, 5, COMMIT_5)?;
-    server.refresh(rt, alloc, store)?;
-    for row in &ROWS {
-        check(rt, alloc, server, row)?;
+fn opened<R: Wait>(rt: &R, alloc: Global, mut place: Place) -> Option<Place> {
+    match place.first_wrong(rt, alloc, &OPENED) {
+        Some(_) => None,
+        None => Some(place),
     }
-    Some(())
 }
 
-fn begins_with_what_is_kept<R: Wait>(rt: &R, alloc: Global) -> Option<()> {
-    let mut store = MemStore::new(alloc, 20, 20_000, Vec::new(alloc)).ok()?;
-    stock_first(alloc, &mut store)?;
-    let mut server = opened(rt, alloc, &mut store)?;
-    check_rows(rt, alloc, &mut server, &mut store)
+fn begins_with_what_is_kept<R: Wait>(rt: &R, alloc: Global) -> Option<bool> {
+    let mut place = opened(rt, alloc, stocked(alloc)?)?;
+    let first = hold(rt, alloc, &mut place, &[FIRST]);
+    place.stock_version(alloc, 5, COMMIT_5)?;
+    place.refresh(rt, alloc)?;
+    Some(first && hold(rt, alloc, &mut place, &ROWS))
 }
 
 #[test]
 fn a_look_begins_with_what_is_kept(rt: HostRuntime) {
-    assert!(rt; begins_with_what_is_kept(&rt, rt.alloc()).is_some());
+    assert!(rt; begins_with_what_is_kept(&rt, rt.alloc()) == Some(true));
 }
+
+// Another caller finds version 5.
+fn found<R: Wait>(rt: &R, alloc: Global, place: &mut Place) -> Option<()> {
+    place.change_callers();
+    place.stock_version(alloc, 5, COMMIT_5)?;
+    place.refresh(rt, alloc)?;
+    place.change_callers();
+    Some(())
+}
+
+static RACED: [Row; 2] = [(Some(4), Some(4), 0, 5), (None, Some(4), 6, 6)];
 
 // A caller pins version 4, and before it looks another finds version 5. What that one kept is found then, and version 5 is shown to a
 // caller that was never told of it.
-fn races<R: Wait>(rt: &R, alloc: Global) -> Option<()> {
-    let mut store = MemStore::new(alloc, 20, 20_000, Vec::new(alloc)).ok()?;
-    stock_first(alloc, &mut store)?;
-    let mut server = opened(rt, alloc, &mut store)?;
-    if server.left(rt, alloc, Some(4))? != (None, 8) {
-        return None;
-    }
-    server.change_callers();
-    stock_version(alloc, &mut store, 5, COMMIT_5)?;
-    server.refresh(rt, alloc, &mut store)?;
-    server.change_callers();
-    check(rt, alloc, &mut server, &(Some(4), Some(4), 0, 5))?;
-    check(rt, alloc, &mut server, &(None, Some(4), 6, 6))
+fn races<R: Wait>(rt: &R, alloc: Global) -> Option<bool> {
+    let mut place = opened(rt, alloc, stocked(alloc)?)?;
+    let left = place.left(rt, alloc, Some(4))?;
+    found(rt, alloc, &mut place)?;
+    Some(left == (None, 8) && hold(rt, alloc, &mut place, &RACED))
 }
 
 #[test]
 fn a_look_finds_what_another_caller_kept(rt: HostRuntime) {
-    assert!(rt; races(&rt, rt.alloc()).is_some());
+    assert!(rt; races(&rt, rt.alloc()) == Some(true));
 }
 
 // How many states are kept.
 const KEPT: u64 = 64;
 
-fn stock_many(alloc: Global, store: &mut MemStore) -> Option<()> {
-    stock_version(alloc, store, 0, COMMIT_0)?;
+// A server over versions 0 to 64.
+fn stocked_many(alloc: Global) -> Option<Place> {
+    let mut place = Place::open(alloc)?;
+    place.stock_version(alloc, 0, COMMIT_0)?;
     for version in 1..KEPT + 1 {
-        stock_version(alloc, store, version, COMMITS[3])?;
+        place.stock_version(alloc, version, COMMITS[3])?;
     }
-    Some(())
+    Some(place)
 }
 
-// Versions 0 to 64 are looked at in order, each begun with the one before. The first isn't kept any more then.
-fn check_many<R: Wait>(rt: &R, alloc: Global, server: &mut Server) -> Option<()> {
-    check(rt, alloc, server, &(Some(0), None, 3, 1))?;
+// Each but the first is begun with the one before.
+fn hold_in_order<R: Wait>(rt: &R, alloc: Global, place: &mut Place) -> bool {
     for version in 1..KEPT + 1 {
-        check(rt, alloc, server, &(Some(version), Some(version - 1), 1, 1))?;
+        let row = (Some(version), Some(version - 1), 1, 1);
+        if holds(rt, alloc, place, &row) != Some(true) {
+            return false;
+        }
     }
-    check(rt, alloc, server, &(Some(1), Some(1), 0, 1))?;
-    check(rt, alloc, server, &(Some(0), None, 3, 1))
+    true
 }
 
-fn lets_go<R: Wait>(rt: &R, alloc: Global) -> Option<()> {
-    let mut store = MemStore::new(alloc, 100, 100_000, Vec::new(alloc)).ok()?;
-    stock_many(alloc, &mut store)?;
-    let mut server = opened(rt, alloc, &mut store)?;
-    check_many(rt, alloc, &mut server)
+// The first isn't kept any more then.
+static FIRST_OF_MANY: [Row; 1] = [(Some(0), None, 3, 1)];
+
+static LAST_OF_MANY: [Row; 2] = [(Some(1), Some(1), 0, 1), (Some(0), None, 3, 1)];
+
+fn lets_go<R: Wait>(rt: &R, alloc: Global) -> Option<bool> {
+    let mut place = opened(rt, alloc, stocked_many(alloc)?)?;
+    Some(
+        hold(rt, alloc, &mut place, &FIRST_OF_MANY)
+            && hold_in_order(rt, alloc, &mut place)
+            && hold(rt, alloc, &mut place, &LAST_OF_MANY),
+    )
 }
 
 #[test]
 fn the_one_used_least_recently_goes(rt: HostRuntime) {
-    assert!(rt; lets_go(&rt, rt.alloc()).is_some());
+    assert!(rt; lets_go(&rt, rt.alloc()) == Some(true));
 }

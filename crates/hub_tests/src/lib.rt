@@ -6,6 +6,8 @@ mod cache;
 #[cfg(test)]
 mod commits;
 #[cfg(test)]
+mod script;
+#[cfg(test)]
 mod server;
 #[cfg(test)]
 mod servers;

@@ -2,15 +2,15 @@
 ghost use Rattle.std.specs.Prelude.{◌≡◌, false};
 
 use catalog_log::edit_at;
-use commit_check::{Offer, Reads};
-use edge_core::{MemStore, Name, Stored};
+use commit_check::{Conflict, Offer, Reads};
+use edge_core::{Got, MemStore, Name, Store, Stored};
 use json_tree::{Text, Version, tree_of};
 use log_actions::{Actions, CommitTime, action_of_line};
 use log_replay::Bound;
 use log_store::Commits;
-use share_book::{Ask, Found, Part, PartFound, Pinned, SharedSnapshot, Want, Who};
+use share_book::{Ask, Found, Look, Part, PartFound, Pinned, SharedSnapshot, Want, Who};
 use share_catalog::{CatalogName, Edit, TableName};
-use share_hub::{CommitRefusal, EditEnd, Hub, HubPass, Refreshed};
+use share_hub::{CommitRefusal, EditEnd, Hub, HubPass};
 use std::alloc::Global;
 use std::mem::swap;
 use std::sync::Wait;
@@ -22,6 +22,9 @@ struct Work;
 // The moment of all commits.
 pub(crate) const NOW: u64 = 1_700_000_000_000;
 
+/// What a call is told: a word, and up to two numbers.
+pub(crate) type Told = (&'static str, u64, u64);
+
 #[derive(Drop)]
 pub(crate) struct Server {
     hub: Hub,
@@ -31,11 +34,11 @@ pub(crate) struct Server {
     ghost waits: { (other.cell ≡ hub) × (other.holds ≡ false) },
 }
 
-pub(crate) fn name(alloc: Global, text: &str) -> Option<Name> {
+fn name(alloc: Global, text: &str) -> Option<Name> {
     Name::of(String::from_str(alloc, text).ok()?)
 }
 
-// Someone else stores an object.
+/// Someone else stores an object.
 pub(crate) fn stock(alloc: Global, store: &mut MemStore, object: &str, text: &str) -> Option<()> {
     let name = name(alloc, object)?;
     let bytes = Vec::from_slice(alloc, text.as_bytes()).ok()?;
@@ -43,27 +46,56 @@ pub(crate) fn stock(alloc: Global, store: &mut MemStore, object: &str, text: &st
     Some(())
 }
 
-pub(crate) fn edit_of(alloc: Global, text: &str) -> Option<Edit> {
+/// Whether an object is there, and begins with those bytes.
+pub(crate) fn holds(alloc: Global, store: &mut MemStore, object: &str, text: &str) -> Option<Told> {
+    let name = name(alloc, object)?;
+    let mut out = [0; 1_000];
+    match store.get(&name, 0, &mut out) {
+        Got::Bytes(_) if out.starts_with(text.as_bytes()) => Some(("begins so", 0, 0)),
+        Got::Absent => Some(("absent", 0, 0)),
+        _ => None,
+    }
+}
+
+fn edit_of(alloc: Global, text: &str) -> Option<Edit> {
     let object = tree_of(alloc, text.as_bytes()).ok()?;
     edit_at(alloc, &object).ok()
 }
 
-// An offer for the table at `t`, of one action.
-pub(crate) fn offer(alloc: Global, read: Option<u64>, line: &str) -> Option<Offer> {
+fn one_action(alloc: Global, line: &str) -> Option<Actions> {
     let mut actions = Vec::new(alloc);
     actions
         .push(action_of_line(alloc, line.as_bytes()).ok()??)
         .ok()?;
-    let read = match read {
-        Some(read) => Some(Version::of(read)?),
-        None => None,
-    };
+    Some(Actions::of(actions))
+}
+
+// An offer for the table at `t`, of one action, by who read that version.
+fn offer(alloc: Global, read: u64, line: &str) -> Option<Offer> {
     Some(Offer {
         location: name(alloc, "t")?,
-        read,
+        read: Some(Version::of(read)?),
         reads: Reads::All,
-        actions: Actions::of(actions),
+        actions: one_action(alloc, line)?,
     })
+}
+
+// What a commit is told.
+fn commit_told(answer: &Result<u64, CommitRefusal>) -> Told {
+    match answer {
+        Ok(version) => ("version", *version, 0),
+        Err(CommitRefusal::Conflict(Conflict::RemoveAbsent { n })) => ("remove absent", *n, 0),
+        Err(CommitRefusal::Conflict(Conflict::ConcurrentAppend { version })) => {
+            ("concurrent append", *version, 0)
+        }
+        Err(CommitRefusal::Conflict(Conflict::ConcurrentAddAdd { version })) => {
+            ("concurrent add", *version, 0)
+        }
+        Err(CommitRefusal::Contended) => ("contended", 0, 0),
+        Err(CommitRefusal::Blocked { version }) => ("blocked", *version, 0),
+        Err(CommitRefusal::NotLoaded) => ("not loaded", 0, 0),
+        Err(_) => ("something else", 0, 0),
+    }
 }
 
 fn catalog_name(alloc: Global, text: &str) -> Option<CatalogName> {
@@ -122,108 +154,144 @@ impl Server {
         Some(Server { hub, pass, other })
     }
 
-    // The other caller calls from here on.
+    /// The other caller calls from here on.
     pub(crate) fn change_callers(&mut self) {
         swap(&mut self.pass, &mut self.other);
     }
 
-    // The caller who calls is told what the other has seen.
+    /// The caller who calls is told what the other has seen.
     pub(crate) fn meet(&mut self) {
         self.hub.meet(&mut self.pass, &mut self.other);
     }
 
+    fn made<R: Wait>(
+        &mut self,
+        rt: &R,
+        alloc: Global,
+        store: &mut MemStore,
+        edit: &Edit,
+    ) -> Result<u64, EditEnd> {
+        self.hub.edit(rt, alloc, &mut self.pass, store, edit)
+    }
+
+    /// The number of an edit's record, or that it is refused.
     pub(crate) fn edit<R: Wait>(
         &mut self,
         rt: &R,
         alloc: Global,
         store: &mut MemStore,
         text: &str,
-    ) -> Option<Result<u64, EditEnd>> {
+    ) -> Option<Told> {
         let edit = edit_of(alloc, text)?;
-        Some(self.hub.edit(rt, alloc, &mut self.pass, store, &edit))
+        match self.made(rt, alloc, store, &edit) {
+            Ok(number) => Some(("record", number, 0)),
+            Err(EditEnd::Refused(_)) => Some(("refused", 0, 0)),
+            Err(_) => None,
+        }
     }
 
+    fn committed<R: Wait>(
+        &mut self,
+        rt: &R,
+        alloc: Global,
+        store: &mut MemStore,
+        now: CommitTime,
+        offer: &Offer,
+    ) -> Result<u64, CommitRefusal> {
+        self.hub
+            .commit(rt, alloc, &mut self.pass, store, now, offer)
+    }
+
+    /// What a commit of one action is told, by who read that version.
     pub(crate) fn commit<R: Wait>(
         &mut self,
         rt: &R,
         alloc: Global,
         store: &mut MemStore,
-        offer: &Offer,
-    ) -> Option<Result<u64, CommitRefusal>> {
+        read: u64,
+        line: &str,
+    ) -> Option<Told> {
+        let offer = offer(alloc, read, line)?;
         let now = CommitTime::of(NOW)?;
-        Some(
-            self.hub
-                .commit(rt, alloc, &mut self.pass, store, now, offer),
-        )
+        Some(commit_told(&self.committed(rt, alloc, store, now, &offer)))
     }
 
+    /// How many commits are kept once those of others are looked for, and how many were found.
     pub(crate) fn refresh<R: Wait>(
         &mut self,
         rt: &R,
         alloc: Global,
         store: &mut MemStore,
-    ) -> Option<Refreshed> {
+    ) -> Option<Told> {
         let location = name(alloc, "t")?;
-        self.hub
+        match self
+            .hub
             .refresh(rt, alloc, &mut self.pass, store, &location)
-            .ok()
+        {
+            Ok(known) => Some(("kept", known.kept, u64::from(known.found))),
+            Err(_) => None,
+        }
     }
 
-    // Records that others stored are taken over: how many were found.
+    /// Records that others stored are taken over: how many were found.
     pub(crate) fn found<R: Wait>(
         &mut self,
         rt: &R,
         alloc: Global,
         store: &mut MemStore,
-    ) -> Option<u32> {
-        let known = self
-            .hub
-            .refresh_catalog(rt, alloc, &mut self.pass, store)
-            .ok()?;
-        Some(known.found)
+    ) -> Option<Told> {
+        match self.hub.refresh_catalog(rt, alloc, &mut self.pass, store) {
+            Ok(known) => Some(("found", u64::from(known.found), 0)),
+            Err(_) => None,
+        }
     }
 
-    pub(crate) fn locations<R: Wait>(&mut self, rt: &R, alloc: Global) -> Option<usize> {
-        Some(self.hub.locations(rt, alloc, &mut self.pass).ok()?.len())
+    /// How many tables' logs are loaded.
+    pub(crate) fn locations<R: Wait>(&mut self, rt: &R, alloc: Global) -> Option<Told> {
+        match self.hub.locations(rt, alloc, &mut self.pass) {
+            Ok(locations) => Some(("locations", locations.len() as u64, 0)),
+            Err(_) => None,
+        }
+    }
+
+    fn seen<R: Wait>(&mut self, rt: &R, alloc: Global, ask: &Ask) -> Option<Look> {
+        let mut steps: Steps<Work> = Steps::new();
+        self.hub
+            .look(rt, alloc, &mut self.pass, ask, &mut steps)
+            .ok()
     }
 
     // What the recipient is shown.
     fn look<R: Wait>(&mut self, rt: &R, alloc: Global, want: Want) -> Option<Found> {
         let who = recipient(alloc)?;
-        let mut steps: Steps<Work> = Steps::new();
-        let ask = Ask { who, want };
-        let look = self
-            .hub
-            .look(rt, alloc, &mut self.pass, &ask, &mut steps)
-            .ok()?;
-        Some(look.seen?.found)
+        Some(self.seen(rt, alloc, &Ask { who, want })?.seen?.found)
     }
 
-    // How many shares and tables it is shown.
-    pub(crate) fn names<R: Wait>(&mut self, rt: &R, alloc: Global) -> Option<(usize, usize)> {
+    /// How many shares and tables it is shown.
+    pub(crate) fn names<R: Wait>(&mut self, rt: &R, alloc: Global) -> Option<Told> {
         match self.look(rt, alloc, Want::Names)? {
-            Found::Names(names) => Some((names.shares().len(), names.tables().len())),
+            Found::Names(names) => {
+                Some((
+                    "names",
+                    names.shares().len() as u64,
+                    names.tables().len() as u64,
+                ))
+            }
             _ => None,
         }
     }
 
-    // The table's version and how many files it has.
-    pub(crate) fn files<R: Wait>(&mut self, rt: &R, alloc: Global) -> Option<(u64, u64)> {
-        self.files_at(rt, alloc, None)
-    }
-
-    // The same of a version, or of the latest.
-    pub(crate) fn files_at<R: Wait>(
+    /// The table's version and how many files it has, of a version or of the latest.
+    pub(crate) fn files<R: Wait>(
         &mut self,
         rt: &R,
         alloc: Global,
         version: Option<u64>,
-    ) -> Option<(u64, u64)> {
+    ) -> Option<Told> {
         let want = files_of(alloc, version)?;
-        let found = self.look(rt, alloc, want)?;
-        match &found {
+        match &self.look(rt, alloc, want)? {
             Found::Table(_, PartFound::Files(version, state)) => {
-                Some((*version, state.get().len()))
+                Some(("files", *version, state.get().len()))
             }
             _ => None,
         }
@@ -233,19 +301,16 @@ impl Server {
         self.hub.pin(rt, alloc, &mut self.pass, ask).ok()
     }
 
-    // The version of the state with which a look at the files of a version, or of the latest, would begin, and how many actions are
-    // left to replay.
+    /// The version of the state with which a look at the files of a version, or of the latest, would begin, and how many actions are
+    /// left to replay.
     pub(crate) fn left<R: Wait>(
         &mut self,
         rt: &R,
         alloc: Global,
         version: Option<u64>,
     ) -> Option<(Option<u64>, usize)> {
-        let ask = Ask {
-            who: recipient(alloc)?,
-            want: files_of(alloc, version)?,
-        };
-        let pinned = self.pinned(rt, alloc, &ask)?;
-        left_of(&pinned)
+        let who = recipient(alloc)?;
+        let want = files_of(alloc, version)?;
+        left_of(&self.pinned(rt, alloc, &Ask { who, want })?)
     }
 }

@@ -1,8 +1,8 @@
 // Texts of commits, read and printed.
-use crate::texts::spelt;
+use crate::texts::{action, commit, commit_word, spelt};
 use itoa::Buffer;
-use log_actions::{Actions, LineFault, action_of_line, text_len};
-use log_commit::{CommitFault, MOST_BYTES, NoCommit, bytes_of, commit_from, commit_of};
+use log_actions::{Actions, Commit, text_len};
+use log_commit::{MOST_BYTES, NoCommit, bytes_of, commit_from};
 use std::alloc::{AllocError, Global};
 
 const PROTOCOL: &str = "{\"protocol\":{\"minReaderVersion\":1,\"minWriterVersion\":2}}";
@@ -23,110 +23,90 @@ const TWO_KEYS: &str = "{\"txn\":{\"appId\":\"a\",\"version\":1},\"remove\":{\"p
 
 const OTHER: &str = "{\"other\":{}}";
 
-// Lines, and how many actions they are a commit of, or the first fault of their text.
-static READ: [([&str; 4], Result<usize, CommitFault>); 11] = [
-    ([PROTOCOL, META_DATA, " \t", OTHER], Ok(2)),
-    ([REMOVE, ADD_WITH_VECTOR, "", ADD_WITH_VECTOR], Ok(3)),
-    ([CDC, ADD, CDC, ""], Ok(3)),
-    (["", "", "", ""], Ok(0)),
-    ([ADD, REMOVE, "", ""], Err(CommitFault::PathTwice { n: 2 })),
-    (
-        ["", ADD, ADD_WITH_VECTOR, ADD],
-        Err(CommitFault::PathTwice { n: 4 }),
-    ),
-    (
-        [PROTOCOL, OTHER, PROTOCOL, "["],
-        Err(CommitFault::TwoProtocols { n: 3 }),
-    ),
-    (
-        [META_DATA, " ", META_DATA, ""],
-        Err(CommitFault::TwoMetaData { n: 3 }),
-    ),
-    (
-        [CDC, BAD_CDC, PROTOCOL, PROTOCOL],
-        Err(CommitFault::BadPath { n: 2 }),
-    ),
-    (
-        [ADD, "[", REMOVE, ""],
-        Err(CommitFault::Line {
-            n: 2,
-            fault: LineFault::NotJson,
-        }),
-    ),
-    (
-        [TWO_KEYS, "", "", ""],
-        Err(CommitFault::Line {
-            n: 1,
-            fault: LineFault::NotOneKey,
-        }),
-    ),
+// Lines, and how many actions they are a commit of, or the first fault of their text and its line.
+static READ: [([&str; 4], &str, u64); 11] = [
+    ([PROTOCOL, META_DATA, " \t", OTHER], "commit", 2),
+    ([REMOVE, ADD_WITH_VECTOR, "", ADD_WITH_VECTOR], "commit", 3),
+    ([CDC, ADD, CDC, ""], "commit", 3),
+    (["", "", "", ""], "commit", 0),
+    ([ADD, REMOVE, "", ""], "path twice", 2),
+    (["", ADD, ADD_WITH_VECTOR, ADD], "path twice", 4),
+    ([PROTOCOL, OTHER, PROTOCOL, "["], "two protocols", 3),
+    ([META_DATA, " ", META_DATA, ""], "two metaData", 3),
+    ([CDC, BAD_CDC, PROTOCOL, PROTOCOL], "bad path", 2),
+    ([ADD, "[", REMOVE, ""], "not JSON", 2),
+    ([TWO_KEYS, "", "", ""], "not one key", 1),
 ];
 
-// How many actions the text is a commit of, or its first fault, where there is memory.
-fn read(alloc: Global, bytes: &[u8]) -> Option<Result<usize, CommitFault>> {
-    match commit_of(alloc, bytes) {
-        Ok(commit) => Some(Ok(commit.actions().len())),
-        Err(NoCommit::Fault(fault)) => Some(Err(fault)),
-        Err(NoCommit::NoMemory) => None,
+fn told(answer: Result<Commit, NoCommit>) -> (&'static str, u64) {
+    match answer {
+        Ok(commit) => ("commit", commit.actions().len() as u64),
+        Err(told) => commit_word(told),
     }
+}
+
+fn is_told(told: (&str, u64), word: &str, number: u64) -> bool {
+    told.0 == word && told.1 == number
+}
+
+// What the text of these lines is read as, of which the second ends with CR LF.
+fn read(alloc: Global, lines: &[&str; 4]) -> Result<(&'static str, u64), AllocError> {
+    let [first, second, third, fourth] = *lines;
+    let mut text = String::new(alloc);
+    for piece in [first, "\n", second, "\r\n", third, "\n", fourth] {
+        text.push_str(piece)?;
+    }
+    Ok(told(commit(alloc, text.as_bytes())))
 }
 
 #[test]
 fn tells_the_first_fault(rt: HostRuntime) -> Result<(), AllocError> {
-    let alloc = rt.alloc();
-    for (lines, wanted) in &READ {
-        let [first, second, third, fourth] = *lines;
-        let mut text = String::new(alloc);
-        for piece in [first, "\n", second, "\r\n", third, "\n", fourth] {
-            text.push_str(piece)?;
-        }
-        assert!(rt; read(alloc, text.as_bytes()) == Some(*wanted));
+    for (lines, word, number) in &READ {
+        assert!(rt; is_told(read(rt.alloc(), lines)?, word, *number));
     }
-    let not_utf8 = CommitFault::Line {
-        n: 1,
-        fault: LineFault::NotUtf8,
-    };
-    assert!(rt; read(alloc, b"\xff\n") == Some(Err(not_utf8)));
-    let mut blanks = vec![in alloc; b' '; MOST_BYTES]?;
-    assert!(rt; read(alloc, &blanks) == Some(Ok(0)));
-    blanks.push(b' ')?;
-    assert!(rt; read(alloc, &blanks) == Some(Err(CommitFault::TooLarge)));
     Ok(())
 }
 
-// Lines of actions, and what a commit isn't made of them for.
-static MADE: [(&[&str], Option<CommitFault>); 7] = [
-    (&[], None),
-    (&[PROTOCOL, META_DATA, CDC, ADD], None),
-    (&[ADD_WITH_VECTOR, REMOVE, ADD_WITH_VECTOR], None),
-    (&[ADD, CDC, REMOVE], Some(CommitFault::PathTwice { n: 3 })),
-    (
-        &[PROTOCOL, PROTOCOL],
-        Some(CommitFault::TwoProtocols { n: 2 }),
-    ),
-    (
-        &[ADD, META_DATA, META_DATA],
-        Some(CommitFault::TwoMetaData { n: 3 }),
-    ),
-    (&[BAD_CDC, REMOVE], Some(CommitFault::BadPath { n: 1 })),
+#[test]
+fn tells_what_is_no_text_of_a_commit(rt: HostRuntime) -> Result<(), AllocError> {
+    let alloc = rt.alloc();
+    assert!(rt; is_told(told(commit(alloc, b"\xff\n")), "not UTF-8", 1));
+    let mut blanks = vec![in alloc; b' '; MOST_BYTES]?;
+    assert!(rt; is_told(told(commit(alloc, &blanks)), "commit", 0));
+    blanks.push(b' ')?;
+    assert!(rt; is_told(told(commit(alloc, &blanks)), "too large", 0));
+    Ok(())
+}
+
+// Lines of actions, and how many they are a commit of, or what a commit isn't made of them for.
+static MADE: [(&[&str], &str, u64); 7] = [
+    (&[], "commit", 0),
+    (&[PROTOCOL, META_DATA, CDC, ADD], "commit", 4),
+    (&[ADD_WITH_VECTOR, REMOVE, ADD_WITH_VECTOR], "commit", 3),
+    (&[ADD, CDC, REMOVE], "path twice", 3),
+    (&[PROTOCOL, PROTOCOL], "two protocols", 2),
+    (&[ADD, META_DATA, META_DATA], "two metaData", 3),
+    (&[BAD_CDC, REMOVE], "bad path", 1),
 ];
+
+fn actions_of(alloc: Global, lines: &[&str]) -> Result<Actions, AllocError> {
+    let mut actions = Vec::new(alloc);
+    for line in lines {
+        if let Ok(Some(action)) = action(alloc, line.as_bytes()) {
+            actions.push(action)?;
+        }
+    }
+    Ok(Actions::of(actions))
+}
+
+fn made(alloc: Global, lines: &[&str]) -> Result<(&'static str, u64), AllocError> {
+    Ok(told(commit_from(alloc, actions_of(alloc, lines)?)))
+}
 
 #[test]
 fn makes_commits_of_actions(rt: HostRuntime) -> Result<(), AllocError> {
-    let alloc = rt.alloc();
-    for (lines, fault) in &MADE {
-        let mut actions = Vec::new(alloc);
-        for line in *lines {
-            match action_of_line(alloc, line.as_bytes()) {
-                Ok(Some(action)) => actions.push(action)?,
-                _ => assert!(rt; false),
-            }
-        }
-        match commit_from(alloc, Actions::of(actions)) {
-            Ok(_) => assert!(rt; fault.is_none()),
-            Err(NoCommit::Fault(found)) => assert!(rt; Some(found) == *fault),
-            Err(NoCommit::NoMemory) => assert!(rt; false),
-        }
+    for (lines, word, number) in &MADE {
+        assert!(rt; is_told(made(rt.alloc(), lines)?, word, *number));
     }
     Ok(())
 }
@@ -141,17 +121,23 @@ const PRINTED: &str = "{\"commitInfo\":{\"timestamp\":5}}\n\
     {\"protocol\":{\"minReaderVersion\":1,\"minWriterVersion\":2}}\n\
     {\"remove\":{\"dataChange\":true,\"path\":\"a%20b\"}}\n";
 
+fn printed(alloc: Global, commit: &Commit) -> Result<Vec<u8>, AllocError> {
+    bytes_of(alloc, commit)
+}
+
+fn length(commit: &Commit) -> u64 {
+    text_len(commit)
+}
+
 // Whether the text is read as a commit of so many actions and printed so.
 fn is_printed(alloc: Global, text: &str, count: usize, wanted: &str) -> Result<bool, AllocError> {
-    let Ok(commit) = commit_of(alloc, text.as_bytes()) else {
+    let Ok(commit) = commit(alloc, text.as_bytes()) else {
         return Ok(false);
     };
-    let bytes = bytes_of(alloc, &commit)?;
-    Ok(
-        commit.actions().len() == count
-            && bytes.as_slice() == wanted.as_bytes()
-            && text_len(&commit) == wanted.len() as u64,
-    )
+    if commit.actions().len() != count || length(&commit) != wanted.len() as u64 {
+        return Ok(false);
+    }
+    Ok(printed(alloc, &commit)?.as_slice() == wanted.as_bytes())
 }
 
 // 2,000 adds, each line as it is printed.

@@ -1,8 +1,11 @@
 // Lines of commits, read as actions.
-use crate::texts::{action, spelt};
+use crate::texts::{action, line_words, spelt};
 use case_table::Field;
 use json_tree::Texts;
-use log_actions::{Action, FileSize, LineFault, NoAction, ProtocolVersion};
+use log_actions::{
+    Action, AddFile, CdcFile, FileSize, LineFault, MetaData, NoAction, Protocol, ProtocolVersion,
+    RemoveFile, Txn,
+};
 use std::alloc::{AllocError, Global};
 
 fn is_first(texts: &Option<Texts>, wanted: &str) -> bool {
@@ -15,69 +18,71 @@ fn is_first(texts: &Option<Texts>, wanted: &str) -> bool {
     }
 }
 
-// Whether the action is the protocol, the metaData or the txn of the lines below.
-fn is_said(action: &Action) -> bool {
-    match action {
-        Action::Protocol(protocol) => {
-            protocol.min_reader.get() == 3
-                && protocol.min_writer.get() == 7
-                && is_first(&protocol.reader_features, "deletionVectors")
-                && protocol.writer_features.is_none()
-        }
-        Action::MetaData(meta) => {
-            meta.id.as_str() == "7"
-                && meta.name.is_none()
-                && meta.format.provider.as_str() == "parquet"
-                && meta.format.options.items().is_empty()
-                && meta.schema.as_str() == "{}"
-                && meta.columns.items().len() == 1
-                && meta.configuration.items().len() == 1
-                && meta.created == Some(5)
-        }
-        Action::Txn(txn) => {
-            txn.app.as_str() == "app" && txn.version == -2 && txn.updated == Some(6)
-        }
-        _ => false,
+// Whether the parts of an action are those of the lines below.
+fn is_protocol(protocol: &Protocol) -> bool {
+    protocol.min_reader.get() == 3
+        && protocol.min_writer.get() == 7
+        && is_first(&protocol.reader_features, "deletionVectors")
+        && protocol.writer_features.is_none()
+}
+
+fn has_format(meta: &MetaData) -> bool {
+    meta.format.provider.as_str() == "parquet"
+        && meta.format.options.items().is_empty()
+        && meta.schema.as_str() == "{}"
+}
+
+fn is_meta(meta: &MetaData) -> bool {
+    meta.id.as_str() == "7"
+        && meta.name.is_none()
+        && meta.columns.items().len() == 1
+        && meta.configuration.items().len() == 1
+        && matches!(meta.created, Some(5))
+}
+
+fn has_rest(add: &AddFile) -> bool {
+    !add.data_change && add.stats.is_some() && add.tags.is_some() && !add.vector
+}
+
+fn is_add(add: &AddFile) -> bool {
+    add.path.as_str() == "a"
+        && add.values.items().len() == 1
+        && add.size.get() == 3
+        && add.modified == 9
+}
+
+fn is_remove(remove: &RemoveFile) -> bool {
+    remove.path.as_str() == "a"
+        && matches!(remove.deleted, Some(8))
+        && remove.data_change
+        && remove.values.is_none()
+        && remove.vector
+}
+
+fn has_size(remove: &RemoveFile) -> bool {
+    match remove.size {
+        Some(size) => size.get() == 3,
+        None => false,
     }
 }
 
-// Whether the action is one of the files of the lines below.
-fn is_file(action: &Action) -> bool {
-    match action {
-        Action::Add(add) => {
-            add.path.as_str() == "a"
-                && add.values.items().len() == 1
-                && add.size.get() == 3
-                && add.modified == 9
-                && !add.data_change
-                && add.stats.is_some()
-                && add.tags.is_some()
-                && !add.vector
-        }
-        Action::Remove(remove) => {
-            remove.path.as_str() == "a"
-                && remove.deleted == Some(8)
-                && remove.data_change
-                && remove.values.is_none()
-                && remove.size == FileSize::of(3)
-                && remove.vector
-        }
-        Action::Cdc(cdc) => {
-            cdc.path.as_str() == "c" && cdc.values.items().is_empty() && cdc.size.get() == 4
-        }
-        _ => false,
-    }
+fn is_cdc(cdc: &CdcFile) -> bool {
+    cdc.path.as_str() == "c" && cdc.values.items().is_empty() && cdc.size.get() == 4
+}
+
+fn is_txn(txn: &Txn) -> bool {
+    txn.app.as_str() == "app" && txn.version == -2 && matches!(txn.updated, Some(6))
 }
 
 // Which of the actions below it is, 0 where it is another.
 fn kind_of(action: &Action) -> u8 {
     match action {
-        Action::Protocol(_) if is_said(action) => 1,
-        Action::MetaData(_) if is_said(action) => 2,
-        Action::Add(_) if is_file(action) => 3,
-        Action::Remove(_) if is_file(action) => 4,
-        Action::Cdc(_) if is_file(action) => 5,
-        Action::Txn(_) if is_said(action) => 6,
+        Action::Protocol(protocol) if is_protocol(protocol) => 1,
+        Action::MetaData(meta) if has_format(meta) && is_meta(meta) => 2,
+        Action::Add(add) if is_add(add) && has_rest(add) => 3,
+        Action::Remove(remove) if is_remove(remove) && has_size(remove) => 4,
+        Action::Cdc(cdc) if is_cdc(cdc) => 5,
+        Action::Txn(txn) if is_txn(txn) => 6,
         Action::CommitInfo(info) => match info.timestamp {
             Some(time) if time.get() == 253_402_300_799_999 => 7,
             Some(_) => 0,
@@ -149,60 +154,41 @@ fn reads_each_kind(rt: HostRuntime) {
     }
 }
 
-static FAULTS: [(&[u8], LineFault); 14] = [
-    (b"\xff", LineFault::NotUtf8),
-    (b"{\"add\":", LineFault::NotJson),
-    (b"[]", LineFault::NotOneKey),
-    (b"{\"add\":null}", LineFault::NotOneKey),
-    (b"{\"txn\":{},\"x\":0}", LineFault::NotOneKey),
-    (b"{\"protocol\":7}", LineFault::NotObject),
+// Lines, and their first faults: the action and the field where it is one of a field.
+static FAULTS: [(&[u8], &str, &str); 14] = [
+    (b"\xff", "line", "not UTF-8"),
+    (b"{\"add\":", "line", "not JSON"),
+    (b"[]", "line", "not one key"),
+    (b"{\"add\":null}", "line", "not one key"),
+    (b"{\"txn\":{},\"x\":0}", "line", "not one key"),
+    (b"{\"protocol\":7}", "line", "not an object"),
     (
         b"{\"protocol\":{\"minReaderVersion\":2147483648,\"minWriterVersion\":0}}",
-        LineFault::Field {
-            which: Field::ProtocolMinReaderVersion,
-        },
+        "protocol",
+        "minReaderVersion",
     ),
     (
         b"{\"protocol\":{\"minReaderVersion\":1,\"minWriterVersion\":2,\"readerFeatures\":[1]}}",
-        LineFault::Field {
-            which: Field::ProtocolReaderFeatures,
-        },
+        "protocol",
+        "readerFeatures",
     ),
     (
         b"{\"metaData\":{\"id\":\"7\",\"format\":{\"provider\":1}}}",
-        LineFault::Field {
-            which: Field::MetaDataFormat,
-        },
+        "metaData",
+        "format",
     ),
-    (
-        b"{\"add\":{\"path\":\"a\",\"size\":1e2}}",
-        LineFault::Field {
-            which: Field::AddSize,
-        },
-    ),
-    (
-        b"{\"add\":{\"path\":\"a\",\"size\":-1}}",
-        LineFault::Field {
-            which: Field::AddSize,
-        },
-    ),
+    (b"{\"add\":{\"path\":\"a\",\"size\":1e2}}", "add", "size"),
+    (b"{\"add\":{\"path\":\"a\",\"size\":-1}}", "add", "size"),
     (
         b"{\"remove\":{\"path\":\"a\",\"dataChange\":0,\"size\":-1}}",
-        LineFault::Field {
-            which: Field::RemoveDataChange,
-        },
+        "remove",
+        "dataChange",
     ),
-    (
-        b"{\"cdc\":{\"path\":\"c\"}}",
-        LineFault::Field {
-            which: Field::CdcSize,
-        },
-    ),
+    (b"{\"cdc\":{\"path\":\"c\"}}", "cdc", "size"),
     (
         b"{\"txn\":{\"appId\":\"a\",\"version\":-0}}",
-        LineFault::Field {
-            which: Field::TxnVersion,
-        },
+        "txn",
+        "version",
     ),
 ];
 
@@ -229,25 +215,40 @@ fn line_without(alloc: Global, action: &str, field: &str) -> Result<String, Allo
     spelt(alloc, &line, field, 1, "\":[[]]}}")
 }
 
-fn fault_of(alloc: Global, line: &[u8]) -> Option<LineFault> {
+fn fault_of(alloc: Global, line: &[u8]) -> (&'static str, &'static str) {
     match &action(alloc, line) {
-        Err(NoAction::Fault(fault)) => Some(*fault),
-        Ok(_) | Err(NoAction::NoMemory) => None,
+        Err(NoAction::Fault(fault)) => line_words(*fault),
+        Err(NoAction::NoMemory) => ("none", "no memory"),
+        Ok(_) => ("none", "no fault"),
+    }
+}
+
+fn has_fault(alloc: Global, line: &[u8], action: &str, field: &str) -> bool {
+    let (of, fault) = fault_of(alloc, line);
+    of == action && fault == field
+}
+
+#[test]
+fn tells_the_first_fault_of_a_line(rt: HostRuntime) {
+    for (line, action, field) in &FAULTS {
+        assert!(rt; has_fault(rt.alloc(), line, action, field));
     }
 }
 
 #[test]
-fn tells_the_first_fault_of_a_line(rt: HostRuntime) -> Result<(), AllocError> {
-    for (line, fault) in &FAULTS {
-        assert!(rt; fault_of(rt.alloc(), line) == Some(*fault));
-    }
+fn tells_the_field_that_is_wrong(rt: HostRuntime) -> Result<(), AllocError> {
     for field in &Field::ALL {
-        let which = *field;
-        let line = line_without(rt.alloc(), which.kind().word(), which.name())?;
-        assert!(rt; fault_of(rt.alloc(), line.as_bytes()) == Some(LineFault::Field { which }));
+        let (action, name) = line_words(LineFault::Field { which: *field });
+        let line = line_without(rt.alloc(), action, name)?;
+        assert!(rt; has_fault(rt.alloc(), line.as_bytes(), action, name));
     }
+    Ok(())
+}
+
+#[test]
+fn numbers_have_bounds(rt: HostRuntime) {
     assert!(rt; ProtocolVersion::of(0x8000_0000).is_none());
     assert!(rt; ProtocolVersion::of(0x7fff_ffff).is_some());
-    assert!(rt; FileSize::of(1 << 63).is_none() && FileSize::of((1 << 63) - 1).is_some());
-    Ok(())
+    assert!(rt; FileSize::of(1 << 63).is_none());
+    assert!(rt; FileSize::of((1 << 63) - 1).is_some());
 }

@@ -29,16 +29,20 @@ fn pairs(alloc: Global) -> Result<Option<Pairs>, AllocError> {
     Ok(Pairs::of(items))
 }
 
+fn filled_front<W: Tokens>(line: &mut W, list: &Texts) -> Result<(), W::Error> {
+    line.begin_object()?;
+    count_field(line, "count", u64::MAX)?;
+    flag_field(line, "flag", false)?;
+    texts_field(line, "list", list)
+}
+
 fn filled<W: Tokens>(
     line: &mut W,
     list: &Texts,
     pairs: &Pairs,
     text: &Text,
 ) -> Result<(), W::Error> {
-    line.begin_object()?;
-    count_field(line, "count", u64::MAX)?;
-    flag_field(line, "flag", false)?;
-    texts_field(line, "list", list)?;
+    filled_front(line, list)?;
     pairs_field(line, "pairs", pairs)?;
     text_field(line, "text", text)?;
     whole_field(line, "whole", i64::MIN)?;
@@ -56,11 +60,15 @@ struct Values<'a> {
     whole: Option<i64>,
 }
 
-fn optional<W: Tokens>(line: &mut W, of: &Values) -> Result<(), W::Error> {
+fn optional_front<W: Tokens>(line: &mut W, of: &Values) -> Result<(), W::Error> {
     line.begin_object()?;
     optional_count_field(line, "count", of.count)?;
     optional_texts_field(line, "list", of.list)?;
-    optional_pairs_field(line, "pairs", of.pairs)?;
+    optional_pairs_field(line, "pairs", of.pairs)
+}
+
+fn optional<W: Tokens>(line: &mut W, of: &Values) -> Result<(), W::Error> {
+    optional_front(line, of)?;
     nonempty_pairs_field(line, "some", of.some)?;
     optional_text_field(line, "text", of.text)?;
     optional_whole_field(line, "whole", of.whole)?;
@@ -108,22 +116,34 @@ fn much(alloc: Global) -> Result<String, AllocError> {
     )
 }
 
+fn texts_of(alloc: Global, texts: &[&str]) -> Result<Texts, AllocError> {
+    let mut items = Vec::new(alloc);
+    for of in texts {
+        items.push(text(alloc, of)?)?;
+    }
+    Ok(Texts::of(items))
+}
+
+fn short_is_printed(alloc: Global, pairs: &Pairs) -> Result<bool, AllocError> {
+    let list = texts_of(alloc, &["", "b"])?;
+    let short = text(alloc, "\"\\\n\u{1}/\u{e9}")?;
+    fills(alloc, &list, pairs, &short, FILLED)
+}
+
+fn long_is_printed(alloc: Global, pairs: &Pairs) -> Result<bool, AllocError> {
+    let list = texts_of(alloc, &["c"; 200])?;
+    let long = Text::of(spelt(alloc, "", "a", 1 << 20, "")?);
+    fills(alloc, &list, pairs, &long, &much(alloc)?)
+}
+
 #[test]
 fn prints_each_kind(rt: HostRuntime) -> Result<(), AllocError> {
-    let alloc = rt.alloc();
-    let Some(of) = pairs(alloc)? else {
+    let Some(of) = pairs(rt.alloc())? else {
         assert!(rt; false);
         return Ok(());
     };
-    let list = Texts::of(vec![in alloc; text(alloc, "")?, text(alloc, "b")?]?);
-    let short = text(alloc, "\"\\\n\u{1}/\u{e9}")?;
-    assert!(rt; fills(alloc, &list, &of, &short, FILLED)?);
-    let mut items = Vec::new(alloc);
-    for _ in 0..200 {
-        items.push(text(alloc, "c")?)?;
-    }
-    let long = Text::of(spelt(alloc, "", "a", 1 << 20, "")?);
-    assert!(rt; fills(alloc, &Texts::of(items), &of, &long, &much(alloc)?)?);
+    assert!(rt; short_is_printed(rt.alloc(), &of)?);
+    assert!(rt; long_is_printed(rt.alloc(), &of)?);
     Ok(())
 }
 
@@ -185,15 +205,20 @@ static CUTS: [(&str, &str, Option<&str>); 6] = [
     ("", "", None),
 ];
 
+// Whether the text is cut so.
+fn is_cut(text: &[u8], line: &[u8], rest: Option<&str>) -> bool {
+    let (first, left) = cut(text);
+    first == line
+        && match (left, rest) {
+            (Some(left), Some(rest)) => left == rest.as_bytes(),
+            (None, None) => true,
+            _ => false,
+        }
+}
+
 #[test]
 fn cuts_at_the_first_line_feed(rt: HostRuntime) {
     for (text, line, rest) in &CUTS {
-        let (first, left) = cut(text.as_bytes());
-        assert!(rt; first == line.as_bytes());
-        match (left, rest) {
-            (Some(left), Some(rest)) => assert!(rt; left == rest.as_bytes()),
-            (None, None) => {}
-            _ => assert!(rt; false),
-        }
+        assert!(rt; is_cut(text.as_bytes(), line.as_bytes(), *rest));
     }
 }

@@ -1,5 +1,6 @@
 // Paths of files in a log, and the names of their objects.
 use crate::texts::{name, spelt, text};
+use edge_core::Name;
 use log_actions::{is_good_path, path_name};
 use std::alloc::{AllocError, Global};
 
@@ -24,6 +25,10 @@ static PATHS: [(&str, Option<&str>); 17] = [
     ("a/", None),
 ];
 
+fn object_name(alloc: Global, location: &Name, path: &str) -> Result<Option<Name>, AllocError> {
+    path_name(alloc, location, &text(alloc, path)?)
+}
+
 // Whether the path is stored at that name below the location, or nowhere.
 fn is_stored(
     alloc: Global,
@@ -34,11 +39,15 @@ fn is_stored(
     let Some(location) = name(alloc, location)? else {
         return Ok(false);
     };
-    match (path_name(alloc, &location, &text(alloc, path)?)?, wanted) {
+    match (object_name(alloc, &location, path)?, wanted) {
         (Some(found), Some(wanted)) => Ok(found.as_str() == wanted),
         (None, None) => Ok(true),
         _ => Ok(false),
     }
+}
+
+fn is_good(alloc: Global, path: &str) -> Result<bool, AllocError> {
+    is_good_path(alloc, &text(alloc, path)?)
 }
 
 #[test]
@@ -46,7 +55,7 @@ fn decodes_good_paths_alone(rt: HostRuntime) -> Result<(), AllocError> {
     let alloc = rt.alloc();
     for (path, wanted) in &PATHS {
         assert!(rt; is_stored(alloc, "t1", path, *wanted)?);
-        assert!(rt; is_good_path(alloc, &text(alloc, path)?)? == wanted.is_some());
+        assert!(rt; is_good(alloc, path)? == wanted.is_some());
     }
     Ok(())
 }
@@ -60,23 +69,27 @@ static LENGTHS: [(usize, usize, bool); 5] = [
     (1023, 1, false),
 ];
 
+// Whether a path of so many bytes has its name below a location of so many, or none.
+fn is_bounded(
+    alloc: Global,
+    location: usize,
+    path: usize,
+    has_name: bool,
+) -> Result<bool, AllocError> {
+    let location = spelt(alloc, "", "0", location, "")?;
+    let path = spelt(alloc, "", "0", path, "")?;
+    let whole = spelt(alloc, &location, "/", 1, &path)?;
+    let wanted = if has_name { Some(whole.as_str()) } else { None };
+    is_stored(alloc, &location, &path, wanted)
+}
+
 #[test]
 fn bounds_the_length(rt: HostRuntime) -> Result<(), AllocError> {
     let alloc = rt.alloc();
     for (location, path, has_name) in &LENGTHS {
-        let location = spelt(alloc, "", "0", *location, "")?;
-        let path = spelt(alloc, "", "0", *path, "")?;
-        let whole = spelt(alloc, &location, "/", 1, &path)?;
-        let wanted = if *has_name {
-            Some(whole.as_str())
-        } else {
-            None
-        };
-        assert!(rt; is_stored(alloc, &location, &path, wanted)?);
+        assert!(rt; is_bounded(alloc, *location, *path, *has_name)?);
     }
-    for (length, is_good) in [(767, true), (768, false)] {
-        let path = spelt(alloc, "", "0", length, "")?;
-        assert!(rt; is_good_path(alloc, &text(alloc, &path)?)? == is_good);
-    }
+    assert!(rt; is_good(alloc, &spelt(alloc, "", "0", 767, "")?)?);
+    assert!(rt; !is_good(alloc, &spelt(alloc, "", "0", 768, "")?)?);
     Ok(())
 }

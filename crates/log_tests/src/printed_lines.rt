@@ -1,5 +1,6 @@
 // Lines that were read, printed: the form of each kind, written by hand.
 use crate::texts::{action, spelt};
+use json_tree::Text;
 use log_actions::{Action, line_len, line_of_action};
 use std::alloc::{AllocError, Global};
 
@@ -64,9 +65,16 @@ static PRINTED: [(&str, &str); 11] = [
     ),
 ];
 
+fn line(alloc: Global, action: &Action) -> Result<Text, AllocError> {
+    line_of_action(alloc, action)
+}
+
+fn length(action: &Action) -> u64 {
+    line_len(action)
+}
+
 fn is_text_of(alloc: Global, action: &Action, wanted: &str) -> Result<bool, AllocError> {
-    let text = line_of_action(alloc, action)?;
-    Ok(text.as_str() == wanted && line_len(action) == wanted.len() as u64)
+    Ok(line(alloc, action)?.as_str() == wanted && length(action) == wanted.len() as u64)
 }
 
 // Whether the line is read and printed so, and as long as it is told to be.
@@ -77,30 +85,41 @@ fn is_printed(alloc: Global, line: &str, wanted: &str) -> Result<bool, AllocErro
     }
 }
 
-// What is printed is printed again when it is read: an add of long statistics and a metaData of many columns too.
-#[test]
-fn prints_each_kind(rt: HostRuntime) -> Result<(), AllocError> {
-    let alloc = rt.alloc();
-    for (line, wanted) in &PRINTED {
-        assert!(rt; is_printed(alloc, line, wanted)? && is_printed(alloc, wanted, wanted)?);
-    }
-    let long = spelt(
+// An add of long statistics, as it is printed.
+fn long_add(alloc: Global) -> Result<String, AllocError> {
+    spelt(
         alloc,
         "{\"add\":{\"dataChange\":true,\"modificationTime\":0,\"partitionValues\":{},\
             \"path\":\"a\",\"size\":0,\"stats\":\"",
         "s",
         1 << 20,
         "\"}}",
-    )?;
-    assert!(rt; is_printed(alloc, &long, &long)?);
-    let wide = spelt(
+    )
+}
+
+// A metaData of many columns, as it is printed.
+fn wide_meta(alloc: Global) -> Result<String, AllocError> {
+    spelt(
         alloc,
         "{\"metaData\":{\"configuration\":{},\"format\":{\"options\":{},\"provider\":\"parquet\"},\
             \"id\":\"7\",\"partitionColumns\":[\"c\"",
         ",\"c\"",
         199,
         "],\"schemaString\":\"{}\"}}",
-    )?;
+    )
+}
+
+// What is printed is printed again when it is read.
+#[test]
+fn prints_each_kind(rt: HostRuntime) -> Result<(), AllocError> {
+    let alloc = rt.alloc();
+    for (line, wanted) in &PRINTED {
+        assert!(rt; is_printed(alloc, line, wanted)?);
+        assert!(rt; is_printed(alloc, wanted, wanted)?);
+    }
+    let long = long_add(alloc)?;
+    assert!(rt; is_printed(alloc, &long, &long)?);
+    let wide = wide_meta(alloc)?;
     assert!(rt; is_printed(alloc, &wide, &wide)?);
     Ok(())
 }

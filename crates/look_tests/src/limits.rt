@@ -1,12 +1,10 @@
 // A catalogue with as many logs as it may have.
-ghost use Rattle.std.specs.Prelude.{◌≡◌, false, All};
-
-use crate::made::{edit, empty_store, look, stock_record};
+use crate::made::{Place, empty_store, stock_record};
 use edge_core::MemStore;
 use itoa::Buffer;
 use share_book::{Found, Want};
 use share_catalog::EditRefusal;
-use share_hub::{EditEnd, Hub, HubPass, OpenRefusal};
+use share_hub::EditEnd;
 use std::alloc::Global;
 use std::sync::Wait;
 
@@ -50,13 +48,32 @@ fn grant(alloc: Global, number: u64) -> Option<String> {
     )
 }
 
-// Shares that the recipient is granted, each with a table at a location of its own.
+// A share that the recipient is granted, with a table at a location of its own.
+fn stock_share(alloc: Global, store: &mut MemStore, number: u64) -> Option<()> {
+    let record = number.saturating_mul(3);
+    stock_record(
+        alloc,
+        store,
+        record.saturating_add(1),
+        &share(alloc, number)?,
+    )?;
+    stock_record(
+        alloc,
+        store,
+        record.saturating_add(2),
+        &bind(alloc, number, number)?,
+    )?;
+    stock_record(
+        alloc,
+        store,
+        record.saturating_add(3),
+        &grant(alloc, number)?,
+    )
+}
+
 fn stock_shares(alloc: Global, store: &mut MemStore) -> Option<()> {
     for number in 0..LOGS {
-        let record = 1 + 3 * number;
-        stock_record(alloc, store, record, &share(alloc, number)?)?;
-        stock_record(alloc, store, record + 1, &bind(alloc, number, number)?)?;
-        stock_record(alloc, store, record + 2, &grant(alloc, number)?)?;
+        stock_share(alloc, store, number)?;
     }
     Some(())
 }
@@ -75,80 +92,37 @@ fn limit_of(end: &Result<u64, EditEnd>) -> Option<u32> {
     }
 }
 
-fn limit<R: Wait>(
-    rt: &R,
-    alloc: Global,
-    hub: &Hub,
-    pass: &mut HubPass,
-    store: &mut MemStore,
-    text: &str,
-) -> Option<u32>
-    requires { (pass.old.cell ≡ hub.now) × (pass.old.holds ≡ false) }
-    ensures { (pass.new.cell ≡ hub.now) × (pass.new.holds ≡ false) }
-{
-    limit_of(&edit(rt, alloc, hub, pass, store, text)?)
+// At which limit an edit is refused.
+fn limit<R: Wait>(rt: &R, alloc: Global, place: &mut Place, text: &str) -> Option<u32> {
+    limit_of(&place.edit(rt, alloc, text)?)
+}
+
+// The number of an edit's record.
+fn record<R: Wait>(rt: &R, alloc: Global, place: &mut Place, text: &str) -> Option<u64> {
+    place.edit(rt, alloc, text)?.ok()
 }
 
 // A table at a 33rd location is refused, but not another at the first.
-fn is_full<R: Wait>(
-    rt: &R,
-    alloc: Global,
-    hub: &Hub,
-    pass: &mut HubPass,
-    store: &mut MemStore,
-) -> Option<bool>
-    requires { (pass.old.cell ≡ hub.now) × (pass.old.holds ≡ false) }
-    ensures { (pass.new.cell ≡ hub.now) × (pass.new.holds ≡ false) }
-{
-    let share = edit(rt, alloc, hub, pass, store, &share(alloc, LOGS)?)?;
-    let log = limit(rt, alloc, hub, pass, store, &bind(alloc, LOGS, LOGS)?)?;
-    let table = edit(rt, alloc, hub, pass, store, &bind(alloc, LOGS, 0)?)?;
-    Some(log == 32 && matches!((share, table), (Ok(97), Ok(98))))
+fn is_full<R: Wait>(rt: &R, alloc: Global, place: &mut Place) -> Option<bool> {
+    let share = record(rt, alloc, place, &share(alloc, LOGS)?)?;
+    let log = limit(rt, alloc, place, &bind(alloc, LOGS, LOGS)?)?;
+    let table = record(rt, alloc, place, &bind(alloc, LOGS, 0)?)?;
+    Some((share, log, table) == (97, 32, 98))
 }
 
-// How many shares and tables the recipient sees, and how many logs there are.
-fn seen<R: Wait>(
-    rt: &R,
-    alloc: Global,
-    hub: &Hub,
-    pass: &mut HubPass,
-) -> Option<(usize, usize, usize)>
-    requires { (pass.old.cell ≡ hub.now) × (pass.old.holds ≡ false) }
-    ensures { (pass.new.cell ≡ hub.now) × (pass.new.holds ≡ false) }
-{
-    let logs = hub.locations(rt, alloc, pass).ok()?.len();
-    match look(rt, alloc, hub, pass, "r", Want::Names)? {
-        Found::Names(names) => Some((names.shares().len(), names.tables().len(), logs)),
+// How many shares and tables the recipient sees.
+fn seen<R: Wait>(rt: &R, alloc: Global, place: &mut Place) -> Option<(usize, usize)> {
+    match place.look(rt, alloc, Want::Names)? {
+        Found::Names(names) => Some((names.shares().len(), names.tables().len())),
         _ => None,
     }
 }
 
-fn filled<R: Wait>(
-    rt: &R,
-    alloc: Global,
-    hub: &Hub,
-    passes: &mut [HubPass],
-    store: &mut MemStore,
-) -> Option<bool>
-    requires { All (λ p. (p.cell ≡ hub.now) × (p.holds ≡ false)) passes.old }
-{
-    let (pass, _) = passes.split_first_mut()?;
-    let full = is_full(rt, alloc, hub, pass, store)?;
-    Some(full && matches!(seen(rt, alloc, hub, pass)?, (32, 32, 32)))
-}
-
-fn opened<R: Wait>(
-    rt: &R,
-    alloc: Global,
-    store: &mut MemStore,
-) -> Result<Option<bool>, OpenRefusal> {
-    let (hub, mut passes) = Hub::open(alloc, store, 1)?;
-    Ok(filled(rt, alloc, &hub, passes.as_mut_slice(), store))
-}
-
 fn whole<R: Wait>(rt: &R, alloc: Global) -> Option<bool> {
-    let mut store = stocked(alloc)?;
-    opened(rt, alloc, &mut store).ok()?
+    let mut place = Place::open(alloc, stocked(alloc)?)?;
+    let full = is_full(rt, alloc, &mut place)?;
+    let seen = seen(rt, alloc, &mut place)?;
+    Some(full && seen == (32, 32) && place.logs(rt, alloc)? == 32)
 }
 
 #[test]

@@ -1,10 +1,10 @@
-// What is stored, and asked of a server.
+// What is stored, and asked of a server. What a call needs is kept in the type, so that the tests' functions have no clauses.
 ghost use Rattle.std.specs.Prelude.{◌≡◌, false};
 
 use catalog_log::{bytes_of_edit, edit_at, record_name};
 use edge_core::{MemStore, Name, Stored};
 use json_tree::{Text, tree_of};
-use share_book::{Ask, Found, Want, Who};
+use share_book::{Ask, Found, Look, Want, Who};
 use share_catalog::{CatalogName, Edit, TableName};
 use share_hub::{EditEnd, Hub, HubPass};
 use std::alloc::Global;
@@ -64,37 +64,57 @@ pub(crate) fn stock(alloc: Global, store: &mut MemStore, object: &str, text: &st
     Some(())
 }
 
-/// How an edit ends: the record's number, or why not.
-pub(crate) fn edit<R: Wait>(
-    rt: &R,
-    alloc: Global,
-    hub: &Hub,
-    pass: &mut HubPass,
-    store: &mut MemStore,
-    text: &str,
-) -> Option<Result<u64, EditEnd>>
-    requires { (pass.old.cell ≡ hub.now) × (pass.old.holds ≡ false) }
-    ensures { (pass.new.cell ≡ hub.now) × (pass.new.holds ≡ false) }
-{
-    let edit = edit_of(alloc, text)?;
-    Some(hub.edit(rt, alloc, pass, store, &edit))
+/// A server with one caller, and its store.
+#[derive(Drop)]
+pub(crate) struct Place {
+    hub: Hub,
+    pass: HubPass,
+    store: MemStore,
+    ghost idle: { (pass.cell ≡ hub) × (pass.holds ≡ false) },
 }
 
-/// What a recipient is shown.
-pub(crate) fn look<R: Wait>(
-    rt: &R,
-    alloc: Global,
-    hub: &Hub,
-    pass: &mut HubPass,
-    recipient: &str,
-    want: Want,
-) -> Option<Found>
-    requires { (pass.old.cell ≡ hub.now) × (pass.old.holds ≡ false) }
-    ensures { (pass.new.cell ≡ hub.now) × (pass.new.holds ≡ false) }
-{
-    let who = Who::Named(Text::of(String::from_str(alloc, recipient).ok()?));
-    let mut steps: Steps<Work> = Steps::new();
-    let ask = Ask { who, want };
-    let look = hub.look(rt, alloc, pass, &ask, &mut steps).ok()?;
-    Some(look.seen?.found)
+impl Place {
+    /// A server over what is stored.
+    pub(crate) fn open(alloc: Global, mut store: MemStore) -> Option<Place> {
+        let (hub, mut passes) = Hub::open(alloc, &mut store, 1).ok()?;
+        let pass = passes.pop()?;
+        Some(Place { hub, pass, store })
+    }
+
+    fn made<R: Wait>(&mut self, rt: &R, alloc: Global, edit: &Edit) -> Result<u64, EditEnd> {
+        self.hub
+            .edit(rt, alloc, &mut self.pass, &mut self.store, edit)
+    }
+
+    /// How an edit ends: the record's number, or why not.
+    pub(crate) fn edit<R: Wait>(
+        &mut self,
+        rt: &R,
+        alloc: Global,
+        text: &str,
+    ) -> Option<Result<u64, EditEnd>> {
+        let edit = edit_of(alloc, text)?;
+        Some(self.made(rt, alloc, &edit))
+    }
+
+    fn seen<R: Wait>(&mut self, rt: &R, alloc: Global, ask: &Ask) -> Option<Look> {
+        let mut steps: Steps<Work> = Steps::new();
+        self.hub
+            .look(rt, alloc, &mut self.pass, ask, &mut steps)
+            .ok()
+    }
+
+    /// What the recipient `r` is shown.
+    pub(crate) fn look<R: Wait>(&mut self, rt: &R, alloc: Global, want: Want) -> Option<Found> {
+        let who = Who::Named(Text::of(String::from_str(alloc, "r").ok()?));
+        Some(self.seen(rt, alloc, &Ask { who, want })?.seen?.found)
+    }
+
+    /// How many logs are loaded.
+    pub(crate) fn logs<R: Wait>(&mut self, rt: &R, alloc: Global) -> Option<usize> {
+        match self.hub.locations(rt, alloc, &mut self.pass) {
+            Ok(locations) => Some(locations.len()),
+            Err(_) => None,
+        }
+    }
 }

@@ -1,13 +1,9 @@
 // What is refused of tables' logs, each refusal as it follows from the log.
-ghost use Rattle.std.specs.Prelude.{◌≡◌, false, All};
-
-use crate::made::{empty_store, look, stock, stock_record, table_name};
+use crate::made::{Place, empty_store, stock, stock_record, table_name};
 use edge_core::MemStore;
 use json_tree::Version;
 use log_replay::Bound;
 use share_book::{Found, Part, PartFound, TableRefusal, Want};
-use share_catalog::TableName;
-use share_hub::{Hub, HubPass, OpenRefusal};
 use std::alloc::Global;
 use std::sync::Wait;
 
@@ -69,7 +65,9 @@ const AHEAD: Told = Told::Refused(TableRefusal::Ahead);
 const FIRST: Bound = Bound::Version(0);
 
 // A share, a table of it, what is asked of that, and what is told.
-static ROWS: [(&str, &str, Asked, Told); 19] = [
+type Row = (&'static str, &'static str, Asked, Told);
+
+static ROWS: [Row; 19] = [
     ("s", "other", Asked::Head(Bound::Latest), Told::NoTable),
     ("hidden", "kept", Asked::Head(Bound::Latest), Told::NoTable),
     ("s", "latest", Asked::Files(Bound::Latest), Told::Shown),
@@ -132,62 +130,43 @@ fn told_by(found: &Found) -> Told {
     }
 }
 
-fn answer<R: Wait>(
-    rt: &R,
-    alloc: Global,
-    hub: &Hub,
-    pass: &mut HubPass,
-    table: TableName,
-    asked: &Asked,
-) -> Option<Told>
-    requires { (pass.old.cell ≡ hub.now) × (pass.old.holds ≡ false) }
-    ensures { (pass.new.cell ≡ hub.now) × (pass.new.holds ≡ false) }
-{
+fn answer<R: Wait>(rt: &R, alloc: Global, place: &mut Place, row: &Row) -> Option<Told> {
+    let (share, table, asked, _) = row;
+    let table = table_name(alloc, share, table)?;
     let want = Want::Table(table, part_of(asked)?);
-    Some(told_by(&look(rt, alloc, hub, pass, "r", want)?))
+    Some(told_by(&place.look(rt, alloc, want)?))
 }
 
-// The number of the first row that doesn't hold, or how many there are.
-fn holding<R: Wait>(rt: &R, alloc: Global, hub: &Hub, passes: &mut [HubPass]) -> Option<usize>
-    requires { All (λ p. (p.cell ≡ hub.now) × (p.holds ≡ false)) passes.old }
-{
-    let (pass, _) = passes.split_first_mut()?;
+// The number of the first row that doesn't hold, none where all do.
+fn first_wrong<R: Wait>(rt: &R, alloc: Global, place: &mut Place) -> Option<usize> {
     for (number, row) in ROWS.iter().enumerate() {
-        let (share, table, asked, wanted) = row;
-        let table = table_name(alloc, share, table)?;
-        if answer(rt, alloc, hub, pass, table, asked)? != *wanted {
+        if answer(rt, alloc, place, row) != Some(row.3) {
             return Some(number);
         }
     }
-    Some(ROWS.len())
+    None
 }
 
-fn opened<R: Wait>(
-    rt: &R,
-    alloc: Global,
-    store: &mut MemStore,
-) -> Result<Option<usize>, OpenRefusal> {
-    let (hub, mut passes) = Hub::open(alloc, store, 1)?;
-    Ok(holding(rt, alloc, &hub, passes.as_mut_slice()))
+fn stock_objects(alloc: Global, store: &mut MemStore) -> Option<()> {
+    for (object, text) in &OBJECTS {
+        stock(alloc, store, object, text)?;
+    }
+    Some(())
 }
 
 fn stocked(alloc: Global) -> Option<MemStore> {
     let mut store = empty_store(alloc, 16)?;
-    for (object, text) in &OBJECTS {
-        stock(alloc, &mut store, object, text)?;
-    }
+    stock_objects(alloc, &mut store)?;
     for (number, text) in EDITS.iter().enumerate() {
         stock_record(alloc, &mut store, number as u64, text)?;
     }
     Some(store)
 }
 
-fn rows<R: Wait>(rt: &R, alloc: Global) -> Option<usize> {
-    let mut store = stocked(alloc)?;
-    opened(rt, alloc, &mut store).ok()?
-}
-
 #[test]
 fn each_refusal_is_told(rt: HostRuntime) {
-    assert_eq!(rt; rows(&rt, rt.alloc()), Some(ROWS.len()));
+    let alloc = rt.alloc();
+    let store = stocked(alloc).expect(&rt, "what is stored");
+    let mut place = Place::open(alloc, store).expect(&rt, "a server");
+    assert_eq!(rt; first_wrong(&rt, alloc, &mut place), None);
 }

@@ -21,7 +21,7 @@ const PROFILE: &str =
     "{\"bearerToken\":\"abc\",\"endpoint\":\"http://127.0.0.1:8080/delta-sharing\",\"shareCredentialsVersion\":1}";
 
 // A table that is shared with the recipient `r1`.
-const STORED: [(&str, &str); 5] = [
+static STORED: [(&str, &str); 5] = [
     (
         "_share_log/00000000000000000000.json",
         "{\"edit\":{\"newShare\":{\"name\":\"s1\"}},\"version\":1}\n",
@@ -59,33 +59,69 @@ fn stock(alloc: Global, store: &mut MemStore, object: &str, bytes: &[u8]) -> Opt
     }
 }
 
-// A server over a store that has the object, at moment 0.
-fn peer(alloc: Global, object: &[u8]) -> Option<Peer<MemStore, MemClock, OpenGate>> {
+// A store that has the object.
+fn stocked(alloc: Global, object: &[u8]) -> Option<MemStore> {
     let mut store = MemStore::new(alloc, 100, 300_000, Vec::new(alloc)).ok()?;
     for (name, text) in &STORED {
         stock(alloc, &mut store, name, text.as_bytes())?;
     }
     stock(alloc, &mut store, "t/a", object)?;
+    Some(store)
+}
+
+fn server(alloc: Global) -> Option<Server> {
+    Some(Server::of(config_of(alloc, CONFIG.as_bytes()).ok()?))
+}
+
+type Memory = Peer<MemStore, MemClock, OpenGate>;
+
+// A server over a store that has the object, at moment 0.
+fn peer(alloc: Global, object: &[u8]) -> Option<Memory> {
+    let server = server(alloc)?;
+    let clock = MemClock::new(Vec::new(alloc));
+    let mut store = stocked(alloc, object)?;
     let (hub, mut passes) = Hub::open(alloc, &mut store, 1).ok()?;
     let pass = passes.pop()?;
-    let server = Server::of(config_of(alloc, CONFIG.as_bytes()).ok()?);
-    let clock = MemClock::new(Vec::from_slice(alloc, &[0]).ok()?);
     Some(Peer::new(hub, pass, server, store, clock, OpenGate))
 }
 
-// Whether the object comes whole in pieces of that size, from 1 to 134,217,728, and its size by HEAD.
-fn is_fetched<R: Wait + Copy>(rt: R, alloc: Global, object: &[u8], piece: u64) -> Option<bool> {
+type Link<R> = LoopLink<R, MemStore, MemClock, OpenGate>;
+
+fn link<R: Wait + Copy>(rt: R, alloc: Global, object: &[u8]) -> Option<Link<R>> {
+    LoopLink::new(rt, alloc, peer(alloc, object)?, Vec::new(alloc)).ok()
+}
+
+fn client(alloc: Global) -> Option<Client> {
+    Some(Client::new(profile_of(alloc, PROFILE.as_bytes()).ok()?))
+}
+
+// The object's size by HEAD.
+fn size<R: Wait + Copy>(alloc: Global, client: &Client, link: &mut Link<R>) -> Option<u64> {
+    client.file_size(alloc, link, LINK).ok()
+}
+
+// The object in pieces of that size, from 1 to 134,217,728, and how many bytes came.
+fn fetch<R: Wait + Copy>(
+    alloc: Global,
+    client: &Client,
+    link: &mut Link<R>,
+    piece: u64,
+    sink: &mut MemSink,
+) -> Option<u64> {
     if piece == 0 || piece > 134_217_728 {
         return None;
     }
-    let mut link = LoopLink::new(rt, alloc, peer(alloc, object)?, Vec::new(alloc)).ok()?;
-    let client = Client::new(profile_of(alloc, PROFILE.as_bytes()).ok()?);
+    client.fetch_pieces(alloc, link, LINK, piece, sink).ok()
+}
+
+// Whether the object comes whole in pieces of that size, and its size by HEAD.
+fn is_fetched<R: Wait + Copy>(rt: R, alloc: Global, object: &[u8], piece: u64) -> Option<bool> {
+    let client = client(alloc)?;
+    let mut link = link(rt, alloc, object)?;
+    let told = size(alloc, &client, &mut link)?;
     let mut sink = MemSink::new(alloc, 300_000, 2_000).ok()?;
+    let came = fetch(alloc, &client, &mut link, piece, &mut sink)?;
     let size = object.len() as u64;
-    let told = client.file_size(alloc, &mut link, LINK).ok()?;
-    let came = client
-        .fetch_pieces(alloc, &mut link, LINK, piece, &mut sink)
-        .ok()?;
     Some(told == size && came == size && sink.bytes() == object)
 }
 

@@ -1,8 +1,6 @@
 // The loader over a store in memory.
+use crate::logs::{are_words, fault_words, refusal_words};
 use edge_core::{Foreign, MemStore, Name, Stored};
-use log_actions::LineFault;
-use log_commit::CommitFault;
-use log_replay::{Cause, ReplayRefusal};
 use log_store::{Block, BlockCause, LoadRefusal, Loaded, load};
 use std::alloc::{AllocError, Global};
 
@@ -46,55 +44,31 @@ const WHOLE: Objects = &[
     ("u/_delta_log/00000000000000000005.json", b"x"),
 ];
 
-// The logs that end at a block: how many commits are kept, and why no more.
-static BLOCKED: [(Objects, u64, BlockCause); 8] = [
-    (&[(V0, START), (V1, ADD), (V3, ADD)], 2, BlockCause::Gap),
+// The logs that end at a block: how many commits are kept, why no more, and the version or line that is told with it.
+static BLOCKED: [(Objects, u64, &str, u64); 8] = [
+    (&[(V0, START), (V1, ADD), (V3, ADD)], 2, "gap", 0),
     (
         &[(V3, START), (V4, ADD), (CHECKPOINT, b"PAR1")],
         0,
-        BlockCause::NeedsCheckpoint { lowest: 3 },
+        "needs checkpoint",
+        3,
     ),
     (
         &[("t/_delta_log/09223372036854775807.json", START)],
         0,
-        BlockCause::NeedsCheckpoint {
-            lowest: 9223372036854775807,
-        },
+        "needs checkpoint",
+        9223372036854775807,
     ),
-    (
-        &[(V0, START), (V1, NOT_UTF8), (V2, ADD)],
-        1,
-        BlockCause::Commit(CommitFault::Line {
-            n: 1,
-            fault: LineFault::NotUtf8,
-        }),
-    ),
-    (
-        &[(V0, META)],
-        0,
-        BlockCause::Replay(ReplayRefusal::NoProtocol),
-    ),
+    (&[(V0, START), (V1, NOT_UTF8), (V2, ADD)], 1, "not UTF-8", 1),
+    (&[(V0, META)], 0, "no protocol", 0),
     (
         &[(V0, START), (V1, ADD), (V2, b"\n"), (V3, VECTOR), (V4, ADD)],
         3,
-        BlockCause::Replay(ReplayRefusal::Unsupported {
-            version: 3,
-            cause: Cause::Vector,
-        }),
+        "vector",
+        3,
     ),
-    (
-        &[(V0, START), (V1, VECTOR), (V3, ADD)],
-        1,
-        BlockCause::Replay(ReplayRefusal::Unsupported {
-            version: 1,
-            cause: Cause::Vector,
-        }),
-    ),
-    (
-        &[(V1, START), (V0, VECTOR), (V3, ADD)],
-        0,
-        BlockCause::Replay(ReplayRefusal::NoProtocol),
-    ),
+    (&[(V0, START), (V1, VECTOR), (V3, ADD)], 1, "vector", 1),
+    (&[(V1, START), (V0, VECTOR), (V3, ADD)], 0, "no protocol", 0),
 ];
 
 fn stored(alloc: Global, (text, content): (&str, &[u8])) -> Result<Option<Stored>, AllocError> {
@@ -145,55 +119,90 @@ fn loaded(
     }
 }
 
+fn cause_words(cause: BlockCause) -> (&'static str, u64) {
+    match cause {
+        BlockCause::NeedsCheckpoint { lowest } => ("needs checkpoint", lowest),
+        BlockCause::Gap => ("gap", 0),
+        BlockCause::Commit(fault) => fault_words(fault),
+        BlockCause::Replay(refusal) => refusal_words(refusal),
+        BlockCause::TooLarge => ("too large", 0),
+    }
+}
+
+fn is_block(block: &Option<Block>, version: u64, word: &str, number: u64) -> bool {
+    match block {
+        Some(block) => {
+            block.version == version && are_words(cause_words(block.cause), word, number)
+        }
+        None => false,
+    }
+}
+
+fn kept(log: &Loaded) -> u64 {
+    log.commits.items().len() as u64
+}
+
 #[test]
 fn the_block_has_its_cause(rt: HostRuntime) {
-    for (objects, version, cause) in &BLOCKED {
-        let wanted = Block {
-            version: *version,
-            cause: *cause,
-        };
+    for (objects, version, word, number) in &BLOCKED {
         match &loaded(rt.alloc(), objects, 99, &[]) {
             Ok(log) => {
-                assert!(rt; log.block == Some(wanted));
-                assert!(rt; log.commits.items().len() as u64 == wanted.version);
+                assert!(rt; is_block(&log.block, *version, word, *number));
+                assert!(rt; kept(log) == *version);
             }
             Err(_) => assert!(rt; false),
         }
     }
 }
 
-// In the last log version 1 comes after the folder is listed and version 0 read in two calls, and is there when it is asked for
-// again.
+// Whether the log is all kept, with so many commits.
+fn is_whole(log: &Result<Loaded, LoadRefusal>, commits: u64) -> bool {
+    match log {
+        Ok(log) => log.block.is_none() && kept(log) == commits,
+        Err(_) => false,
+    }
+}
+
+// Whether the version at that place has so many actions.
+fn has_actions(log: &Result<Loaded, LoadRefusal>, place: usize, count: usize) -> bool {
+    match log {
+        Ok(log) => match log.commits.items().get(place) {
+            Some(commit) => commit.actions().len() == count,
+            None => false,
+        },
+        Err(_) => false,
+    }
+}
+
 #[test]
 fn loads_versions_from_zero(rt: HostRuntime) {
-    match loaded(rt.alloc(), WHOLE, 99, &[]) {
-        Ok(log) => {
-            assert!(rt; log.block.is_none());
-            let commits = log.commits.into_items();
-            assert!(rt; commits.len() == 5);
-            assert!(rt; commits[0].actions().len() == 2);
-            assert!(rt; commits[2].actions().is_empty());
-        }
-        Err(_) => assert!(rt; false),
-    }
+    let log = loaded(rt.alloc(), WHOLE, 99, &[]);
+    assert!(rt; is_whole(&log, 5));
+    assert!(rt; has_actions(&log, 0, 2) && has_actions(&log, 2, 0));
+}
+
+#[test]
+fn an_empty_folder_has_no_version(rt: HostRuntime) {
     match &loaded(rt.alloc(), &[], 99, &[]) {
-        Ok(log) => {
-            assert!(rt; log.block.is_none() && log.commits.items().is_empty() && log.bytes == 0)
-        }
+        Ok(log) => assert!(rt; log.block.is_none() && kept(log) == 0 && log.bytes == 0),
         Err(_) => assert!(rt; false),
     }
-    match &loaded(rt.alloc(), &[(V0, START), (V2, ADD)], 99, &[(V1, ADD)]) {
-        Ok(log) => assert!(rt; log.block.is_none() && log.commits.items().len() == 3),
-        Err(_) => assert!(rt; false),
-    }
+}
+
+// Version 1 comes after the folder is listed and version 0 read in two calls, and is there when it is asked for again.
+#[test]
+fn a_version_that_comes_meanwhile_is_kept(rt: HostRuntime) {
+    let log = loaded(rt.alloc(), &[(V0, START), (V2, ADD)], 99, &[(V1, ADD)]);
+    assert!(rt; is_whole(&log, 3));
+}
+
+fn is_store_fault(log: &Result<Loaded, LoadRefusal>) -> bool {
+    matches!(log, Err(LoadRefusal::StoreFault))
 }
 
 #[test]
 fn a_failing_store_is_told(rt: HostRuntime) {
     for fail in [0, 1, 6] {
-        match &loaded(rt.alloc(), WHOLE, fail, &[]) {
-            Ok(_) => assert!(rt; false),
-            Err(told) => assert!(rt; *told == LoadRefusal::StoreFault),
-        }
+        assert!(rt; is_store_fault(&loaded(rt.alloc(), WHOLE, fail, &[])));
     }
 }

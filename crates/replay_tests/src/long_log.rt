@@ -1,7 +1,7 @@
 // The state of a long log.
+use crate::logs::commit;
 use itoa::Buffer;
 use log_actions::Commit;
-use log_commit::commit_of;
 use log_replay::{Snapshot, advance, replay};
 use std::alloc::Global;
 use std::sync::Arc;
@@ -15,10 +15,6 @@ const REMOVE: &str = "{\"remove\":{\"path\":\"f1999\"}}";
 const MANY: u64 = 2_000;
 
 struct Work;
-
-fn commit(alloc: Global, text: &str) -> Option<Arc<Commit>> {
-    Arc::new(alloc, commit_of(alloc, text.as_bytes()).ok()?).ok()
-}
 
 // The line of an add whose path has that number.
 fn add(alloc: Global, number: u64) -> Option<String> {

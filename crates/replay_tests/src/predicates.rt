@@ -5,17 +5,15 @@ use part_values::{Column, Columns, PartType};
 use pred_tree::{Pred, Truth, bind, pred_of};
 use std::alloc::{AllocError, Global};
 
-const EQUAL: &str =
-    "{\"op\":\"equal\",\"children\":[{\"op\":\"column\",\"name\":\"day\",\"valueType\":\"int\"},{\"op\":\"literal\",\"value\":\"7\",\"valueType\":\"int\"}]}";
+// Predicates are given short: `<` for `{"op":"`, brackets for a list of children, `@` for a column, `#` for a literal, and `/` and
+// `;` before and behind the type of either.
+const EQUAL: &str = "<equal(@day/int;,#7/int;)";
 
-const IS_NULL: &str =
-    "{\"op\":\"isNull\",\"children\":[{\"op\":\"column\",\"name\":\"day\",\"valueType\":\"int\"}]}";
+const IS_NULL: &str = "<isNull(@day/int;)";
 
-const NOT_EQUAL: &str =
-    "{\"op\":\"not\",\"children\":[{\"op\":\"equal\",\"children\":[{\"op\":\"column\",\"name\":\"day\",\"valueType\":\"int\"},{\"op\":\"literal\",\"value\":\"7\",\"valueType\":\"int\"}]}]}";
+const NOT_EQUAL: &str = "<not(<equal(@day/int;,#7/int;))";
 
-const NOT_NULL: &str =
-    "{\"op\":\"not\",\"children\":[{\"op\":\"isNull\",\"children\":[{\"op\":\"column\",\"name\":\"day\",\"valueType\":\"int\"}]}]}";
+const NOT_NULL: &str = "<not(<isNull(@day/int;))";
 
 fn text(alloc: Global, of: &str) -> Result<Text, AllocError> {
     Ok(Text::of(String::from_str(alloc, of)?))
@@ -60,186 +58,171 @@ fn file(alloc: Global, values: Pairs) -> Result<Option<AddFile>, AllocError> {
     }))
 }
 
+fn word_of(truth: Truth) -> &'static str {
+    match truth {
+        Truth::True => "true",
+        Truth::False => "false",
+        Truth::Unknown => "unknown",
+    }
+}
+
 fn eval(alloc: Global, pred: &Pred, file: &AddFile) -> Result<Truth, AllocError> {
     let columns = days(alloc)?;
     let bound = bind(alloc, pred, &columns)?;
     Ok(bound.eval(file))
 }
 
-// What the predicate says of a file of these values, nothing where it isn't read.
-fn truth_of(alloc: Global, predicate: &str, values: Pairs) -> Result<Option<Truth>, AllocError> {
-    let file = file(alloc, values)?;
-    let pred = pred_of(alloc, predicate)?;
-    match (&pred, &file) {
-        (Some(pred), Some(file)) => Ok(Some(eval(alloc, pred, file)?)),
-        _ => Ok(None),
+fn spelt(alloc: Global, short: &str) -> Result<String, AllocError> {
+    let mut text = String::new(alloc);
+    for letter in short.chars() {
+        match letter {
+            '<' => text.push_str("{\"op\":\"")?,
+            '(' => text.push_str("\",\"children\":[")?,
+            ')' => text.push_str("]}")?,
+            '@' => text.push_str("{\"op\":\"column\",\"name\":\"")?,
+            '#' => text.push_str("{\"op\":\"literal\",\"value\":\"")?,
+            '/' => text.push_str("\",\"valueType\":\"")?,
+            ';' => text.push_str("\"}")?,
+            other => text.push(other)?,
+        }
+    }
+    Ok(text)
+}
+
+fn read(alloc: Global, text: &str) -> Result<Option<Pred>, AllocError> {
+    pred_of(alloc, text)
+}
+
+// What the predicate says of a file of these values.
+fn said(alloc: Global, predicate: &str, values: Pairs) -> Result<&'static str, AllocError> {
+    let text = spelt(alloc, predicate)?;
+    match (&read(alloc, &text)?, &file(alloc, values)?) {
+        (Some(pred), Some(file)) => Ok(word_of(eval(alloc, pred, file)?)),
+        _ => Ok("not read"),
     }
 }
 
+// What it says of a file of that day.
+fn said_of(alloc: Global, predicate: &str, day: Option<&str>) -> Result<&'static str, AllocError> {
+    said(alloc, predicate, values(alloc, day)?)
+}
+
 // Predicates on the day, whose value may be null.
-static WEIGHED: [(&str, Option<&str>, Truth); 16] = [
-    (EQUAL, Some(""), Truth::Unknown),
-    (IS_NULL, Some(""), Truth::True),
-    (NOT_EQUAL, Some(""), Truth::Unknown),
-    (NOT_NULL, Some(""), Truth::False),
-    (EQUAL, None, Truth::Unknown),
-    (IS_NULL, None, Truth::True),
-    (NOT_EQUAL, None, Truth::Unknown),
-    (NOT_NULL, None, Truth::False),
-    (EQUAL, Some("007"), Truth::Unknown),
-    (IS_NULL, Some("007"), Truth::False),
-    (NOT_EQUAL, Some("007"), Truth::Unknown),
-    (NOT_NULL, Some("007"), Truth::True),
-    (EQUAL, Some("7"), Truth::True),
-    (IS_NULL, Some("7"), Truth::False),
-    (NOT_EQUAL, Some("7"), Truth::False),
-    (NOT_NULL, Some("7"), Truth::True),
+static WEIGHED: [(&str, Option<&str>, &str); 16] = [
+    (EQUAL, Some(""), "unknown"),
+    (IS_NULL, Some(""), "true"),
+    (NOT_EQUAL, Some(""), "unknown"),
+    (NOT_NULL, Some(""), "false"),
+    (EQUAL, None, "unknown"),
+    (IS_NULL, None, "true"),
+    (NOT_EQUAL, None, "unknown"),
+    (NOT_NULL, None, "false"),
+    (EQUAL, Some("007"), "unknown"),
+    (IS_NULL, Some("007"), "false"),
+    (NOT_EQUAL, Some("007"), "unknown"),
+    (NOT_NULL, Some("007"), "true"),
+    (EQUAL, Some("7"), "true"),
+    (IS_NULL, Some("7"), "false"),
+    (NOT_EQUAL, Some("7"), "false"),
+    (NOT_NULL, Some("7"), "true"),
 ];
 
 // Predicates where the day is 7: comparisons within one class and of two.
-static COMPARED: [(&str, Truth); 17] = [
-    (
-        "{\"op\":\"lessThan\",\"children\":[{\"op\":\"column\",\"name\":\"day\",\"valueType\":\"int\"},{\"op\":\"literal\",\"value\":\"7\",\"valueType\":\"int\"}]}",
-        Truth::False,
-    ),
-    (
-        "{\"op\":\"lessThanOrEqual\",\"children\":[{\"op\":\"column\",\"name\":\"day\",\"valueType\":\"int\"},{\"op\":\"literal\",\"value\":\"7\",\"valueType\":\"int\"}]}",
-        Truth::True,
-    ),
-    (
-        "{\"op\":\"greaterThan\",\"children\":[{\"op\":\"literal\",\"value\":\"8\",\"valueType\":\"int\"},{\"op\":\"column\",\"name\":\"day\",\"valueType\":\"int\"}]}",
-        Truth::True,
-    ),
-    (
-        "{\"op\":\"greaterThanOrEqual\",\"children\":[{\"op\":\"column\",\"name\":\"day\",\"valueType\":\"int\"},{\"op\":\"literal\",\"value\":\"8\",\"valueType\":\"int\"}]}",
-        Truth::False,
-    ),
-    (
-        "{\"op\":\"equal\",\"children\":[{\"op\":\"column\",\"name\":\"day\",\"valueType\":\"int\"},{\"op\":\"literal\",\"value\":\"7\",\"valueType\":\"long\"}]}",
-        Truth::True,
-    ),
-    (
-        "{\"op\":\"equal\",\"children\":[{\"op\":\"column\",\"name\":\"day\",\"valueType\":\"int\"},{\"op\":\"literal\",\"value\":\"7\",\"valueType\":\"string\"}]}",
-        Truth::Unknown,
-    ),
-    (
-        "{\"op\":\"equal\",\"children\":[{\"op\":\"column\",\"name\":\"day\",\"valueType\":\"string\"},{\"op\":\"literal\",\"value\":\"7\",\"valueType\":\"int\"}]}",
-        Truth::Unknown,
-    ),
-    (
-        "{\"op\":\"equal\",\"children\":[{\"op\":\"column\",\"name\":\"day\",\"valueType\":\"integer\"},{\"op\":\"literal\",\"value\":\"7\",\"valueType\":\"int\"}]}",
-        Truth::Unknown,
-    ),
-    (
-        "{\"op\":\"equal\",\"children\":[{\"op\":\"column\",\"name\":\"Day\",\"valueType\":\"int\"},{\"op\":\"literal\",\"value\":\"7\",\"valueType\":\"int\"}]}",
-        Truth::Unknown,
-    ),
-    (
-        "{\"op\":\"isNull\",\"children\":[{\"op\":\"column\",\"name\":\"Day\",\"valueType\":\"int\"}]}",
-        Truth::Unknown,
-    ),
-    (
-        "{\"op\":\"isNull\",\"children\":[{\"op\":\"column\",\"name\":\"day\",\"valueType\":\"float\"}]}",
-        Truth::False,
-    ),
-    (
-        "{\"op\":\"lessThan\",\"children\":[{\"op\":\"column\",\"name\":\"day\",\"valueType\":\"int\"},{\"op\":\"literal\",\"value\":\"2147483648\",\"valueType\":\"int\"}]}",
-        Truth::Unknown,
-    ),
-    (
-        "{\"op\":\"lessThan\",\"children\":[{\"op\":\"column\",\"name\":\"day\",\"valueType\":\"int\"},{\"op\":\"literal\",\"value\":\"2147483648\",\"valueType\":\"long\"}]}",
-        Truth::True,
-    ),
-    (
-        "{\"op\":\"equal\",\"children\":[{\"op\":\"literal\",\"value\":\"\",\"valueType\":\"int\"},{\"op\":\"literal\",\"value\":\"\",\"valueType\":\"string\"}]}",
-        Truth::Unknown,
-    ),
-    (
-        "{\"op\":\"lessThan\",\"children\":[{\"op\":\"literal\",\"value\":\"false\",\"valueType\":\"bool\"},{\"op\":\"literal\",\"value\":\"true\",\"valueType\":\"bool\"}]}",
-        Truth::True,
-    ),
-    (
-        "{\"op\":\"lessThan\",\"children\":[{\"op\":\"literal\",\"value\":\"1969-12-31\",\"valueType\":\"date\"},{\"op\":\"literal\",\"value\":\"1970-01-01\",\"valueType\":\"date\"}]}",
-        Truth::True,
-    ),
-    (
-        "{\"op\":\"lessThan\",\"children\":[{\"op\":\"literal\",\"value\":\"Z\",\"valueType\":\"string\"},{\"op\":\"literal\",\"value\":\"a\",\"valueType\":\"string\"}]}",
-        Truth::True,
-    ),
+static COMPARED: [(&str, &str); 17] = [
+    ("<lessThan(@day/int;,#7/int;)", "false"),
+    ("<lessThanOrEqual(@day/int;,#7/int;)", "true"),
+    ("<greaterThan(#8/int;,@day/int;)", "true"),
+    ("<greaterThanOrEqual(@day/int;,#8/int;)", "false"),
+    ("<equal(@day/int;,#7/long;)", "true"),
+    ("<equal(@day/int;,#7/string;)", "unknown"),
+    ("<equal(@day/string;,#7/int;)", "unknown"),
+    ("<equal(@day/integer;,#7/int;)", "unknown"),
+    ("<equal(@Day/int;,#7/int;)", "unknown"),
+    ("<isNull(@Day/int;)", "unknown"),
+    ("<isNull(@day/float;)", "false"),
+    ("<lessThan(@day/int;,#2147483648/int;)", "unknown"),
+    ("<lessThan(@day/int;,#2147483648/long;)", "true"),
+    ("<equal(#/int;,#/string;)", "unknown"),
+    ("<lessThan(#false/bool;,#true/bool;)", "true"),
+    ("<lessThan(#1969-12-31/date;,#1970-01-01/date;)", "true"),
+    ("<lessThan(#Z/string;,#a/string;)", "true"),
 ];
 
 // The same by Kleene's tables.
-static JOINED: [(&str, Truth); 9] = [
+static JOINED: [(&str, &str); 9] = [
     (
-        "{\"op\":\"and\",\"children\":[{\"op\":\"equal\",\"children\":[{\"op\":\"column\",\"name\":\"day\",\"valueType\":\"int\"},{\"op\":\"literal\",\"value\":\"7\",\"valueType\":\"int\"}]},{\"op\":\"equal\",\"children\":[{\"op\":\"column\",\"name\":\"x\",\"valueType\":\"int\"},{\"op\":\"literal\",\"value\":\"7\",\"valueType\":\"int\"}]}]}",
-        Truth::Unknown,
+        "<and(<equal(@day/int;,#7/int;),<equal(@x/int;,#7/int;))",
+        "unknown",
     ),
     (
-        "{\"op\":\"and\",\"children\":[{\"op\":\"not\",\"children\":[{\"op\":\"equal\",\"children\":[{\"op\":\"column\",\"name\":\"day\",\"valueType\":\"int\"},{\"op\":\"literal\",\"value\":\"7\",\"valueType\":\"int\"}]}]},{\"op\":\"equal\",\"children\":[{\"op\":\"column\",\"name\":\"x\",\"valueType\":\"int\"},{\"op\":\"literal\",\"value\":\"7\",\"valueType\":\"int\"}]}]}",
-        Truth::False,
+        "<and(<not(<equal(@day/int;,#7/int;)),<equal(@x/int;,#7/int;))",
+        "false",
     ),
     (
-        "{\"op\":\"and\",\"children\":[{\"op\":\"equal\",\"children\":[{\"op\":\"column\",\"name\":\"x\",\"valueType\":\"int\"},{\"op\":\"literal\",\"value\":\"7\",\"valueType\":\"int\"}]},{\"op\":\"not\",\"children\":[{\"op\":\"equal\",\"children\":[{\"op\":\"column\",\"name\":\"day\",\"valueType\":\"int\"},{\"op\":\"literal\",\"value\":\"7\",\"valueType\":\"int\"}]}]}]}",
-        Truth::False,
+        "<and(<equal(@x/int;,#7/int;),<not(<equal(@day/int;,#7/int;)))",
+        "false",
+    ),
+    ("<and(<equal(@day/int;,#7/int;))", "true"),
+    (
+        "<or(<equal(@day/int;,#7/int;),<equal(@x/int;,#7/int;))",
+        "true",
     ),
     (
-        "{\"op\":\"and\",\"children\":[{\"op\":\"equal\",\"children\":[{\"op\":\"column\",\"name\":\"day\",\"valueType\":\"int\"},{\"op\":\"literal\",\"value\":\"7\",\"valueType\":\"int\"}]}]}",
-        Truth::True,
+        "<or(<equal(@x/int;,#7/int;),<equal(@day/int;,#7/int;))",
+        "true",
     ),
     (
-        "{\"op\":\"or\",\"children\":[{\"op\":\"equal\",\"children\":[{\"op\":\"column\",\"name\":\"day\",\"valueType\":\"int\"},{\"op\":\"literal\",\"value\":\"7\",\"valueType\":\"int\"}]},{\"op\":\"equal\",\"children\":[{\"op\":\"column\",\"name\":\"x\",\"valueType\":\"int\"},{\"op\":\"literal\",\"value\":\"7\",\"valueType\":\"int\"}]}]}",
-        Truth::True,
+        "<or(<not(<equal(@day/int;,#7/int;)),<equal(@x/int;,#7/int;))",
+        "unknown",
     ),
     (
-        "{\"op\":\"or\",\"children\":[{\"op\":\"equal\",\"children\":[{\"op\":\"column\",\"name\":\"x\",\"valueType\":\"int\"},{\"op\":\"literal\",\"value\":\"7\",\"valueType\":\"int\"}]},{\"op\":\"equal\",\"children\":[{\"op\":\"column\",\"name\":\"day\",\"valueType\":\"int\"},{\"op\":\"literal\",\"value\":\"7\",\"valueType\":\"int\"}]}]}",
-        Truth::True,
+        "<or(<not(<equal(@day/int;,#7/int;)),<not(<equal(@day/int;,#7/int;)))",
+        "false",
     ),
-    (
-        "{\"op\":\"or\",\"children\":[{\"op\":\"not\",\"children\":[{\"op\":\"equal\",\"children\":[{\"op\":\"column\",\"name\":\"day\",\"valueType\":\"int\"},{\"op\":\"literal\",\"value\":\"7\",\"valueType\":\"int\"}]}]},{\"op\":\"equal\",\"children\":[{\"op\":\"column\",\"name\":\"x\",\"valueType\":\"int\"},{\"op\":\"literal\",\"value\":\"7\",\"valueType\":\"int\"}]}]}",
-        Truth::Unknown,
-    ),
-    (
-        "{\"op\":\"or\",\"children\":[{\"op\":\"not\",\"children\":[{\"op\":\"equal\",\"children\":[{\"op\":\"column\",\"name\":\"day\",\"valueType\":\"int\"},{\"op\":\"literal\",\"value\":\"7\",\"valueType\":\"int\"}]}]},{\"op\":\"not\",\"children\":[{\"op\":\"equal\",\"children\":[{\"op\":\"column\",\"name\":\"day\",\"valueType\":\"int\"},{\"op\":\"literal\",\"value\":\"7\",\"valueType\":\"int\"}]}]}]}",
-        Truth::False,
-    ),
-    (
-        "{\"op\":\"not\",\"children\":[{\"op\":\"equal\",\"children\":[{\"op\":\"column\",\"name\":\"x\",\"valueType\":\"int\"},{\"op\":\"literal\",\"value\":\"7\",\"valueType\":\"int\"}]}]}",
-        Truth::Unknown,
-    ),
+    ("<not(<equal(@x/int;,#7/int;))", "unknown"),
 ];
 
 #[test]
 fn says_what_holds_of_a_file(rt: HostRuntime) -> Result<(), AllocError> {
-    let alloc = rt.alloc();
     for (predicate, day, truth) in &WEIGHED {
-        assert!(rt; truth_of(alloc, predicate, values(alloc, *day)?)? == Some(*truth));
+        assert!(rt; said_of(rt.alloc(), predicate, *day)? == *truth);
     }
-    for (predicate, truth) in &COMPARED {
-        assert!(rt; truth_of(alloc, predicate, values(alloc, Some("7"))?)? == Some(*truth));
-    }
-    for (predicate, truth) in &JOINED {
-        assert!(rt; truth_of(alloc, predicate, values(alloc, Some("7"))?)? == Some(*truth));
-    }
-    assert!(rt; truth_of(alloc, IS_NULL, Pairs::new(alloc))? == Some(Truth::True));
+    assert!(rt; said(rt.alloc(), IS_NULL, Pairs::new(rt.alloc()))? == "true");
     assert!(rt; !Truth::False.is_listed() && Truth::Unknown.is_listed());
+    Ok(())
+}
+
+#[test]
+fn says_how_values_compare(rt: HostRuntime) -> Result<(), AllocError> {
+    for (predicate, truth) in &COMPARED {
+        assert!(rt; said_of(rt.alloc(), predicate, Some("7"))? == *truth);
+    }
+    Ok(())
+}
+
+#[test]
+fn joins_by_the_tables_of_kleene(rt: HostRuntime) -> Result<(), AllocError> {
+    for (predicate, truth) in &JOINED {
+        assert!(rt; said_of(rt.alloc(), predicate, Some("7"))? == *truth);
+    }
     Ok(())
 }
 
 static OTHER: [&str; 19] = [
     "{",
     "",
-    "{\"op\":\"column\",\"name\":\"day\",\"valueType\":\"int\"}",
-    "{\"op\":\"literal\",\"value\":\"7\",\"valueType\":\"int\"}",
-    "{\"op\":\"and\",\"children\":[]}",
-    "{\"op\":\"or\",\"children\":[]}",
-    "{\"op\":\"not\",\"children\":[{\"op\":\"isNull\",\"children\":[{\"op\":\"column\",\"name\":\"day\",\"valueType\":\"int\"}]},{\"op\":\"isNull\",\"children\":[{\"op\":\"column\",\"name\":\"day\",\"valueType\":\"int\"}]}]}",
-    "{\"op\":\"equal\",\"children\":[{\"op\":\"column\",\"name\":\"day\",\"valueType\":\"int\"}]}",
-    "{\"op\":\"equal\",\"children\":[{\"op\":\"column\",\"name\":\"day\",\"valueType\":\"int\"},{\"op\":\"literal\",\"value\":\"7\",\"valueType\":\"int\"},{\"op\":\"literal\",\"value\":\"7\",\"valueType\":\"int\"}]}",
-    "{\"op\":\"isNull\",\"children\":[{\"op\":\"literal\",\"value\":\"7\",\"valueType\":\"int\"}]}",
-    "{\"op\":\"and\",\"children\":[{\"op\":\"column\",\"name\":\"day\",\"valueType\":\"int\"}]}",
-    "{\"op\":\"not\",\"children\":[{\"op\":\"column\",\"name\":\"day\",\"valueType\":\"int\"}]}",
-    "{\"op\":\"equal\",\"children\":[{\"op\":\"isNull\",\"children\":[{\"op\":\"column\",\"name\":\"day\",\"valueType\":\"int\"}]},{\"op\":\"literal\",\"value\":\"7\",\"valueType\":\"int\"}]}",
-    "{\"op\":\"Equal\",\"children\":[{\"op\":\"column\",\"name\":\"day\",\"valueType\":\"int\"},{\"op\":\"literal\",\"value\":\"7\",\"valueType\":\"int\"}]}",
+    "@day/int;",
+    "#7/int;",
+    "<and()",
+    "<or()",
+    "<not(<isNull(@day/int;),<isNull(@day/int;))",
+    "<equal(@day/int;)",
+    "<equal(@day/int;,#7/int;,#7/int;)",
+    "<isNull(#7/int;)",
+    "<and(@day/int;)",
+    "<not(@day/int;)",
+    "<equal(<isNull(@day/int;),#7/int;)",
+    "<Equal(@day/int;,#7/int;)",
     "{\"op\":\"not\"}",
     "{\"op\":\"not\",\"children\":{}}",
     "[]",
@@ -253,7 +236,7 @@ fn nested(alloc: Global, nots: usize, spaces: usize) -> Result<String, AllocErro
     for _ in 0..nots {
         text.push_str("{\"op\":\"not\",\"children\":[")?;
     }
-    text.push_str(IS_NULL)?;
+    text.push_str(&spelt(alloc, IS_NULL)?)?;
     for _ in 0..nots {
         text.push_str("]}")?;
     }
@@ -264,20 +247,26 @@ fn nested(alloc: Global, nots: usize, spaces: usize) -> Result<String, AllocErro
 }
 
 fn is_read(alloc: Global, text: &str) -> Result<bool, AllocError> {
-    Ok(pred_of(alloc, text)?.is_some())
+    Ok(read(alloc, text)?.is_some())
 }
 
 #[test]
 fn takes_no_other_text(rt: HostRuntime) -> Result<(), AllocError> {
-    let alloc = rt.alloc();
     for text in &OTHER {
-        assert!(rt; !is_read(alloc, text)?);
+        assert!(rt; !is_read(rt.alloc(), &spelt(rt.alloc(), text)?)?);
     }
-    let longest = nested(alloc, 0, 1973)?;
-    assert!(rt; longest.len() == 2048);
-    assert!(rt; is_read(alloc, &longest)? && !is_read(alloc, &nested(alloc, 0, 1974)?)?);
-    assert!(rt;
-        is_read(alloc, &nested(alloc, 30, 0)?)? && !is_read(alloc, &nested(alloc, 31, 0)?)?
-    );
+    Ok(())
+}
+
+fn nested_is_read(alloc: Global, nots: usize, spaces: usize) -> Result<bool, AllocError> {
+    is_read(alloc, &nested(alloc, nots, spaces)?)
+}
+
+#[test]
+fn texts_have_a_length_and_a_depth(rt: HostRuntime) -> Result<(), AllocError> {
+    let alloc = rt.alloc();
+    assert!(rt; nested(alloc, 0, 1973)?.len() == 2048);
+    assert!(rt; nested_is_read(alloc, 0, 1973)? && !nested_is_read(alloc, 0, 1974)?);
+    assert!(rt; nested_is_read(alloc, 30, 0)? && !nested_is_read(alloc, 31, 0)?);
     Ok(())
 }

@@ -1,9 +1,9 @@
 // A table of some hundred files over ten versions that each change a few of them.
 ghost use Rattle.std.specs.Prelude.{◌<◌, ◌≤◌};
 
+use crate::logs::commit;
 use itoa::Buffer;
 use log_actions::{AddFile, Commit};
-use log_commit::commit_of;
 use log_replay::{Snapshot, advance, replay};
 use std::alloc::Global;
 use std::sync::Arc;
@@ -56,10 +56,6 @@ fn push_line(text: &mut String, path: &str, size: u64) -> Option<()> {
     text.push_str("\"}}\n").ok()
 }
 
-fn committed(alloc: Global, text: &str) -> Option<Arc<Commit>> {
-    Arc::new(alloc, commit_of(alloc, text.as_bytes()).ok()?).ok()
-}
-
 // The first version.
 fn first(alloc: Global) -> Option<Arc<Commit>> {
     let mut text = String::from_str(alloc, BEGUN).ok()?;
@@ -69,7 +65,7 @@ fn first(alloc: Global) -> Option<Arc<Commit>> {
             push_line(&mut text, &path_of(alloc, number)?, size)?;
         }
     }
-    committed(alloc, &text)
+    commit(alloc, &text)
 }
 
 // A later version: each number that it changes.
@@ -83,7 +79,7 @@ fn later(alloc: Global, version: u64) -> Option<Arc<Commit>>
             push_line(&mut text, &path_of(alloc, number)?, size)?;
         }
     }
-    committed(alloc, &text)
+    commit(alloc, &text)
 }
 
 fn begun(alloc: Global) -> Option<Snapshot> {
@@ -129,6 +125,15 @@ fn file_at(state: &Snapshot, place: u64) -> Option<&AddFile> {
     None
 }
 
+// Whether a state has the file of that path and size at that place, and finds it by its path.
+fn has_file(state: &Snapshot, place: u64, path: &str, size: u64) -> bool {
+    is_file(file_at(state, place), path, size) && is_file(state.find(path), path, size)
+}
+
+fn has_path(state: &Snapshot, path: &str) -> bool {
+    state.has(path)
+}
+
 // Whether a state has these files and no other, by each way to read them.
 fn is_state(alloc: Global, state: &Snapshot, version: u64) -> Option<bool>
     requires { version ≤ 10 }
@@ -138,14 +143,11 @@ fn is_state(alloc: Global, state: &Snapshot, version: u64) -> Option<bool>
     for number in 0..NUMBERS {
         let path = path_of(alloc, number)?;
         let size = size_at(version, number);
-        if state.has(&path) != (size > 0) {
+        if has_path(state, &path) != (size > 0) {
             return Some(false);
         }
         if size > 0 {
-            let read = is_file(files.next(), &path, size)
-                && is_file(file_at(state, place), &path, size)
-                && is_file(state.find(&path), &path, size);
-            if !read {
+            if !is_file(files.next(), &path, size) || !has_file(state, place, &path, size) {
                 return Some(false);
             }
             place = place.wrapping_add(1);

@@ -262,24 +262,21 @@ fn is_right(told: &Told, ask: &Option<Ask>) -> bool {
     }
 }
 
-fn asks(alloc: Global, told: &Told, keys: &ReplyKeys, request: &Request) -> Option<bool> {
-    match ask_of(alloc, keys, request) {
-        Ok(ask) => Some(is_right(told, &ask)),
-        Err(_) => None,
-    }
+fn ask(alloc: Global, keys: &ReplyKeys, request: &Request) -> Option<Option<Ask>> {
+    ask_of(alloc, keys, request).ok()
 }
 
-fn asked(alloc: Global, row: &Row, keys: &ReplyKeys) -> Option<bool> {
-    asks(
-        alloc,
-        &row.told,
-        keys,
-        &request(alloc, row.method, row.target, row.body)?,
-    )
+fn holds_of(alloc: Global, row: &Row, keys: &ReplyKeys, request: &Request) -> Option<bool> {
+    Some(is_right(&row.told, &ask(alloc, keys, request)?))
+}
+
+fn holds_by(alloc: Global, row: &Row, keys: &ReplyKeys) -> Option<bool> {
+    let request = request(alloc, row.method, row.target, row.body)?;
+    holds_of(alloc, row, keys, &request)
 }
 
 fn holds(alloc: Global, row: &Row) -> Option<bool> {
-    asked(alloc, row, &keys(alloc)?)
+    holds_by(alloc, row, &keys(alloc)?)
 }
 
 #[test]

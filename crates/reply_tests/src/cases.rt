@@ -1,11 +1,11 @@
 // Requests, what is seen for them, and what they are answered.
-use crate::logs::{feed, files};
-use crate::made::{Path, catalog_name, keys, request, table_name, text};
+use crate::logs::{Log, feed, files};
+use crate::made::{Granted, keys, names, plan, request, text};
 use case_table::{Method, Refusal};
 use edge_core::Name;
 use json_tree::{Edition, Millis};
-use share_book::{Found, Names, PartFound, Seen, Spot, TableRefusal};
-use share_reply::{LinePlan, Plan, ReplyKeys, plan_of};
+use share_book::{Found, PartFound, Seen, Spot, TableRefusal};
+use share_reply::{LinePlan, Plan, ReplyKeys};
 use share_request::Request;
 use std::alloc::Global;
 
@@ -14,9 +14,9 @@ pub(crate) enum Part {
     Nothing,
     Version(u64),
     /// The files at the last version of these commits.
-    Files(&'static [&'static str]),
+    Files(Log),
     /// Of these commits the versions from one on.
-    Feed(&'static [&'static str], usize),
+    Feed(Log, usize),
     Refused(TableRefusal),
 }
 
@@ -25,8 +25,8 @@ pub(crate) enum Shown {
     /// Nobody has the token or the name.
     Nobody,
     NoTable,
-    /// These shares and tables.
-    Names(&'static [&'static str], &'static [Path]),
+    /// The shares and tables of that name.
+    Names(Granted),
     /// No names, to who has a token until this moment.
     Until(u64),
     /// A table under the editions 1 and 1 of the grant and the binding.
@@ -57,24 +57,12 @@ pub(crate) struct Case {
 
 // ---- what is seen
 
-fn names(alloc: Global, shares: &[&str], tables: &[Path]) -> Option<Names> {
-    let mut granted = Vec::new(alloc);
-    for share in shares {
-        granted.push(catalog_name(alloc, share)?).ok()?;
-    }
-    let mut bound = Vec::new(alloc);
-    for table in tables {
-        bound.push(table_name(alloc, table)?).ok()?;
-    }
-    Some(Names::of(granted, bound))
-}
-
 fn found_part(alloc: Global, part: &Part) -> Option<PartFound> {
     match part {
         Part::Nothing => Some(PartFound::Nothing),
         Part::Version(version) => Some(PartFound::Version(*version)),
-        Part::Files(log) => files(alloc, log),
-        Part::Feed(log, from) => feed(alloc, log, *from),
+        Part::Files(log) => files(alloc, *log),
+        Part::Feed(log, from) => feed(alloc, *log, *from),
         Part::Refused(why) => Some(PartFound::Refused(*why)),
     }
 }
@@ -97,8 +85,8 @@ pub(crate) fn seen(alloc: Global, expires: Option<Millis>, found: Found) -> Opti
 fn found(alloc: Global, shown: &Shown) -> Option<Found> {
     match shown {
         Shown::Nobody | Shown::NoTable => Some(Found::NoTable),
-        Shown::Names(shares, tables) => Some(Found::Names(names(alloc, shares, tables)?)),
-        Shown::Until(_) => Some(Found::Names(names(alloc, &[], &[])?)),
+        Shown::Names(granted) => Some(Found::Names(names(alloc, *granted)?)),
+        Shown::Until(_) => Some(Found::Names(names(alloc, Granted::Nothing)?)),
         Shown::Table(of) => table(alloc, 1, 1, found_part(alloc, of)?),
         Shown::Editions(grant, binding) => table(alloc, *grant, *binding, PartFound::Nothing),
     }
@@ -197,49 +185,36 @@ fn is_told(alloc: Global, plan: &Plan, told: &Told) -> Option<bool> {
 
 fn is_answered(
     alloc: Global,
-    keys: &ReplyKeys,
-    request: &Request,
-    seen: &Option<Seen>,
-    now: Millis,
-    told: &Told,
-) -> Option<bool> {
-    match plan_of(alloc, keys, request, now, seen) {
-        Ok(plan) => is_told(alloc, &plan, told),
-        Err(_) => None,
-    }
-}
-
-fn answers(
-    alloc: Global,
     case: &Case,
     keys: &ReplyKeys,
     request: &Request,
     seen: &Option<Seen>,
 ) -> Option<bool> {
-    is_answered(
-        alloc,
-        keys,
-        request,
-        seen,
-        Millis::of(case.now)?,
-        &case.told,
-    )
+    let plan = plan(alloc, keys, request, case.now, seen)?;
+    is_told(alloc, &plan, &case.told)
 }
 
-fn answered(alloc: Global, case: &Case, keys: &ReplyKeys, request: &Request) -> Option<bool> {
-    answers(alloc, case, keys, request, &seen_by(alloc, &case.shown)?)
+// A request is much to drop, so no other value is made in the function that makes it.
+fn holds_of(alloc: Global, case: &Case, keys: &ReplyKeys, request: &Request) -> Option<bool> {
+    is_answered(alloc, case, keys, request, &seen_by(alloc, &case.shown)?)
 }
 
-fn asked(alloc: Global, case: &Case, keys: &ReplyKeys) -> Option<bool> {
-    answered(
-        alloc,
-        case,
-        keys,
-        &request(alloc, case.method, case.target, case.body)?,
-    )
+fn holds_by(alloc: Global, case: &Case, keys: &ReplyKeys) -> Option<bool> {
+    let request = request(alloc, case.method, case.target, case.body)?;
+    holds_of(alloc, case, keys, &request)
 }
 
-/// Whether the request is answered so; none where memory is wanting.
-pub(crate) fn holds(alloc: Global, case: &Case) -> Option<bool> {
-    asked(alloc, case, &keys(alloc)?)
+// Whether the request is answered so; none where memory is wanting.
+fn holds(alloc: Global, case: &Case) -> Option<bool> {
+    holds_by(alloc, case, &keys(alloc)?)
+}
+
+/// The number of the first case that is answered otherwise, none where there is none.
+pub(crate) fn first_wrong(alloc: Global, cases: &[Case]) -> Option<usize> {
+    for (number, case) in cases.iter().enumerate() {
+        if holds(alloc, case) != Some(true) {
+            return Some(number);
+        }
+    }
+    None
 }

@@ -1,21 +1,11 @@
 // Pages of changes. The timestamps 100, none, 50 and 200 give the times 100, 101, 102 and 200.
-use crate::cases::{Case, Part, Shown, Told, holds};
+use crate::cases::{Case, Part, Shown, Told, first_wrong};
+use crate::logs::Log;
 
 const P1: &str = "{\"protocol\":{\"minReaderVersion\":1}}";
 
 const FM: &str =
     "{\"metaData\":{\"configuration\":{\"delta.enableChangeDataFeed\":\"true\"},\"format\":{\"provider\":\"parquet\"},\"id\":\"m\",\"partitionColumns\":[],\"schemaString\":\"{}\"}}";
-
-const FED: &[&str] = &[
-    "{\"commitInfo\":{\"timestamp\":100}}\n{\"protocol\":{\"minReaderVersion\":1,\"minWriterVersion\":4}}\n{\"metaData\":{\"id\":\"m\",\"schemaString\":\"{}\",\"configuration\":{\"delta.enableChangeDataFeed\":\"true\"}}}",
-    "{\"add\":{\"path\":\"a\",\"size\":5,\"partitionValues\":{\"day\":\"1\"},\"stats\":\"{}\"}}",
-    "{\"commitInfo\":{\"timestamp\":50}}\n{\"remove\":{\"path\":\"a\"}}\n{\"add\":{\"path\":\"b\",\"size\":6}}\n{\"cdc\":{\"path\":\"_change_data/c\",\"partitionValues\":{\"day\":\"1\"},\"size\":7}}",
-    "{\"commitInfo\":{\"timestamp\":200}}\n{\"remove\":{\"path\":\"b\"}}\n{\"add\":{\"path\":\"a\",\"size\":8}}",
-];
-
-const EMPTY: &[&str] = &[
-    "{\"commitInfo\":{\"timestamp\":100}}\n{\"protocol\":{\"minReaderVersion\":1,\"minWriterVersion\":4}}\n{\"metaData\":{\"id\":\"m\",\"schemaString\":\"{}\",\"configuration\":{\"delta.enableChangeDataFeed\":\"true\"}}}",
-];
 
 static CHANGES: [Case; 10] = [
     Case {
@@ -23,7 +13,7 @@ static CHANGES: [Case; 10] = [
         target: "/delta-sharing/shares/s1/schemas/sc/tables/t1/changes?startingVersion=1",
         body: "",
         now: 0,
-        shown: Shown::Table(Part::Feed(FED, 1)),
+        shown: Shown::Table(Part::Feed(Log::Fed, 1)),
         told: Told::Lines(
             3,
             &[
@@ -41,7 +31,7 @@ static CHANGES: [Case; 10] = [
         target: "/delta-sharing/shares/s1/schemas/sc/tables/t1/changes?startingVersion=1&maxFiles=3",
         body: "",
         now: 0,
-        shown: Shown::Table(Part::Feed(FED, 1)),
+        shown: Shown::Table(Part::Feed(Log::Fed, 1)),
         told: Told::Lines(
             3,
             &[
@@ -59,7 +49,7 @@ static CHANGES: [Case; 10] = [
         target: "/delta-sharing/shares/s1/schemas/sc/tables/t1/changes?maxFiles=3&pageToken=MTpmLDI6cjEsMjpzMSwyOnNjLDI6dDEsMToxLDE6MSwyOnYxLDE6bCwxOjEsMTozLDE6Myw.4c39533cb046df46e2ebfb85aa81621499afa86420c09d09d31768550a02fc59",
         body: "",
         now: 0,
-        shown: Shown::Table(Part::Feed(FED, 1)),
+        shown: Shown::Table(Part::Feed(Log::Fed, 1)),
         told: Told::Lines(
             3,
             &[
@@ -75,7 +65,7 @@ static CHANGES: [Case; 10] = [
         target: "/delta-sharing/shares/s1/schemas/sc/tables/t1/changes?startingVersion=1&pageToken=MTpmLDI6cjEsMjpzMSwyOnNjLDI6dDEsMToxLDE6MSwyOnYxLDE6bCwxOjEsMTozLDE6MSw.f55de69a5f8399d44857bce122b778795167c046077cd175a68e9d2763394d2d",
         body: "",
         now: 0,
-        shown: Shown::Table(Part::Feed(FED, 1)),
+        shown: Shown::Table(Part::Feed(Log::Fed, 1)),
         told: Told::Lines(
             3,
             &[
@@ -93,7 +83,7 @@ static CHANGES: [Case; 10] = [
         target: "/delta-sharing/shares/s1/schemas/sc/tables/t1/changes?pageToken=MTpmLDI6cjEsMjpzMSwyOnNjLDI6dDEsMToxLDE6MSwyOnYxLDE6bCwxOjEsMTozLDE6NCw.634166d24b619f98148268a3c8f6c4ce7c3b2270b42c78a91e8180b269c09cb3",
         body: "",
         now: 0,
-        shown: Shown::Table(Part::Feed(FED, 1)),
+        shown: Shown::Table(Part::Feed(Log::Fed, 1)),
         told: Told::Lines(3, &[P1, FM, "{\"endStreamAction\":{}}"]),
     },
     Case {
@@ -101,7 +91,7 @@ static CHANGES: [Case; 10] = [
         target: "/delta-sharing/shares/s1/schemas/sc/tables/t1/changes?startingVersion=1&endingVersion=3&maxFiles=1",
         body: "",
         now: 0,
-        shown: Shown::Table(Part::Feed(FED, 1)),
+        shown: Shown::Table(Part::Feed(Log::Fed, 1)),
         told: Told::Lines(
             3,
             &[
@@ -117,7 +107,7 @@ static CHANGES: [Case; 10] = [
         target: "/delta-sharing/shares/s1/schemas/sc/tables/t1/changes?startingVersion=1&endingVersion=3&maxFiles=4&pageToken=MTpmLDI6cjEsMjpzMSwyOnNjLDI6dDEsMToxLDE6MSwyOnYxLDI6djMsMToxLDE6MywxOjAs.a528df3d1db8b96ec066d86f24471bc3eecd8bf9cd04d527eb6e8bf8440a5a05",
         body: "",
         now: 0,
-        shown: Shown::Table(Part::Feed(FED, 1)),
+        shown: Shown::Table(Part::Feed(Log::Fed, 1)),
         told: Told::Lines(
             3,
             &[
@@ -136,7 +126,7 @@ static CHANGES: [Case; 10] = [
         target: "/delta-sharing/shares/s1/schemas/sc/tables/t1/changes?startingTimestamp=1970-01-01T00:00:00.101Z&endingTimestamp=1970-01-01T00:00:01Z&maxFiles=3",
         body: "",
         now: 0,
-        shown: Shown::Table(Part::Feed(FED, 1)),
+        shown: Shown::Table(Part::Feed(Log::Fed, 1)),
         told: Told::Lines(
             3,
             &[
@@ -154,7 +144,7 @@ static CHANGES: [Case; 10] = [
         target: "/delta-sharing/shares/s1/schemas/sc/tables/t1/changes?startingVersion=3",
         body: "",
         now: 0,
-        shown: Shown::Table(Part::Feed(FED, 3)),
+        shown: Shown::Table(Part::Feed(Log::Fed, 3)),
         told: Told::Lines(
             3,
             &[
@@ -170,14 +160,12 @@ static CHANGES: [Case; 10] = [
         target: "/delta-sharing/shares/s1/schemas/sc/tables/t1/changes?startingVersion=0&endingVersion=0",
         body: "",
         now: 0,
-        shown: Shown::Table(Part::Feed(EMPTY, 0)),
+        shown: Shown::Table(Part::Feed(Log::Empty, 0)),
         told: Told::Lines(0, &[P1, FM]),
     },
 ];
 
 #[test]
 fn pages_have_the_changes_from_a_place(rt: HostRuntime) {
-    for case in &CHANGES {
-        assert!(rt; holds(rt.alloc(), case) == Some(true), "at {}", case.target);
-    }
+    assert_eq!(rt; first_wrong(rt.alloc(), &CHANGES), None);
 }

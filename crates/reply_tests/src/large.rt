@@ -1,12 +1,12 @@
 // A page of 1,000 files of 5,000.
 use crate::cases::{is_line, seen, table};
 use crate::logs::{commit, files_of};
-use crate::made::{keys, request};
+use crate::made::{keys, plan, request};
 use itoa::Buffer;
-use json_tree::Millis;
 use log_actions::Commit;
 use share_book::Seen;
-use share_reply::{LinePlan, Plan, plan_of};
+use share_reply::{LinePlan, Plan, ReplyKeys};
+use share_request::Request;
 use std::alloc::Global;
 use std::sync::Arc;
 
@@ -73,14 +73,32 @@ fn is_page(alloc: Global, lines: &LinePlan, page: &Page) -> Option<bool> {
     is_line(alloc, lines, end.checked_sub(1)?, page.file)
 }
 
-fn holds(alloc: Global, seen: &Option<Seen>, page: &Page) -> Option<bool> {
-    let target = "/delta-sharing/shares/s1/schemas/sc/tables/t1/query";
-    let request = request(alloc, "POST", target, page.body)?;
-    let keys = keys(alloc)?;
-    match &plan_of(alloc, &keys, &request, Millis::of(0)?, seen).ok()? {
+const QUERY: &str = "/delta-sharing/shares/s1/schemas/sc/tables/t1/query";
+
+fn is_paged(alloc: Global, plan: &Plan<'_>, page: &Page) -> Option<bool> {
+    match plan {
         Plan::Lines(0, lines) => is_page(alloc, lines, page),
         _ => Some(false),
     }
+}
+
+fn holds_of(
+    alloc: Global,
+    seen: &Option<Seen>,
+    page: &Page,
+    keys: &ReplyKeys,
+    request: &Request,
+) -> Option<bool> {
+    is_paged(alloc, &plan(alloc, keys, request, 0, seen)?, page)
+}
+
+fn holds_by(alloc: Global, seen: &Option<Seen>, page: &Page, keys: &ReplyKeys) -> Option<bool> {
+    let request = request(alloc, "POST", QUERY, page.body)?;
+    holds_of(alloc, seen, page, keys, &request)
+}
+
+fn holds(alloc: Global, seen: &Option<Seen>, page: &Page) -> Option<bool> {
+    holds_by(alloc, seen, page, &keys(alloc)?)
 }
 
 #[test]

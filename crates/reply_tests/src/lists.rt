@@ -1,47 +1,12 @@
 // Lists of shares, schemas and tables, page by page.
-use crate::cases::{Case, Shown, Told, holds, seen};
-use crate::made::{Path, catalog_name, keys, request};
+use crate::cases::{Case, Shown, Told, first_wrong, seen};
+use crate::made::{Granted, catalog_name, keys, plan, request};
 use itoa::Buffer;
-use json_tree::{Millis, Text};
-use share_book::{Found, Names};
+use json_tree::Text;
+use share_book::{Found, Names, Seen};
 use share_catalog::CatalogName;
-use share_reply::{Plan, plan_of};
+use share_reply::Plan;
 use std::alloc::Global;
-
-const ONE: &[Path] = &[Path {
-    share: "s1",
-    schema: "sc",
-    table: "t1",
-}];
-
-// `a` comes before `a-b`, but `a/` after it.
-const MANY: &[Path] = &[
-    Path {
-        share: "s1",
-        schema: "a",
-        table: "t",
-    },
-    Path {
-        share: "s1",
-        schema: "a",
-        table: "t2",
-    },
-    Path {
-        share: "s1",
-        schema: "a-b",
-        table: "t",
-    },
-    Path {
-        share: "s1",
-        schema: "b",
-        table: "t",
-    },
-    Path {
-        share: "s2",
-        schema: "a",
-        table: "z",
-    },
-];
 
 static LISTS_1: [Case; 10] = [
     Case {
@@ -49,7 +14,7 @@ static LISTS_1: [Case; 10] = [
         target: "/delta-sharing/shares",
         body: "",
         now: 0,
-        shown: Shown::Names(&["s1"], ONE),
+        shown: Shown::Names(Granted::One),
         told: Told::Json("{\"items\":[{\"name\":\"s1\"}]}"),
     },
     Case {
@@ -57,7 +22,7 @@ static LISTS_1: [Case; 10] = [
         target: "/delta-sharing/shares/s1",
         body: "",
         now: 0,
-        shown: Shown::Names(&["s1"], ONE),
+        shown: Shown::Names(Granted::One),
         told: Told::Json("{\"share\":{\"name\":\"s1\"}}"),
     },
     Case {
@@ -65,7 +30,7 @@ static LISTS_1: [Case; 10] = [
         target: "/delta-sharing/shares/s1/schemas",
         body: "",
         now: 0,
-        shown: Shown::Names(&["s1"], ONE),
+        shown: Shown::Names(Granted::One),
         told: Told::Json("{\"items\":[{\"name\":\"sc\",\"share\":\"s1\"}]}"),
     },
     Case {
@@ -73,7 +38,7 @@ static LISTS_1: [Case; 10] = [
         target: "/delta-sharing/shares/s1/schemas/sc/tables",
         body: "",
         now: 0,
-        shown: Shown::Names(&["s1"], ONE),
+        shown: Shown::Names(Granted::One),
         told: Told::Json("{\"items\":[{\"name\":\"t1\",\"schema\":\"sc\",\"share\":\"s1\"}]}"),
     },
     Case {
@@ -81,7 +46,7 @@ static LISTS_1: [Case; 10] = [
         target: "/delta-sharing/shares/s1/all-tables",
         body: "",
         now: 0,
-        shown: Shown::Names(&["s1"], ONE),
+        shown: Shown::Names(Granted::One),
         told: Told::Json("{\"items\":[{\"name\":\"t1\",\"schema\":\"sc\",\"share\":\"s1\"}]}"),
     },
     Case {
@@ -89,7 +54,7 @@ static LISTS_1: [Case; 10] = [
         target: "/delta-sharing/shares",
         body: "",
         now: 0,
-        shown: Shown::Names(&["s0", "s1", "s2"], MANY),
+        shown: Shown::Names(Granted::Many),
         told: Told::Json("{\"items\":[{\"name\":\"s0\"},{\"name\":\"s1\"},{\"name\":\"s2\"}]}"),
     },
     Case {
@@ -97,7 +62,7 @@ static LISTS_1: [Case; 10] = [
         target: "/delta-sharing/shares/s0/schemas",
         body: "",
         now: 0,
-        shown: Shown::Names(&["s0", "s1", "s2"], MANY),
+        shown: Shown::Names(Granted::Many),
         told: Told::Json("{\"items\":[]}"),
     },
     Case {
@@ -105,7 +70,7 @@ static LISTS_1: [Case; 10] = [
         target: "/delta-sharing/shares/s0/all-tables",
         body: "",
         now: 0,
-        shown: Shown::Names(&["s0", "s1", "s2"], MANY),
+        shown: Shown::Names(Granted::Many),
         told: Told::Json("{\"items\":[]}"),
     },
     Case {
@@ -113,7 +78,7 @@ static LISTS_1: [Case; 10] = [
         target: "/delta-sharing/shares/s1/schemas",
         body: "",
         now: 0,
-        shown: Shown::Names(&["s0", "s1", "s2"], MANY),
+        shown: Shown::Names(Granted::Many),
         told: Told::Json(
             "{\"items\":[{\"name\":\"a\",\"share\":\"s1\"},{\"name\":\"a-b\",\"share\":\"s1\"},{\"name\":\"b\",\"share\":\"s1\"}]}",
         ),
@@ -123,7 +88,7 @@ static LISTS_1: [Case; 10] = [
         target: "/delta-sharing/shares/s1/schemas/a/tables",
         body: "",
         now: 0,
-        shown: Shown::Names(&["s0", "s1", "s2"], MANY),
+        shown: Shown::Names(Granted::Many),
         told: Told::Json(
             "{\"items\":[{\"name\":\"t\",\"schema\":\"a\",\"share\":\"s1\"},{\"name\":\"t2\",\"schema\":\"a\",\"share\":\"s1\"}]}",
         ),
@@ -136,7 +101,7 @@ static LISTS_2: [Case; 10] = [
         target: "/delta-sharing/shares/s1/schemas/A/tables",
         body: "",
         now: 0,
-        shown: Shown::Names(&["s0", "s1", "s2"], MANY),
+        shown: Shown::Names(Granted::Many),
         told: Told::Json(
             "{\"items\":[{\"name\":\"t\",\"schema\":\"a\",\"share\":\"s1\"},{\"name\":\"t2\",\"schema\":\"a\",\"share\":\"s1\"}]}",
         ),
@@ -146,7 +111,7 @@ static LISTS_2: [Case; 10] = [
         target: "/delta-sharing/shares/s1/all-tables",
         body: "",
         now: 0,
-        shown: Shown::Names(&["s0", "s1", "s2"], MANY),
+        shown: Shown::Names(Granted::Many),
         told: Told::Json(
             "{\"items\":[{\"name\":\"t\",\"schema\":\"a\",\"share\":\"s1\"},{\"name\":\"t2\",\"schema\":\"a\",\"share\":\"s1\"},{\"name\":\"t\",\"schema\":\"a-b\",\"share\":\"s1\"},{\"name\":\"t\",\"schema\":\"b\",\"share\":\"s1\"}]}",
         ),
@@ -156,7 +121,7 @@ static LISTS_2: [Case; 10] = [
         target: "/delta-sharing/shares/s2/all-tables",
         body: "",
         now: 0,
-        shown: Shown::Names(&["s0", "s1", "s2"], MANY),
+        shown: Shown::Names(Granted::Many),
         told: Told::Json("{\"items\":[{\"name\":\"z\",\"schema\":\"a\",\"share\":\"s2\"}]}"),
     },
     Case {
@@ -164,7 +129,7 @@ static LISTS_2: [Case; 10] = [
         target: "/delta-sharing/shares?maxResults=0",
         body: "",
         now: 0,
-        shown: Shown::Names(&["s0", "s1", "s2"], MANY),
+        shown: Shown::Names(Granted::Many),
         told: Told::Json(
             "{\"items\":[],\"nextPageToken\":\"MTpzLDI6cjEsMDosMDosMDos.e45a67efc65d5f14a6c764fbbd87b088a7255bd0047068d11401f836a6ee5927\"}",
         ),
@@ -174,7 +139,7 @@ static LISTS_2: [Case; 10] = [
         target: "/delta-sharing/shares?maxResults=0&pageToken=MTpzLDI6cjEsMDosMDosMDos.e45a67efc65d5f14a6c764fbbd87b088a7255bd0047068d11401f836a6ee5927",
         body: "",
         now: 0,
-        shown: Shown::Names(&["s0", "s1", "s2"], MANY),
+        shown: Shown::Names(Granted::Many),
         told: Told::Json(
             "{\"items\":[],\"nextPageToken\":\"MTpzLDI6cjEsMDosMDosMDos.e45a67efc65d5f14a6c764fbbd87b088a7255bd0047068d11401f836a6ee5927\"}",
         ),
@@ -184,7 +149,7 @@ static LISTS_2: [Case; 10] = [
         target: "/delta-sharing/shares?maxResults=1",
         body: "",
         now: 0,
-        shown: Shown::Names(&["s0", "s1", "s2"], MANY),
+        shown: Shown::Names(Granted::Many),
         told: Told::Json(
             "{\"items\":[{\"name\":\"s0\"}],\"nextPageToken\":\"MTpzLDI6cjEsMDosMDosMjpzMCw.a1d23b9c735d6b559eddb180f8c45a95a31cf823d336bd89bbddaa1db116a4b8\"}",
         ),
@@ -194,7 +159,7 @@ static LISTS_2: [Case; 10] = [
         target: "/delta-sharing/shares?maxResults=1&pageToken=MTpzLDI6cjEsMDosMDosMjpzMCw.a1d23b9c735d6b559eddb180f8c45a95a31cf823d336bd89bbddaa1db116a4b8",
         body: "",
         now: 0,
-        shown: Shown::Names(&["s0", "s1", "s2"], MANY),
+        shown: Shown::Names(Granted::Many),
         told: Told::Json(
             "{\"items\":[{\"name\":\"s1\"}],\"nextPageToken\":\"MTpzLDI6cjEsMDosMDosMjpzMSw.45a70200cc181e0b533a3e9ff26d1c5a11c64c2d9b977a0057131f4cd35f8acf\"}",
         ),
@@ -204,7 +169,7 @@ static LISTS_2: [Case; 10] = [
         target: "/delta-sharing/shares?maxResults=1&pageToken=MTpzLDI6cjEsMDosMDosMjpzMSw.45a70200cc181e0b533a3e9ff26d1c5a11c64c2d9b977a0057131f4cd35f8acf",
         body: "",
         now: 0,
-        shown: Shown::Names(&["s0", "s1", "s2"], MANY),
+        shown: Shown::Names(Granted::Many),
         told: Told::Json("{\"items\":[{\"name\":\"s2\"}]}"),
     },
     Case {
@@ -212,7 +177,7 @@ static LISTS_2: [Case; 10] = [
         target: "/delta-sharing/shares?maxResults=0&pageToken=MTpzLDI6cjEsMDosMDosMjpzMSw.45a70200cc181e0b533a3e9ff26d1c5a11c64c2d9b977a0057131f4cd35f8acf",
         body: "",
         now: 0,
-        shown: Shown::Names(&["s0", "s1", "s2"], MANY),
+        shown: Shown::Names(Granted::Many),
         told: Told::Json(
             "{\"items\":[],\"nextPageToken\":\"MTpzLDI6cjEsMDosMDosMjpzMSw.45a70200cc181e0b533a3e9ff26d1c5a11c64c2d9b977a0057131f4cd35f8acf\"}",
         ),
@@ -222,7 +187,7 @@ static LISTS_2: [Case; 10] = [
         target: "/delta-sharing/shares?pageToken=MTpzLDI6cjEsMDosMDosMzpzMDAs.7bbe8d892fb9666b82654745e4776937f9a19856490d0d1d38116503b05eb12d",
         body: "",
         now: 0,
-        shown: Shown::Names(&["s0", "s1", "s2"], MANY),
+        shown: Shown::Names(Granted::Many),
         told: Told::Json("{\"items\":[{\"name\":\"s1\"},{\"name\":\"s2\"}]}"),
     },
 ];
@@ -233,7 +198,7 @@ static LISTS_3: [Case; 10] = [
         target: "/delta-sharing/shares?pageToken=MTpzLDI6cjEsMDosMDosMjpzMiw.90a05d1ee791d1899ea894f6340cc86bd685b07eaee74601cfaa39645968006b",
         body: "",
         now: 0,
-        shown: Shown::Names(&["s0", "s1", "s2"], MANY),
+        shown: Shown::Names(Granted::Many),
         told: Told::Json("{\"items\":[]}"),
     },
     Case {
@@ -241,7 +206,7 @@ static LISTS_3: [Case; 10] = [
         target: "/delta-sharing/shares/s1/schemas?maxResults=1",
         body: "",
         now: 0,
-        shown: Shown::Names(&["s0", "s1", "s2"], MANY),
+        shown: Shown::Names(Granted::Many),
         told: Told::Json(
             "{\"items\":[{\"name\":\"a\",\"share\":\"s1\"}],\"nextPageToken\":\"MTpjLDI6cjEsMjpzMSwwOiwxOmEs.ee2ef5c750f2fd6de008d5df7a1b7f3bca83df876c3fa111d242b3604c1872e3\"}",
         ),
@@ -251,7 +216,7 @@ static LISTS_3: [Case; 10] = [
         target: "/delta-sharing/shares/s1/schemas?maxResults=1&pageToken=MTpjLDI6cjEsMjpzMSwwOiwxOmEs.ee2ef5c750f2fd6de008d5df7a1b7f3bca83df876c3fa111d242b3604c1872e3",
         body: "",
         now: 0,
-        shown: Shown::Names(&["s0", "s1", "s2"], MANY),
+        shown: Shown::Names(Granted::Many),
         told: Told::Json(
             "{\"items\":[{\"name\":\"a-b\",\"share\":\"s1\"}],\"nextPageToken\":\"MTpjLDI6cjEsMjpzMSwwOiwzOmEtYiw.bd197c088eaa04289b3d617268308cd31103a1cd8b54f0d71554c1a05199c70e\"}",
         ),
@@ -261,7 +226,7 @@ static LISTS_3: [Case; 10] = [
         target: "/delta-sharing/shares/s1/schemas?maxResults=2&pageToken=MTpjLDI6cjEsMjpzMSwwOiwxOmEs.ee2ef5c750f2fd6de008d5df7a1b7f3bca83df876c3fa111d242b3604c1872e3",
         body: "",
         now: 0,
-        shown: Shown::Names(&["s0", "s1", "s2"], MANY),
+        shown: Shown::Names(Granted::Many),
         told: Told::Json(
             "{\"items\":[{\"name\":\"a-b\",\"share\":\"s1\"},{\"name\":\"b\",\"share\":\"s1\"}]}",
         ),
@@ -271,7 +236,7 @@ static LISTS_3: [Case; 10] = [
         target: "/delta-sharing/shares/s1/schemas/a/tables?maxResults=1",
         body: "",
         now: 0,
-        shown: Shown::Names(&["s0", "s1", "s2"], MANY),
+        shown: Shown::Names(Granted::Many),
         told: Told::Json(
             "{\"items\":[{\"name\":\"t\",\"schema\":\"a\",\"share\":\"s1\"}],\"nextPageToken\":\"MTp0LDI6cjEsMjpzMSwxOmEsMTp0LA.1f26b97d5dd11f287df5c42df416141f9d112c2fe8da51617bb75b12c0d58564\"}",
         ),
@@ -281,7 +246,7 @@ static LISTS_3: [Case; 10] = [
         target: "/delta-sharing/shares/s1/schemas/a/tables?maxResults=1&pageToken=MTp0LDI6cjEsMjpzMSwxOmEsMTp0LA.1f26b97d5dd11f287df5c42df416141f9d112c2fe8da51617bb75b12c0d58564",
         body: "",
         now: 0,
-        shown: Shown::Names(&["s0", "s1", "s2"], MANY),
+        shown: Shown::Names(Granted::Many),
         told: Told::Json("{\"items\":[{\"name\":\"t2\",\"schema\":\"a\",\"share\":\"s1\"}]}"),
     },
     Case {
@@ -289,7 +254,7 @@ static LISTS_3: [Case; 10] = [
         target: "/delta-sharing/shares/s1/all-tables?maxResults=2",
         body: "",
         now: 0,
-        shown: Shown::Names(&["s0", "s1", "s2"], MANY),
+        shown: Shown::Names(Granted::Many),
         told: Told::Json(
             "{\"items\":[{\"name\":\"t\",\"schema\":\"a\",\"share\":\"s1\"},{\"name\":\"t2\",\"schema\":\"a\",\"share\":\"s1\"}],\"nextPageToken\":\"MTphLDI6cjEsMjpzMSwwOiw0OmEvdDIs.ffa2aead992d0db8bce7d31ee4ecf8287bcee09b699cb3b80469a634a1dcfbce\"}",
         ),
@@ -299,7 +264,7 @@ static LISTS_3: [Case; 10] = [
         target: "/delta-sharing/shares/s1/all-tables?maxResults=1&pageToken=MTphLDI6cjEsMjpzMSwwOiw0OmEvdDIs.ffa2aead992d0db8bce7d31ee4ecf8287bcee09b699cb3b80469a634a1dcfbce",
         body: "",
         now: 0,
-        shown: Shown::Names(&["s0", "s1", "s2"], MANY),
+        shown: Shown::Names(Granted::Many),
         told: Told::Json(
             "{\"items\":[{\"name\":\"t\",\"schema\":\"a-b\",\"share\":\"s1\"}],\"nextPageToken\":\"MTphLDI6cjEsMjpzMSwwOiw1OmEtYi90LA.2b80a36355bc773369ceb5b445a3d06574460ddd2b8a7877d7f5cd748f2b60a9\"}",
         ),
@@ -309,7 +274,7 @@ static LISTS_3: [Case; 10] = [
         target: "/delta-sharing/shares/s1/all-tables?maxResults=1&pageToken=MTphLDI6cjEsMjpzMSwwOiw1OmEtYi90LA.2b80a36355bc773369ceb5b445a3d06574460ddd2b8a7877d7f5cd748f2b60a9",
         body: "",
         now: 0,
-        shown: Shown::Names(&["s0", "s1", "s2"], MANY),
+        shown: Shown::Names(Granted::Many),
         told: Told::Json("{\"items\":[{\"name\":\"t\",\"schema\":\"b\",\"share\":\"s1\"}]}"),
     },
     Case {
@@ -317,7 +282,7 @@ static LISTS_3: [Case; 10] = [
         target: "/delta-sharing/shares/s1/all-tables?maxResults=0",
         body: "",
         now: 0,
-        shown: Shown::Names(&["s0", "s1", "s2"], MANY),
+        shown: Shown::Names(Granted::Many),
         told: Told::Json(
             "{\"items\":[],\"nextPageToken\":\"MTphLDI6cjEsMjpzMSwwOiwwOiw.c43558408b77cdabb1f2beb359e55ac2120793f957ca593019bb846fcf9bdee1\"}",
         ),
@@ -326,23 +291,17 @@ static LISTS_3: [Case; 10] = [
 
 #[test]
 fn lists_have_the_names_behind_the_last_1(rt: HostRuntime) {
-    for case in &LISTS_1 {
-        assert!(rt; holds(rt.alloc(), case) == Some(true), "at {}", case.target);
-    }
+    assert_eq!(rt; first_wrong(rt.alloc(), &LISTS_1), None);
 }
 
 #[test]
 fn lists_have_the_names_behind_the_last_2(rt: HostRuntime) {
-    for case in &LISTS_2 {
-        assert!(rt; holds(rt.alloc(), case) == Some(true), "at {}", case.target);
-    }
+    assert_eq!(rt; first_wrong(rt.alloc(), &LISTS_2), None);
 }
 
 #[test]
 fn lists_have_the_names_behind_the_last_3(rt: HostRuntime) {
-    for case in &LISTS_3 {
-        assert!(rt; holds(rt.alloc(), case) == Some(true), "at {}", case.target);
-    }
+    assert_eq!(rt; first_wrong(rt.alloc(), &LISTS_3), None);
 }
 
 // The share `s` with a number of three digits.
@@ -353,17 +312,22 @@ fn numbered(alloc: Global, number: u64) -> Option<CatalogName> {
     catalog_name(alloc, &name)
 }
 
-// What a list of so many shares is answered.
-fn listed(alloc: Global, target: &str, shares: u64) -> Option<Text> {
+// Who is shown so many shares.
+fn seen_many(alloc: Global, shares: u64) -> Option<Seen> {
     let mut granted = Vec::new(alloc);
     for number in 0..shares {
         granted.push(numbered(alloc, number)?).ok()?;
     }
-    let names = Found::Names(Names::of(granted, Vec::new(alloc)));
-    let seen = Some(seen(alloc, None, names)?);
-    let keys = keys(alloc)?;
+    let names = Names::of(granted, Vec::new(alloc));
+    seen(alloc, None, Found::Names(names))
+}
+
+// What a list of so many shares is answered.
+fn listed(alloc: Global, target: &str, shares: u64) -> Option<Text> {
+    let seen = Some(seen_many(alloc, shares)?);
     let request = request(alloc, "GET", target, "")?;
-    match plan_of(alloc, &keys, &request, Millis::of(0)?, &seen).ok()? {
+    let keys = keys(alloc)?;
+    match plan(alloc, &keys, &request, 0, &seen)? {
         Plan::Json(text) => Some(text),
         _ => None,
     }

@@ -1,32 +1,11 @@
 // Versions, metadata and pages of files.
-use crate::cases::{Case, Part, Shown, Told, holds};
+use crate::cases::{Case, Part, Shown, Told, first_wrong};
+use crate::logs::Log;
 
 const P1: &str = "{\"protocol\":{\"minReaderVersion\":1}}";
 
 const M1: &str =
     "{\"metaData\":{\"format\":{\"provider\":\"parquet\"},\"id\":\"m1\",\"partitionColumns\":[],\"schemaString\":\"{\\\"type\\\":\\\"struct\\\",\\\"fields\\\":[]}\"}}";
-
-const BARE: &[&str] = &[
-    "{\"protocol\":{\"minReaderVersion\":1,\"minWriterVersion\":2}}\n{\"metaData\":{\"id\":\"m1\",\"format\":{\"provider\":\"parquet\",\"options\":{}},\"schemaString\":\"{\\\"type\\\":\\\"struct\\\",\\\"fields\\\":[]}\",\"partitionColumns\":[],\"configuration\":{},\"createdTime\":1}}",
-];
-
-const FIVE: &[&str] = &[
-    "{\"protocol\":{\"minReaderVersion\":1,\"minWriterVersion\":2}}\n{\"metaData\":{\"id\":\"m1\",\"format\":{\"provider\":\"parquet\",\"options\":{}},\"schemaString\":\"{\\\"type\\\":\\\"struct\\\",\\\"fields\\\":[]}\",\"partitionColumns\":[],\"configuration\":{},\"createdTime\":1}}\n{\"add\":{\"path\":\"a\",\"size\":1}}",
-    "{\"add\":{\"path\":\"b\",\"size\":1}}",
-    "{\"add\":{\"path\":\"c\",\"size\":1}}",
-    "{\"add\":{\"path\":\"d\",\"size\":1}}",
-    "{\"add\":{\"path\":\"e\",\"size\":1}}",
-];
-
-// Of five files the first, third and fifth have the day 1.
-const DAYS: &[&str] = &[
-    "{\"protocol\":{\"minReaderVersion\":1,\"minWriterVersion\":2}}\n{\"metaData\":{\"id\":\"m2\",\"schemaString\":\"{\\\"type\\\":\\\"struct\\\",\\\"fields\\\":[{\\\"name\\\":\\\"day\\\",\\\"type\\\":\\\"integer\\\",\\\"nullable\\\":true,\\\"metadata\\\":{}}]}\",\"partitionColumns\":[\"day\"],\"name\":\"n\",\"description\":\"d\",\"configuration\":{\"k\":\"v\"}}}\n{\"add\":{\"path\":\"a\",\"size\":1,\"partitionValues\":{\"day\":\"1\"},\"stats\":\"{\\\"numRecords\\\":1}\"}}\n{\"add\":{\"path\":\"b\",\"size\":2,\"partitionValues\":{\"day\":\"2\"},\"stats\":\"{\\\"numRecords\\\":1}\"}}\n{\"add\":{\"path\":\"c\",\"size\":3,\"partitionValues\":{\"day\":\"1\"},\"stats\":\"{\\\"numRecords\\\":1}\"}}\n{\"add\":{\"path\":\"d\",\"size\":4,\"partitionValues\":{\"day\":\"2\"},\"stats\":\"{\\\"numRecords\\\":1}\"}}\n{\"add\":{\"path\":\"e\",\"size\":5,\"partitionValues\":{\"day\":\"1\"},\"stats\":\"{\\\"numRecords\\\":1}\"}}",
-];
-
-// Of five files the first two have the day 1.
-const PARTLY: &[&str] = &[
-    "{\"protocol\":{\"minReaderVersion\":1,\"minWriterVersion\":2}}\n{\"metaData\":{\"id\":\"m2\",\"schemaString\":\"{\\\"type\\\":\\\"struct\\\",\\\"fields\\\":[{\\\"name\\\":\\\"day\\\",\\\"type\\\":\\\"integer\\\",\\\"nullable\\\":true,\\\"metadata\\\":{}}]}\",\"partitionColumns\":[\"day\"],\"name\":\"n\",\"description\":\"d\",\"configuration\":{\"k\":\"v\"}}}\n{\"add\":{\"path\":\"a\",\"size\":1,\"partitionValues\":{\"day\":\"1\"}}}\n{\"add\":{\"path\":\"b\",\"size\":1,\"partitionValues\":{\"day\":\"1\"}}}\n{\"add\":{\"path\":\"c\",\"size\":1,\"partitionValues\":{\"day\":\"2\"}}}\n{\"add\":{\"path\":\"d\",\"size\":1,\"partitionValues\":{\"day\":\"2\"}}}\n{\"add\":{\"path\":\"e\",\"size\":1,\"partitionValues\":{\"day\":\"2\"}}}",
-];
 
 static PAGES_1: [Case; 8] = [
     Case {
@@ -42,7 +21,7 @@ static PAGES_1: [Case; 8] = [
         target: "/delta-sharing/shares/s1/schemas/sc/tables/t1/metadata",
         body: "",
         now: 0,
-        shown: Shown::Table(Part::Files(FIVE)),
+        shown: Shown::Table(Part::Files(Log::Five)),
         told: Told::Lines(4, &[P1, M1]),
     },
     Case {
@@ -50,7 +29,7 @@ static PAGES_1: [Case; 8] = [
         target: "/delta-sharing/shares/s1/schemas/sc/tables/t1/metadata",
         body: "",
         now: 0,
-        shown: Shown::Table(Part::Files(DAYS)),
+        shown: Shown::Table(Part::Files(Log::Days)),
         told: Told::Lines(
             0,
             &[
@@ -64,7 +43,7 @@ static PAGES_1: [Case; 8] = [
         target: "/delta-sharing/shares/s1/schemas/sc/tables/t1/query",
         body: "",
         now: 0,
-        shown: Shown::Table(Part::Files(FIVE)),
+        shown: Shown::Table(Part::Files(Log::Five)),
         told: Told::Lines(
             4,
             &[
@@ -83,7 +62,7 @@ static PAGES_1: [Case; 8] = [
         target: "/delta-sharing/shares/s1/schemas/sc/tables/t1/query",
         body: "{\"version\":4}",
         now: 1_000,
-        shown: Shown::Table(Part::Files(FIVE)),
+        shown: Shown::Table(Part::Files(Log::Five)),
         told: Told::Lines(
             4,
             &[
@@ -102,7 +81,7 @@ static PAGES_1: [Case; 8] = [
         target: "/delta-sharing/shares/s1/schemas/sc/tables/t1/query",
         body: "{\"jsonPredicateHints\":\"{\"}",
         now: 0,
-        shown: Shown::Table(Part::Files(FIVE)),
+        shown: Shown::Table(Part::Files(Log::Five)),
         told: Told::Lines(
             4,
             &[
@@ -121,7 +100,7 @@ static PAGES_1: [Case; 8] = [
         target: "/delta-sharing/shares/s1/schemas/sc/tables/t1/query",
         body: "",
         now: 0,
-        shown: Shown::Table(Part::Files(BARE)),
+        shown: Shown::Table(Part::Files(Log::Bare)),
         told: Told::Lines(0, &[P1, M1]),
     },
     Case {
@@ -129,7 +108,7 @@ static PAGES_1: [Case; 8] = [
         target: "/delta-sharing/shares/s1/schemas/sc/tables/t1/query",
         body: "{\"maxFiles\":1}",
         now: 0,
-        shown: Shown::Table(Part::Files(BARE)),
+        shown: Shown::Table(Part::Files(Log::Bare)),
         told: Told::Lines(0, &[P1, M1, "{\"endStreamAction\":{}}"]),
     },
 ];
@@ -140,7 +119,7 @@ static PAGES_2: [Case; 8] = [
         target: "/delta-sharing/shares/s1/schemas/sc/tables/t1/query",
         body: "{\"maxFiles\":2}",
         now: 0,
-        shown: Shown::Table(Part::Files(FIVE)),
+        shown: Shown::Table(Part::Files(Log::Five)),
         told: Told::Lines(
             4,
             &[
@@ -157,7 +136,7 @@ static PAGES_2: [Case; 8] = [
         target: "/delta-sharing/shares/s1/schemas/sc/tables/t1/query",
         body: "{\"maxFiles\":2,\"pageToken\":\"MTpxLDI6cjEsMjpzMSwyOnNjLDI6dDEsMToxLDE6MSwxOmwsMTo0LDE6LSwxOjIs.04aa3aa693939c9e9f4a4a65fb6f43143d02659344725a5cc4178441b39c63fb\"}",
         now: 0,
-        shown: Shown::Table(Part::Files(FIVE)),
+        shown: Shown::Table(Part::Files(Log::Five)),
         told: Told::Lines(
             4,
             &[
@@ -174,7 +153,7 @@ static PAGES_2: [Case; 8] = [
         target: "/delta-sharing/shares/s1/schemas/sc/tables/t1/query",
         body: "{\"maxFiles\":2,\"pageToken\":\"MTpxLDI6cjEsMjpzMSwyOnNjLDI6dDEsMToxLDE6MSwxOmwsMTo0LDE6LSwxOjQs.c6717bc2963fbe281b6e11e7803e8a85bf4636ad9f0a3acc524586e63c9de428\"}",
         now: 0,
-        shown: Shown::Table(Part::Files(FIVE)),
+        shown: Shown::Table(Part::Files(Log::Five)),
         told: Told::Lines(
             4,
             &[
@@ -190,7 +169,7 @@ static PAGES_2: [Case; 8] = [
         target: "/delta-sharing/shares/s1/schemas/sc/tables/t1/query",
         body: "{\"pageToken\":\"MTpxLDI6cjEsMjpzMSwyOnNjLDI6dDEsMToxLDE6MSwxOmwsMTo0LDE6LSwxOjIs.04aa3aa693939c9e9f4a4a65fb6f43143d02659344725a5cc4178441b39c63fb\"}",
         now: 0,
-        shown: Shown::Table(Part::Files(FIVE)),
+        shown: Shown::Table(Part::Files(Log::Five)),
         told: Told::Lines(
             4,
             &[
@@ -208,7 +187,7 @@ static PAGES_2: [Case; 8] = [
         target: "/delta-sharing/shares/s1/schemas/sc/tables/t1/query",
         body: "{\"pageToken\":\"MTpxLDI6cjEsMjpzMSwyOnNjLDI6dDEsMToxLDE6MSwxOmwsMTo0LDE6LSwxOjUs.4864989735d30197a3ba7d142000e560b96c64aa7bcc3886a6e71ccec84d87d6\"}",
         now: 0,
-        shown: Shown::Table(Part::Files(FIVE)),
+        shown: Shown::Table(Part::Files(Log::Five)),
         told: Told::Lines(4, &[P1, M1, "{\"endStreamAction\":{}}"]),
     },
     Case {
@@ -216,7 +195,7 @@ static PAGES_2: [Case; 8] = [
         target: "/delta-sharing/shares/s1/schemas/sc/tables/t1/query",
         body: "{\"jsonPredicateHints\":\"{\",\"maxFiles\":1,\"pageToken\":\"MTpxLDI6cjEsMjpzMSwyOnNjLDI6dDEsMToxLDE6MSwxOmwsMTo0LDE6LSwxOjIs.04aa3aa693939c9e9f4a4a65fb6f43143d02659344725a5cc4178441b39c63fb\"}",
         now: 5,
-        shown: Shown::Table(Part::Files(FIVE)),
+        shown: Shown::Table(Part::Files(Log::Five)),
         told: Told::Lines(
             4,
             &[
@@ -232,7 +211,7 @@ static PAGES_2: [Case; 8] = [
         target: "/delta-sharing/shares/s1/schemas/sc/tables/t1/query",
         body: "{\"maxFiles\":5}",
         now: 0,
-        shown: Shown::Table(Part::Files(FIVE)),
+        shown: Shown::Table(Part::Files(Log::Five)),
         told: Told::Lines(
             4,
             &[
@@ -252,7 +231,7 @@ static PAGES_2: [Case; 8] = [
         target: "/delta-sharing/shares/s1/schemas/sc/tables/t1/query",
         body: "{\"maxFiles\":4,\"version\":4}",
         now: 0,
-        shown: Shown::Table(Part::Files(FIVE)),
+        shown: Shown::Table(Part::Files(Log::Five)),
         told: Told::Lines(
             4,
             &[
@@ -274,7 +253,7 @@ static PAGES_3: [Case; 8] = [
         target: "/delta-sharing/shares/s1/schemas/sc/tables/t1/query",
         body: "{\"pageToken\":\"MTpxLDI6cjEsMjpzMSwyOnNjLDI6dDEsMToxLDE6MSwyOnY0LDE6NCwxOi0sMTo0LA.d5eb18084d62551c9fca6910bbb1cf304e3c25510d6f612fa8a51297180a1e86\",\"version\":4}",
         now: 0,
-        shown: Shown::Table(Part::Files(FIVE)),
+        shown: Shown::Table(Part::Files(Log::Five)),
         told: Told::Lines(
             4,
             &[
@@ -290,7 +269,7 @@ static PAGES_3: [Case; 8] = [
         target: "/delta-sharing/shares/s1/schemas/sc/tables/t1/query",
         body: "{\"maxFiles\":4,\"timestamp\":\"1970-01-01T00:00:00.000000005Z\"}",
         now: 0,
-        shown: Shown::Table(Part::Files(FIVE)),
+        shown: Shown::Table(Part::Files(Log::Five)),
         told: Told::Lines(
             4,
             &[
@@ -309,7 +288,7 @@ static PAGES_3: [Case; 8] = [
         target: "/delta-sharing/shares/s1/schemas/sc/tables/t1/query",
         body: "{\"pageToken\":\"MTpxLDI6cjEsMjpzMSwyOnNjLDI6dDEsMToxLDE6MSwyOm01LDE6NCwxOi0sMTo0LA.58abb986d53ef2bca45cb4b1ef69355f293cc9e551e439f1d27906f827f531de\",\"timestamp\":\"1970-01-01T01:00:00.000000005+01:00\"}",
         now: 0,
-        shown: Shown::Table(Part::Files(FIVE)),
+        shown: Shown::Table(Part::Files(Log::Five)),
         told: Told::Lines(
             4,
             &[
@@ -325,7 +304,7 @@ static PAGES_3: [Case; 8] = [
         target: "/delta-sharing/shares/s1/schemas/sc/tables/t1/query",
         body: "{\"jsonPredicateHints\":\"{\\\"op\\\":\\\"equal\\\",\\\"children\\\":[{\\\"op\\\":\\\"column\\\",\\\"name\\\":\\\"day\\\",\\\"valueType\\\":\\\"int\\\"},{\\\"op\\\":\\\"literal\\\",\\\"value\\\":\\\"1\\\",\\\"valueType\\\":\\\"int\\\"}]}\"}",
         now: 0,
-        shown: Shown::Table(Part::Files(DAYS)),
+        shown: Shown::Table(Part::Files(Log::Days)),
         told: Told::Lines(
             0,
             &[
@@ -342,7 +321,7 @@ static PAGES_3: [Case; 8] = [
         target: "/delta-sharing/shares/s1/schemas/sc/tables/t1/query",
         body: "{\"jsonPredicateHints\":\"{\\\"op\\\":\\\"equal\\\",\\\"children\\\":[{\\\"op\\\":\\\"column\\\",\\\"name\\\":\\\"day\\\",\\\"valueType\\\":\\\"int\\\"},{\\\"op\\\":\\\"literal\\\",\\\"value\\\":\\\"1\\\",\\\"valueType\\\":\\\"int\\\"}]}\",\"maxFiles\":2}",
         now: 0,
-        shown: Shown::Table(Part::Files(DAYS)),
+        shown: Shown::Table(Part::Files(Log::Days)),
         told: Told::Lines(
             0,
             &[
@@ -359,7 +338,7 @@ static PAGES_3: [Case; 8] = [
         target: "/delta-sharing/shares/s1/schemas/sc/tables/t1/query",
         body: "{\"jsonPredicateHints\":\"{\\\"op\\\":\\\"equal\\\",\\\"children\\\":[{\\\"op\\\":\\\"column\\\",\\\"name\\\":\\\"day\\\",\\\"valueType\\\":\\\"int\\\"},{\\\"op\\\":\\\"literal\\\",\\\"value\\\":\\\"1\\\",\\\"valueType\\\":\\\"int\\\"}]}\",\"maxFiles\":2,\"pageToken\":\"MTpxLDI6cjEsMjpzMSwyOnNjLDI6dDEsMToxLDE6MSwxOmwsMTowLDEyMjoreyJvcCI6ImVxdWFsIiwiY2hpbGRyZW4iOlt7Im9wIjoiY29sdW1uIiwibmFtZSI6ImRheSIsInZhbHVlVHlwZSI6ImludCJ9LHsib3AiOiJsaXRlcmFsIiwidmFsdWUiOiIxIiwidmFsdWVUeXBlIjoiaW50In1dfSwxOjMs.d6e05679038a13e4a002b8d6369f91b399c6268b116df6929e62c1cd5842360b\"}",
         now: 0,
-        shown: Shown::Table(Part::Files(DAYS)),
+        shown: Shown::Table(Part::Files(Log::Days)),
         told: Told::Lines(
             0,
             &[
@@ -375,7 +354,7 @@ static PAGES_3: [Case; 8] = [
         target: "/delta-sharing/shares/s1/schemas/sc/tables/t1/query",
         body: "{\"maxFiles\":2,\"pageToken\":\"MTpxLDI6cjEsMjpzMSwyOnNjLDI6dDEsMToxLDE6MSwxOmwsMTowLDEyMjoreyJvcCI6ImVxdWFsIiwiY2hpbGRyZW4iOlt7Im9wIjoiY29sdW1uIiwibmFtZSI6ImRheSIsInZhbHVlVHlwZSI6ImludCJ9LHsib3AiOiJsaXRlcmFsIiwidmFsdWUiOiIxIiwidmFsdWVUeXBlIjoiaW50In1dfSwxOjMs.d6e05679038a13e4a002b8d6369f91b399c6268b116df6929e62c1cd5842360b\"}",
         now: 0,
-        shown: Shown::Table(Part::Files(DAYS)),
+        shown: Shown::Table(Part::Files(Log::Days)),
         told: Told::Lines(
             0,
             &[
@@ -391,7 +370,7 @@ static PAGES_3: [Case; 8] = [
         target: "/delta-sharing/shares/s1/schemas/sc/tables/t1/query",
         body: "{\"jsonPredicateHints\":\"{\\\"op\\\":\\\"equal\\\",\\\"children\\\":[{\\\"op\\\":\\\"column\\\",\\\"name\\\":\\\"day\\\",\\\"valueType\\\":\\\"int\\\"},{\\\"op\\\":\\\"literal\\\",\\\"value\\\":\\\"1\\\",\\\"valueType\\\":\\\"int\\\"}]}\",\"maxFiles\":2}",
         now: 0,
-        shown: Shown::Table(Part::Files(PARTLY)),
+        shown: Shown::Table(Part::Files(Log::Partly)),
         told: Told::Lines(
             0,
             &[
@@ -407,36 +386,15 @@ static PAGES_3: [Case; 8] = [
 
 #[test]
 fn pages_have_the_files_from_a_place_1(rt: HostRuntime) {
-    for case in &PAGES_1 {
-        assert!(rt;
-            holds(rt.alloc(), case) == Some(true),
-            "at {} {}",
-            case.target,
-            case.body
-        );
-    }
+    assert_eq!(rt; first_wrong(rt.alloc(), &PAGES_1), None);
 }
 
 #[test]
 fn pages_have_the_files_from_a_place_2(rt: HostRuntime) {
-    for case in &PAGES_2 {
-        assert!(rt;
-            holds(rt.alloc(), case) == Some(true),
-            "at {} {}",
-            case.target,
-            case.body
-        );
-    }
+    assert_eq!(rt; first_wrong(rt.alloc(), &PAGES_2), None);
 }
 
 #[test]
 fn pages_have_the_files_from_a_place_3(rt: HostRuntime) {
-    for case in &PAGES_3 {
-        assert!(rt;
-            holds(rt.alloc(), case) == Some(true),
-            "at {} {}",
-            case.target,
-            case.body
-        );
-    }
+    assert_eq!(rt; first_wrong(rt.alloc(), &PAGES_3), None);
 }

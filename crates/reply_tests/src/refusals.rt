@@ -1,27 +1,13 @@
 // Refusals, each with its first reason, and the objects that links stand for.
-use crate::cases::{Case, Part, Shown, Told, holds};
-use crate::made::{Path, keys, request, request_by};
+use crate::cases::{Case, Part, Shown, Told, first_wrong};
+use crate::logs::Log;
+use crate::made::{Granted, keys, plan, request_by};
 use case_table::{Method, Refusal};
-use json_tree::{Millis, Text};
+use json_tree::Text;
 use share_book::TableRefusal;
-use share_reply::{Plan, plan_of};
+use share_reply::{Plan, ReplyKeys};
+use share_request::Request;
 use std::alloc::Global;
-
-const SHARES: &[&str] = &["s1", "s2"];
-
-const TABLES: &[Path] = &[Path {
-    share: "s1",
-    schema: "sc",
-    table: "t1",
-}];
-
-// The feed is on from version 0 to 2, and off at 3.
-const SWITCHED: &[&str] = &[
-    "{\"protocol\":{\"minReaderVersion\":1,\"minWriterVersion\":4}}\n{\"metaData\":{\"id\":\"m\",\"schemaString\":\"{}\",\"configuration\":{\"delta.enableChangeDataFeed\":\"true\"}}}",
-    "{\"add\":{\"path\":\"a\",\"size\":1}}",
-    "{\"remove\":{\"path\":\"a\"}}",
-    "{\"metaData\":{\"id\":\"m\",\"schemaString\":\"{}\"}}",
-];
 
 static REFUSALS: [Case; 34] = [
     Case {
@@ -77,7 +63,7 @@ static REFUSALS: [Case; 34] = [
         target: "/delta-sharing/shares?maxResults=x",
         body: "",
         now: 0,
-        shown: Shown::Names(SHARES, TABLES),
+        shown: Shown::Names(Granted::Two),
         told: Told::Refused(Refusal::BadParameter, "maxResults"),
     },
     Case {
@@ -85,7 +71,7 @@ static REFUSALS: [Case; 34] = [
         target: "/delta-sharing/shares/s1/schemas/sc/tables/t1/query",
         body: "{",
         now: 0,
-        shown: Shown::Names(SHARES, TABLES),
+        shown: Shown::Names(Granted::Two),
         told: Told::Refused(Refusal::BadBody, ""),
     },
     Case {
@@ -93,7 +79,7 @@ static REFUSALS: [Case; 34] = [
         target: "/delta-sharing/shares/s1/schemas/sc/tables/t1/query",
         body: "{\"maxFiles\":0}",
         now: 0,
-        shown: Shown::Names(SHARES, TABLES),
+        shown: Shown::Names(Granted::Two),
         told: Told::Refused(Refusal::BadParameter, "maxFiles"),
     },
     Case {
@@ -101,7 +87,7 @@ static REFUSALS: [Case; 34] = [
         target: "/delta-sharing/shares/s1/schemas/sc/tables/t1/changes?maxFiles=1",
         body: "",
         now: 0,
-        shown: Shown::Names(SHARES, TABLES),
+        shown: Shown::Names(Granted::Two),
         told: Told::Refused(Refusal::BadParameter, "startingVersion"),
     },
     Case {
@@ -109,7 +95,7 @@ static REFUSALS: [Case; 34] = [
         target: "/delta-sharing/shares/s9",
         body: "",
         now: 0,
-        shown: Shown::Names(SHARES, TABLES),
+        shown: Shown::Names(Granted::Two),
         told: Told::Refused(Refusal::NotFound, ""),
     },
     Case {
@@ -117,7 +103,7 @@ static REFUSALS: [Case; 34] = [
         target: "/delta-sharing/shares/s9/schemas",
         body: "",
         now: 0,
-        shown: Shown::Names(SHARES, TABLES),
+        shown: Shown::Names(Granted::Two),
         told: Told::Refused(Refusal::NotFound, ""),
     },
     Case {
@@ -125,7 +111,7 @@ static REFUSALS: [Case; 34] = [
         target: "/delta-sharing/shares/s9/schemas/sc/tables",
         body: "",
         now: 0,
-        shown: Shown::Names(SHARES, TABLES),
+        shown: Shown::Names(Granted::Two),
         told: Told::Refused(Refusal::NotFound, ""),
     },
     Case {
@@ -133,7 +119,7 @@ static REFUSALS: [Case; 34] = [
         target: "/delta-sharing/shares/s9/all-tables",
         body: "",
         now: 0,
-        shown: Shown::Names(SHARES, TABLES),
+        shown: Shown::Names(Granted::Two),
         told: Told::Refused(Refusal::NotFound, ""),
     },
     Case {
@@ -141,7 +127,7 @@ static REFUSALS: [Case; 34] = [
         target: "/delta-sharing/shares/s2/schemas/sc/tables",
         body: "",
         now: 0,
-        shown: Shown::Names(SHARES, TABLES),
+        shown: Shown::Names(Granted::Two),
         told: Told::Refused(Refusal::NotFound, ""),
     },
     Case {
@@ -149,7 +135,7 @@ static REFUSALS: [Case; 34] = [
         target: "/delta-sharing/shares/s1/schemas/none/tables",
         body: "",
         now: 0,
-        shown: Shown::Names(SHARES, TABLES),
+        shown: Shown::Names(Granted::Two),
         told: Told::Refused(Refusal::NotFound, ""),
     },
     Case {
@@ -157,7 +143,7 @@ static REFUSALS: [Case; 34] = [
         target: "/delta-sharing/shares/%20",
         body: "",
         now: 0,
-        shown: Shown::Names(SHARES, TABLES),
+        shown: Shown::Names(Granted::Two),
         told: Told::Refused(Refusal::NotFound, ""),
     },
     Case {
@@ -205,7 +191,7 @@ static REFUSALS: [Case; 34] = [
         target: "/delta-sharing/provider/refresh",
         body: "{\"location\":\"t\"}",
         now: 0,
-        shown: Shown::Names(SHARES, TABLES),
+        shown: Shown::Names(Granted::Two),
         told: Told::Refused(Refusal::NotFound, ""),
     },
     Case {
@@ -285,7 +271,7 @@ static REFUSALS: [Case; 34] = [
         target: "/delta-sharing/shares/s1/schemas/sc/tables/t1/changes?startingVersion=0",
         body: "",
         now: 0,
-        shown: Shown::Table(Part::Feed(SWITCHED, 0)),
+        shown: Shown::Table(Part::Feed(Log::Switched, 0)),
         told: Told::Refused(Refusal::ChangesNotEnabled, "3"),
     },
     Case {
@@ -293,7 +279,7 @@ static REFUSALS: [Case; 34] = [
         target: "/delta-sharing/shares/s1/schemas/sc/tables/t1/changes?startingVersion=3",
         body: "",
         now: 0,
-        shown: Shown::Table(Part::Feed(SWITCHED, 3)),
+        shown: Shown::Table(Part::Feed(Log::Switched, 3)),
         told: Told::Refused(Refusal::ChangesNotEnabled, "3"),
     },
 ];
@@ -423,27 +409,33 @@ static LINKS: [Case; 15] = [
 
 #[test]
 fn each_refusal_has_its_reason(rt: HostRuntime) {
-    for case in &REFUSALS {
-        assert!(rt; holds(rt.alloc(), case) == Some(true), "at {}", case.target);
-    }
+    assert_eq!(rt; first_wrong(rt.alloc(), &REFUSALS), None);
 }
 
 #[test]
 fn links_stand_for_objects(rt: HostRuntime) {
-    for case in &LINKS {
-        assert!(rt; holds(rt.alloc(), case) == Some(true), "at {}", case.target);
+    assert_eq!(rt; first_wrong(rt.alloc(), &LINKS), None);
+}
+
+fn text_of(alloc: Global, plan: &Plan<'_>) -> Option<Text> {
+    match plan {
+        Plan::Refused(refused) => refused.text(alloc).ok(),
+        _ => None,
     }
+}
+
+fn refusal_of(alloc: Global, keys: &ReplyKeys, request: &Request) -> Option<Text> {
+    text_of(alloc, &plan(alloc, keys, request, 0, &None)?)
+}
+
+fn refusal_by(alloc: Global, keys: &ReplyKeys, target: &str, authorization: &str) -> Option<Text> {
+    let request = request_by(alloc, "GET", target, authorization, "")?;
+    refusal_of(alloc, keys, &request)
 }
 
 // How a request that isn't shown anything is refused.
 fn refusal(alloc: Global, target: &str, authorization: &str) -> Option<Text> {
-    let keys = keys(alloc)?;
-    let request = request_by(alloc, "GET", target, authorization, "")?;
-    let seen = None;
-    match &plan_of(alloc, &keys, &request, Millis::of(0)?, &seen).ok()? {
-        Plan::Refused(refused) => refused.text(alloc).ok(),
-        _ => None,
-    }
+    refusal_by(alloc, &keys(alloc)?, target, authorization)
 }
 
 fn is_refusal(alloc: Global, target: &str, authorization: &str, want: &str) -> Option<bool> {

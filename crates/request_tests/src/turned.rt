@@ -8,7 +8,7 @@ struct Away {
     method: &'static str,
     target: &'static str,
     authorization: &'static str,
-    told: TurnedAway,
+    told: &'static str,
 }
 
 static AWAY: [Away; 40] = [
@@ -16,264 +16,278 @@ static AWAY: [Away; 40] = [
         method: "GET",
         target: "/",
         authorization: "Bearer abc",
-        told: TurnedAway::NoRoute,
+        told: "no route",
     },
     Away {
         method: "GET",
         target: "/delta-sharing",
         authorization: "Bearer abc",
-        told: TurnedAway::NoRoute,
+        told: "no route",
     },
     Away {
         method: "GET",
         target: "/delta-sharing/",
         authorization: "Bearer abc",
-        told: TurnedAway::NoRoute,
+        told: "no route",
     },
     Away {
         method: "GET",
         target: "/delta-sharingx/shares",
         authorization: "Bearer abc",
-        told: TurnedAway::NoRoute,
+        told: "no route",
     },
     Away {
         method: "GET",
         target: "/Delta-Sharing/shares",
         authorization: "Bearer abc",
-        told: TurnedAway::NoRoute,
+        told: "no route",
     },
     Away {
         method: "GET",
         target: "//delta-sharing/shares",
         authorization: "Bearer abc",
-        told: TurnedAway::NoRoute,
+        told: "no route",
     },
     Away {
         method: "GET",
         target: "shares",
         authorization: "Bearer abc",
-        told: TurnedAway::NoRoute,
+        told: "no route",
     },
     Away {
         method: "GET",
         target: "*",
         authorization: "Bearer abc",
-        told: TurnedAway::NoRoute,
+        told: "no route",
     },
     Away {
         method: "GET",
         target: "/delta-sharing/Shares",
         authorization: "Bearer abc",
-        told: TurnedAway::NoRoute,
+        told: "no route",
     },
     Away {
         method: "GET",
         target: "/delta-sharing/share",
         authorization: "Bearer abc",
-        told: TurnedAway::NoRoute,
+        told: "no route",
     },
     Away {
         method: "GET",
         target: "/delta-sharing/shares/a/schemas/",
         authorization: "Bearer abc",
-        told: TurnedAway::NoRoute,
+        told: "no route",
     },
     Away {
         method: "GET",
         target: "/delta-sharing/shares/a/tables",
         authorization: "Bearer abc",
-        told: TurnedAway::NoRoute,
+        told: "no route",
     },
     Away {
         method: "GET",
         target: "/delta-sharing/shares/a/schemas/b",
         authorization: "Bearer abc",
-        told: TurnedAway::NoRoute,
+        told: "no route",
     },
     Away {
         method: "GET",
         target: "/delta-sharing/shares/a/schemas/b/tables/c",
         authorization: "Bearer abc",
-        told: TurnedAway::NoRoute,
+        told: "no route",
     },
     Away {
         method: "GET",
         target: "/delta-sharing/shares/a/schemas/b/tables/c/files",
         authorization: "Bearer abc",
-        told: TurnedAway::NoRoute,
+        told: "no route",
     },
     Away {
         method: "GET",
         target: "/delta-sharing/shares/a/schemas/b/tables/c/version/",
         authorization: "Bearer abc",
-        told: TurnedAway::NoRoute,
+        told: "no route",
     },
     Away {
         method: "GET",
         target: "/delta-sharing/shares/a%2Fschemas",
         authorization: "",
-        told: TurnedAway::NoBearer,
+        told: "no bearer",
     },
     Away {
         method: "GET",
         target: "/delta-sharing/files",
         authorization: "Bearer abc",
-        told: TurnedAway::NoRoute,
+        told: "no route",
     },
     Away {
         method: "GET",
         target: "/delta-sharing/%66iles/a/b/c/d",
         authorization: "Bearer abc",
-        told: TurnedAway::NoRoute,
+        told: "no route",
     },
     Away {
         method: "POST",
         target: "/delta-sharing/provider",
         authorization: "Bearer abc",
-        told: TurnedAway::NoRoute,
+        told: "no route",
     },
     Away {
         method: "POST",
         target: "/delta-sharing/admin/edits",
         authorization: "Bearer abc",
-        told: TurnedAway::NoRoute,
+        told: "no route",
     },
     Away {
         method: "GET",
         target: "http://h?x=/delta-sharing/shares",
         authorization: "Bearer abc",
-        told: TurnedAway::NoRoute,
+        told: "no route",
     },
     Away {
         method: "GET",
         target: "ftp://h/delta-sharing/shares",
         authorization: "Bearer abc",
-        told: TurnedAway::NoRoute,
+        told: "no route",
     },
     Away {
         method: "HEAD",
         target: "/delta-sharing/shares",
         authorization: "Bearer abc",
-        told: TurnedAway::WrongMethod(Method::Get),
+        told: "GET",
     },
     Away {
         method: "get",
         target: "/delta-sharing/shares",
         authorization: "Bearer abc",
-        told: TurnedAway::WrongMethod(Method::Get),
+        told: "GET",
     },
     Away {
         method: "POST",
         target: "/delta-sharing/shares/a",
         authorization: "",
-        told: TurnedAway::WrongMethod(Method::Get),
+        told: "GET",
     },
     Away {
         method: "GET",
         target: "/delta-sharing/shares/a/schemas/b/tables/c/query",
         authorization: "Bearer abc",
-        told: TurnedAway::WrongMethod(Method::Post),
+        told: "POST",
     },
     Away {
         method: "GET",
         target: "/delta-sharing/provider/commit",
         authorization: "",
-        told: TurnedAway::WrongMethod(Method::Post),
+        told: "POST",
     },
     Away {
         method: "PUT",
         target: "/delta-sharing/admin/edit",
         authorization: "Bearer abc",
-        told: TurnedAway::WrongMethod(Method::Post),
+        told: "POST",
     },
     Away {
         method: "POST",
         target: "/delta-sharing/files/a/b/c/d",
         authorization: "",
-        told: TurnedAway::WrongMethod(Method::GetOrHead),
+        told: "GET or HEAD",
     },
     Away {
         method: "head",
         target: "/delta-sharing/files/",
         authorization: "",
-        told: TurnedAway::WrongMethod(Method::GetOrHead),
+        told: "GET or HEAD",
     },
     Away {
         method: "HEAD",
         target: "/delta-sharing/shares/a/schemas/b/tables/c/query",
         authorization: "Bearer abc",
-        told: TurnedAway::WrongMethod(Method::Post),
+        told: "POST",
     },
     Away {
         method: "GET",
         target: "/delta-sharing/shares",
         authorization: "",
-        told: TurnedAway::NoBearer,
+        told: "no bearer",
     },
     Away {
         method: "GET",
         target: "/delta-sharing/shares//schemas",
         authorization: "",
-        told: TurnedAway::NoBearer,
+        told: "no bearer",
     },
     Away {
         method: "GET",
         target: "/delta-sharing/shares?maxResults=x",
         authorization: "",
-        told: TurnedAway::NoBearer,
+        told: "no bearer",
     },
     Away {
         method: "GET",
         target: "/delta-sharing/shares",
         authorization: "Bearer",
-        told: TurnedAway::NoBearer,
+        told: "no bearer",
     },
     Away {
         method: "GET",
         target: "/delta-sharing/shares",
         authorization: "Bearerabc",
-        told: TurnedAway::NoBearer,
+        told: "no bearer",
     },
     Away {
         method: "GET",
         target: "/delta-sharing/shares",
         authorization: "Bearer abc def",
-        told: TurnedAway::NoBearer,
+        told: "no bearer",
     },
     Away {
         method: "GET",
         target: "/delta-sharing/shares",
         authorization: "Bearer\tabc",
-        told: TurnedAway::NoBearer,
+        told: "no bearer",
     },
     Away {
         method: "GET",
         target: "/delta-sharing/shares",
         authorization: "Basic abc",
-        told: TurnedAway::NoBearer,
+        told: "no bearer",
     },
 ];
 
-fn told(request: &Request) -> Option<TurnedAway> {
-    match request {
-        Request::TurnedAway(why) => Some(*why),
-        _ => None,
+fn method_word(method: Method) -> &'static str {
+    match method {
+        Method::Get => "GET",
+        Method::Post => "POST",
+        Method::GetOrHead => "GET or HEAD",
     }
 }
 
-fn answer(alloc: Global, row: &Away) -> Option<TurnedAway> {
-    told(&request(alloc, row.method, row.target, row.authorization, "")?)
+// Why the request is turned away: the method of its route where it has another one.
+fn told(request: &Request) -> &'static str {
+    match request {
+        Request::TurnedAway(TurnedAway::NoRoute) => "no route",
+        Request::TurnedAway(TurnedAway::NoBearer) => "no bearer",
+        Request::TurnedAway(TurnedAway::WrongMethod(method)) => method_word(*method),
+        _ => "not turned away",
+    }
+}
+
+fn answer(alloc: Global, row: &Away) -> Option<&'static str> {
+    let request = request(alloc, row.method, row.target, row.authorization, "")?;
+    Some(told(&request))
+}
+
+fn holds(alloc: Global, row: &Away) -> bool {
+    match answer(alloc, row) {
+        Some(told) => told == row.told,
+        None => false,
+    }
 }
 
 #[test]
 fn the_first_reason_is_told(rt: HostRuntime) {
     for row in &AWAY {
-        assert!(rt;
-            answer(rt.alloc(), row) == Some(row.told),
-            "at {} {}",
-            row.method,
-            row.target
-        );
+        assert!(rt; holds(rt.alloc(), row), "at {} {}", row.method, row.target);
     }
 }
 

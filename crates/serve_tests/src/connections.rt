@@ -1,5 +1,5 @@
 // The requests of one connection, and when it is closed.
-use crate::desk::{Desk, stocked};
+use crate::desk::place_of;
 use crate::requests::{
     HEAD_LINK, HEAD_QUERY, HEAD_ROOT, HEAD_SHARES, QUERY_CHUNKED, ROOT, ROOT_CLOSING,
     ROOT_CLOSING_BY_LIST, ROOT_OLD, ROOT_OLD_KEPT, SHARES, SHARES_BY_NOBODY, SHARES_OF_HOST,
@@ -9,8 +9,8 @@ use crate::responses::{
     FILE_A_HEAD, FILES_AT_4, NOT_FOUND, NOT_FOUND_CLOSING, NOT_FOUND_HEAD, ONLY_GET_HEAD,
     ONLY_POST_HEAD, SHARES_S1, UNAUTHENTICATED, VERSION_0, VERSION_4,
 };
-use crate::rows::{Row, UNANSWERED, holds};
-use crate::worlds::{DAYS, FIVE};
+use crate::rows::{Row, UNANSWERED, first_wrong};
+use crate::worlds::World;
 use edge_core::{MemSink, MemSource};
 use share_serve::SessionEnd;
 use std::alloc::Global;
@@ -19,8 +19,8 @@ use std::sync::Wait;
 // Who closes the connection, and what is answered in order.
 static CONNECTIONS: [Row; 7] = [
     Row {
-        stored: DAYS,
-        later: &[],
+        stored: World::Days,
+        later: World::Nothing,
         moments: &[0],
         turns: &[
             (ROOT, NOT_FOUND),
@@ -32,8 +32,8 @@ static CONNECTIONS: [Row; 7] = [
         ],
     },
     Row {
-        stored: DAYS,
-        later: &[],
+        stored: World::Days,
+        later: World::Nothing,
         moments: &[0],
         turns: &[
             (SHARES, SHARES_S1),
@@ -42,8 +42,8 @@ static CONNECTIONS: [Row; 7] = [
         ],
     },
     Row {
-        stored: DAYS,
-        later: &[],
+        stored: World::Days,
+        later: World::Nothing,
         moments: &[0],
         turns: &[
             (ROOT_CLOSING_BY_LIST, NOT_FOUND_CLOSING),
@@ -51,20 +51,20 @@ static CONNECTIONS: [Row; 7] = [
         ],
     },
     Row {
-        stored: DAYS,
-        later: &[],
+        stored: World::Days,
+        later: World::Nothing,
         moments: &[0],
         turns: &[(ROOT_OLD, NOT_FOUND_CLOSING), (SHARES, UNANSWERED)],
     },
     Row {
-        stored: DAYS,
-        later: &[],
+        stored: World::Days,
+        later: World::Nothing,
         moments: &[0],
         turns: &[(ROOT_OLD_KEPT, NOT_FOUND_CLOSING), (SHARES, UNANSWERED)],
     },
     Row {
-        stored: DAYS,
-        later: &[],
+        stored: World::Days,
+        later: World::Nothing,
         moments: &[0],
         turns: &[
             (HEAD_SHARES, ONLY_GET_HEAD),
@@ -76,8 +76,8 @@ static CONNECTIONS: [Row; 7] = [
         ],
     },
     Row {
-        stored: FIVE,
-        later: &[],
+        stored: World::Five,
+        later: World::Nothing,
         moments: &[0],
         turns: &[(QUERY_CHUNKED, FILES_AT_4), (VERSION, VERSION_4)],
     },
@@ -85,9 +85,7 @@ static CONNECTIONS: [Row; 7] = [
 
 #[test]
 fn requests_are_answered_in_order_until_one_closes(rt: HostRuntime) {
-    for (number, row) in CONNECTIONS.iter().enumerate() {
-        assert!(rt; holds(&rt, rt.alloc(), row) == Some(true), "at {number}");
-    }
+    assert_eq!(rt; first_wrong(&rt, rt.alloc(), &CONNECTIONS), None);
 }
 
 // So many requests of the same text.
@@ -113,13 +111,11 @@ fn is_repeated(bytes: &[u8], text: &str, count: usize, last: &str) -> bool {
 
 // Of one request more than a connection has, all but that are answered.
 fn is_closed_at_last<R: Wait>(rt: &R, alloc: Global) -> Option<bool> {
-    let mut store = stocked(alloc, DAYS)?;
-    let mut desk = Desk::open(alloc, &mut store)?;
-    let mut source = MemSource::new(alloc, many(alloc, ROOT, 10_001)?);
-    let mut sink = MemSink::new(alloc, 2_500_000, 30_000).ok()?;
-    let end = desk.serve(rt, alloc, &mut store, &[0], &mut source, &mut sink)?;
-    let told = is_repeated(sink.bytes(), NOT_FOUND, 9_999, NOT_FOUND_CLOSING);
-    Some(end == SessionEnd::Done { served: 10_000 } && told)
+    let source = MemSource::new(alloc, many(alloc, ROOT, 10_001)?);
+    let sink = MemSink::new(alloc, 2_500_000, 30_000).ok()?;
+    let heard = place_of(alloc, World::Days)?.hear(rt, alloc, &[0], source, sink)?;
+    let told = is_repeated(heard.sink.bytes(), NOT_FOUND, 9_999, NOT_FOUND_CLOSING);
+    Some(heard.ends(SessionEnd::Done { served: 10_000 }) && told)
 }
 
 #[test]

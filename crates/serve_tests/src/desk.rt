@@ -1,8 +1,10 @@
-// A server with one caller. What a session needs is kept in the type, so that the tests' functions have no clauses.
+// A server with one caller. What a session needs is kept in the types, so that the tests' functions have no clauses, and what a call
+// promises is known inside a small function alone.
 ghost use Rattle.std.specs.Prelude.{◌≡◌, ◌≤◌, ◌↔◌, All, IsTrue, false};
 
-use crate::worlds::{Object, RECORDS};
-use edge_core::{MemClock, MemSource, MemStore, Name, OpenGate, Sink, Stored};
+use crate::rows::are_texts;
+use crate::worlds::{Object, RECORDS, World, objects};
+use edge_core::{MemClock, MemSink, MemSource, MemStore, Name, OpenGate, Sink, Stored};
 use share_config::config_of;
 use share_hub::{Hub, HubPass};
 use share_serve::{Server, SessionEnd, serve_conn};
@@ -23,7 +25,7 @@ const CONFIG: &str =
     \"endpoint\":\"http://127.0.0.1:8080/delta-sharing\"}";
 
 #[derive(Drop)]
-pub(crate) struct Desk {
+struct Desk {
     hub: Hub,
     pass: HubPass,
     server: Server,
@@ -44,8 +46,7 @@ fn clock(alloc: Global, moments: &[u64]) -> Option<MemClock> {
     Some(MemClock::new(Vec::from_slice(alloc, moments).ok()?))
 }
 
-/// Someone else stores an object.
-pub(crate) fn stock(alloc: Global, store: &mut MemStore, object: &str, bytes: &[u8]) -> Option<()> {
+fn stock(alloc: Global, store: &mut MemStore, object: &str, bytes: &[u8]) -> Option<()> {
     let name = Name::of(String::from_str(alloc, object).ok()?)?;
     let bytes = Vec::from_slice(alloc, bytes).ok()?;
     if store.stock(Stored { name, bytes }) {
@@ -55,30 +56,118 @@ pub(crate) fn stock(alloc: Global, store: &mut MemStore, object: &str, bytes: &[
     }
 }
 
-/// Someone else stores objects.
-pub(crate) fn stock_all(alloc: Global, store: &mut MemStore, objects: &[Object]) -> Option<()> {
+fn stock_all(alloc: Global, store: &mut MemStore, objects: &[Object]) -> Option<()> {
     for (object, text) in objects {
         stock(alloc, store, object, text.as_bytes())?;
     }
     Some(())
 }
 
-/// A store with the records, and with these objects.
-pub(crate) fn stocked(alloc: Global, objects: &[Object]) -> Option<MemStore> {
+// A store with the records, and with these objects.
+fn stocked(alloc: Global, world: World) -> Option<MemStore> {
     let mut store = MemStore::new(alloc, 100, 300_000, Vec::new(alloc)).ok()?;
-    stock_all(alloc, &mut store, RECORDS)?;
-    stock_all(alloc, &mut store, objects)?;
+    stock_all(alloc, &mut store, &RECORDS)?;
+    stock_all(alloc, &mut store, objects(world))?;
     Some(store)
 }
 
+fn server(alloc: Global) -> Option<Server> {
+    Some(Server::of(config_of(alloc, CONFIG.as_bytes()).ok()?))
+}
+
 impl Desk {
-    /// A server over what the store has.
-    pub(crate) fn open(alloc: Global, store: &mut MemStore) -> Option<Desk> {
+    // A server over what the store has.
+    fn open(alloc: Global, store: &mut MemStore) -> Option<Desk> {
+        let server = server(alloc)?;
         let (hub, mut passes) = Hub::open(alloc, store, 1).ok()?;
         let pass = passes.pop()?;
-        let config = config_of(alloc, CONFIG.as_bytes()).ok()?;
-        let server = Server::of(config);
         Some(Desk { hub, pass, server })
+    }
+
+    // How the session of a connection ends.
+    fn serve<R: Wait, K: Sink>(
+        &mut self,
+        rt: &R,
+        alloc: Global,
+        store: &mut MemStore,
+        clock: &mut MemClock,
+        source: &mut MemSource,
+        sink: &mut K,
+    ) -> SessionEnd {
+        let mut steps: Steps<Work> = Steps::new();
+        serve_conn(
+            rt,
+            alloc,
+            &self.hub,
+            &self.server,
+            &mut self.pass,
+            store,
+            clock,
+            &OpenGate,
+            source,
+            sink,
+            &mut steps,
+        )
+    }
+}
+
+/// What a session wrote, and how it ended.
+#[derive(Drop)]
+pub(crate) struct Heard {
+    end: SessionEnd,
+    pub sink: MemSink,
+}
+
+impl Heard {
+    pub(crate) fn ends(&self, end: SessionEnd) -> bool {
+        self.end == end
+    }
+
+    /// Whether those texts were written, and it ended so.
+    pub(crate) fn is(&self, told: &[&str], end: SessionEnd) -> bool {
+        are_texts(self.sink.bytes(), told) && self.ends(end)
+    }
+}
+
+/// A server and its store.
+#[derive(Drop)]
+pub(crate) struct Place {
+    desk: Desk,
+    pub store: MemStore,
+}
+
+fn place_over(alloc: Global, mut store: MemStore) -> Option<Place> {
+    let desk = Desk::open(alloc, &mut store)?;
+    Some(Place { desk, store })
+}
+
+/// A server over the records and these objects.
+pub(crate) fn place_of(alloc: Global, world: World) -> Option<Place> {
+    place_over(alloc, stocked(alloc, world)?)
+}
+
+/// Whether a server is opened where the call of the store of that number fails.
+pub(crate) fn opens_without(alloc: Global, world: World, call: Vec<u64>) -> Option<bool> {
+    let store = stocked(alloc, world)?.with_fails(call, Vec::new(alloc));
+    Some(place_over(alloc, store).is_some())
+}
+
+impl Place {
+    /// The same where the calls of the store of those numbers fail, of which some store before.
+    pub(crate) fn with_fails(self, calls: Vec<u64>, late: Vec<u64>) -> Place {
+        let Place { desk, store } = self;
+        let store = store.with_fails(calls, late);
+        Place { desk, store }
+    }
+
+    /// Someone else stores an object.
+    pub(crate) fn stock(&mut self, alloc: Global, object: &str, bytes: &[u8]) -> Option<()> {
+        stock(alloc, &mut self.store, object, bytes)
+    }
+
+    /// Someone else stores objects.
+    pub(crate) fn stock_all(&mut self, alloc: Global, world: World) -> Option<()> {
+        stock_all(alloc, &mut self.store, objects(world))
     }
 
     /// How the session of a connection ends, at those moments.
@@ -86,25 +175,27 @@ impl Desk {
         &mut self,
         rt: &R,
         alloc: Global,
-        store: &mut MemStore,
         moments: &[u64],
         source: &mut MemSource,
         sink: &mut K,
     ) -> Option<SessionEnd> {
         let mut clock = clock(alloc, moments)?;
-        let mut steps: Steps<Work> = Steps::new();
-        Some(serve_conn(
-            rt,
-            alloc,
-            &self.hub,
-            &self.server,
-            &mut self.pass,
-            store,
-            &mut clock,
-            &OpenGate,
-            source,
-            sink,
-            &mut steps,
-        ))
+        Some(
+            self.desk
+                .serve(rt, alloc, &mut self.store, &mut clock, source, sink),
+        )
+    }
+
+    /// A session, with what it writes.
+    pub(crate) fn hear<R: Wait>(
+        &mut self,
+        rt: &R,
+        alloc: Global,
+        moments: &[u64],
+        mut source: MemSource,
+        mut sink: MemSink,
+    ) -> Option<Heard> {
+        let end = self.serve(rt, alloc, moments, &mut source, &mut sink)?;
+        Some(Heard { end, sink })
     }
 }

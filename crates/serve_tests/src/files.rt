@@ -1,5 +1,5 @@
 // Links, and the objects that they lead to.
-use crate::desk::{Desk, stock, stocked};
+use crate::desk::{Heard, Place, place_of};
 use crate::requests::{
     GRANT, LINK_A, LINK_B, LINK_C, LINK_CHANGED, LINK_LARGE, REVOKE, ROOT, SHARES,
 };
@@ -7,10 +7,9 @@ use crate::responses::{
     FILE_A, FILE_A_AT_3599999, FILE_B, FILE_GONE, LARGE_HEAD, LINK_EXPIRED_AT_3600000,
     LINK_INVALID, LINK_REVOKED, NOT_FOUND, RECORD_4, RECORD_5, SHARES_S1,
 };
-use crate::rows::{Row, holds, sink, source};
+use crate::rows::{Row, first_wrong, one, sink, source};
 use crate::store_faults::calls_to_open;
-use crate::worlds::DAYS;
-use edge_core::MemStore;
+use crate::worlds::World;
 use share_serve::SessionEnd;
 use std::alloc::Global;
 use std::sync::Wait;
@@ -18,8 +17,8 @@ use std::sync::Wait;
 // What links lead to.
 static LINKS: [Row; 3] = [
     Row {
-        stored: DAYS,
-        later: &[],
+        stored: World::Days,
+        later: World::Nothing,
         moments: &[0, 3_599_999, 3_600_000],
         turns: &[
             (LINK_A, FILE_A),
@@ -28,8 +27,8 @@ static LINKS: [Row; 3] = [
         ],
     },
     Row {
-        stored: DAYS,
-        later: &[],
+        stored: World::Days,
+        later: World::Nothing,
         moments: &[0],
         turns: &[
             (LINK_A, FILE_A),
@@ -40,8 +39,8 @@ static LINKS: [Row; 3] = [
         ],
     },
     Row {
-        stored: DAYS,
-        later: &[],
+        stored: World::Days,
+        later: World::Nothing,
         moments: &[0],
         turns: &[
             (LINK_C, FILE_GONE),
@@ -54,15 +53,13 @@ static LINKS: [Row; 3] = [
 
 #[test]
 fn links_are_followed_or_refused(rt: HostRuntime) {
-    for (number, row) in LINKS.iter().enumerate() {
-        assert!(rt; holds(&rt, rt.alloc(), row) == Some(true), "at {number}");
-    }
+    assert_eq!(rt; first_wrong(&rt, rt.alloc(), &LINKS), None);
 }
 
 const SIZE: usize = 200_000;
 
-// An object of 200,000 bytes, no two pieces of which are the same.
-fn large(alloc: Global) -> Option<Vec<u8>> {
+/// An object of 200,000 bytes, no two pieces of which are the same.
+pub(crate) fn large(alloc: Global) -> Option<Vec<u8>> {
     let mut bytes = Vec::new(alloc);
     for place in 0..SIZE {
         let byte = place.wrapping_mul(place).wrapping_add(place / 251) % 256;
@@ -90,10 +87,21 @@ fn one_or_none(alloc: Global, number: Option<u64>) -> Option<Vec<u64>> {
     Some(numbers)
 }
 
-fn stocked_large(alloc: Global) -> Option<MemStore> {
-    let mut store = stocked(alloc, DAYS)?;
-    stock(alloc, &mut store, "tables/t1/large", &large(alloc)?)?;
-    Some(store)
+// A server over the object as well.
+fn place_large(alloc: Global) -> Option<Place> {
+    let mut place = place_of(alloc, World::Days)?;
+    place.stock(alloc, "tables/t1/large", &large(alloc)?)?;
+    Some(place)
+}
+
+/// The same where the call of the store of that number fails, counted behind those at opening, if any.
+pub(crate) fn place_failing(alloc: Global, call: Option<u64>) -> Option<Place> {
+    let place = place_large(alloc)?;
+    let Some(call) = call else {
+        return Some(place);
+    };
+    let call = calls_to_open(alloc, World::Days)?.saturating_add(call);
+    Some(place.with_fails(one(alloc, call)?, Vec::new(alloc)))
 }
 
 // What is written: the head, and so many of the object's bytes.
@@ -105,20 +113,20 @@ fn is_front(alloc: Global, bytes: &[u8], body: usize) -> Option<bool> {
     }
 }
 
+fn heard_by<R: Wait>(rt: &R, alloc: Global, row: &Followed) -> Option<Heard> {
+    let fails = one_or_none(alloc, row.write)?;
+    let source = source(alloc, &[LINK_LARGE], 8_192)?;
+    let sink = sink(alloc)?.with_fails(fails);
+    place_failing(alloc, row.call)?.hear(rt, alloc, &[0], source, sink)
+}
+
 fn is_followed<R: Wait>(rt: &R, alloc: Global, row: &Followed) -> Option<bool> {
-    let mut store = stocked_large(alloc)?;
-    let mut desk = Desk::open(alloc, &mut store)?;
-    let opening = calls_to_open(alloc, DAYS)?;
-    let call = row.call.map(|call| call.saturating_add(opening));
-    let mut store = store.with_fails(one_or_none(alloc, call)?, Vec::new(alloc));
-    let mut source = source(alloc, &[LINK_LARGE], 8_192)?;
-    let mut sink = sink(alloc)?.with_fails(one_or_none(alloc, row.write)?);
-    let end = desk.serve(rt, alloc, &mut store, &[0], &mut source, &mut sink)?;
+    let heard = heard_by(rt, alloc, row)?;
     let written = match row.body {
-        Some(body) => is_front(alloc, sink.bytes(), body)?,
-        None => sink.bytes().is_empty(),
+        Some(body) => is_front(alloc, heard.sink.bytes(), body)?,
+        None => heard.sink.bytes().is_empty(),
     };
-    Some(end == row.end && written)
+    Some(written && heard.ends(row.end))
 }
 
 static FOLLOWED: [Followed; 6] = [
@@ -176,22 +184,20 @@ fn an_object_is_written_piece_after_piece(rt: HostRuntime) {
     }
 }
 
+fn heard_in_pieces<R: Wait>(rt: &R, alloc: Global) -> Option<Heard> {
+    let source = source(alloc, &[LINK_LARGE, ROOT], 8_192)?;
+    place_large(alloc)?.hear(rt, alloc, &[0], source, sink(alloc)?)
+}
+
 // The writes of an object: its head, and pieces of 65,536 bytes. A request behind it is answered.
 fn is_in_pieces<R: Wait>(rt: &R, alloc: Global) -> Option<bool> {
-    let mut store = stocked_large(alloc)?;
-    let mut desk = Desk::open(alloc, &mut store)?;
-    let mut source = source(alloc, &[LINK_LARGE, ROOT], 8_192)?;
-    let mut sink = sink(alloc)?;
-    let end = desk.serve(rt, alloc, &mut store, &[0], &mut source, &mut sink)?;
-    let pieces = sink.pieces().get(..5)?;
+    let heard = heard_in_pieces(rt, alloc)?;
+    let pieces = heard.sink.pieces().get(..5)?;
     let wanted = [LARGE_HEAD.len(), 65_536, 65_536, 65_536, 3_392];
     let whole = LARGE_HEAD.len().saturating_add(SIZE);
-    let behind = sink.bytes().get(whole..)?;
-    Some(
-        end == SessionEnd::Done { served: 2 }
-            && pieces == wanted.as_slice()
-            && behind == NOT_FOUND.as_bytes(),
-    )
+    let behind = heard.sink.bytes().get(whole..)?;
+    let written = pieces == wanted.as_slice() && behind == NOT_FOUND.as_bytes();
+    Some(written && heard.ends(SessionEnd::Done { served: 2 }))
 }
 
 #[test]

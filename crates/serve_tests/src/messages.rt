@@ -1,12 +1,12 @@
 // What ends a session, and messages that are refused.
-use crate::desk::{Desk, stocked};
+use crate::desk::place_of;
 use crate::requests::ROOT;
 use crate::responses::{
     BAD_MESSAGE, BAD_MESSAGE_OF_9999, BODY_TOO_LARGE, HEAD_TOO_LARGE, NOT_FOUND, NOT_FOUND_OF_1994,
     TRANSFER_CODING,
 };
-use crate::rows::{are_texts, sink, source};
-use crate::worlds::DAYS;
+use crate::rows::{sink, source};
+use crate::worlds::World;
 use edge_core::MemSource;
 use http_message::refusal::Flaw;
 use share_serve::SessionEnd;
@@ -190,51 +190,71 @@ static REFUSED_LATER: [Told; 4] = [
     },
 ];
 
-// Whether the bytes are answered so at those moments, in one piece and in single bytes.
-fn is_told<R: Wait>(
+// How bytes are answered at those moments: by these texts, and with that end.
+#[derive(Clone, Copy)]
+struct Answer<'a> {
+    moments: &'a [u64],
+    told: &'a [&'a str],
+    end: SessionEnd,
+}
+
+// Whether the bytes are answered so in pieces of that size.
+fn is_told_by<R: Wait>(
     rt: &R,
     alloc: Global,
-    moments: &[u64],
+    size: usize,
     asked: &[&str],
-    told: &[&str],
-    end: SessionEnd,
+    answer: &Answer,
 ) -> Option<bool> {
-    for size in [8_192, 1] {
-        let mut store = stocked(alloc, DAYS)?;
-        let mut desk = Desk::open(alloc, &mut store)?;
-        let mut source = source(alloc, asked, size)?;
-        let mut sink = sink(alloc)?;
-        let ended = desk.serve(rt, alloc, &mut store, moments, &mut source, &mut sink)?;
-        if ended != end || !are_texts(sink.bytes(), told) {
-            return Some(false);
-        }
-    }
-    Some(true)
+    let source = source(alloc, asked, size)?;
+    let heard = place_of(alloc, World::Days)?.hear(
+        rt,
+        alloc,
+        answer.moments,
+        source,
+        sink(alloc)?,
+    )?;
+    Some(heard.is(answer.told, answer.end))
+}
+
+// Whether the bytes are answered so in one piece and in single bytes.
+fn is_told<R: Wait>(rt: &R, alloc: Global, asked: &[&str], answer: &Answer) -> Option<bool> {
+    let whole = is_told_by(rt, alloc, 8_192, asked, answer)?;
+    Some(whole && is_told_by(rt, alloc, 1, asked, answer)?)
 }
 
 fn is_row<R: Wait>(rt: &R, alloc: Global, row: &Told) -> Option<bool> {
-    is_told(rt, alloc, &[0], &[row.asked], row.told, row.end)
+    let answer = Answer {
+        moments: &[0],
+        told: row.told,
+        end: row.end,
+    };
+    is_told(rt, alloc, &[row.asked], &answer)
+}
+
+// The number of the first row that doesn't hold, none where all do.
+fn first_wrong<R: Wait>(rt: &R, alloc: Global, rows: &[Told]) -> Option<usize> {
+    for (number, row) in rows.iter().enumerate() {
+        if is_row(rt, alloc, row) != Some(true) {
+            return Some(number);
+        }
+    }
+    None
 }
 
 #[test]
 fn input_ends_between_messages_or_inside_one(rt: HostRuntime) {
-    for (number, row) in ENDS.iter().enumerate() {
-        assert!(rt; is_row(&rt, rt.alloc(), row) == Some(true), "at {number}");
-    }
+    assert_eq!(rt; first_wrong(&rt, rt.alloc(), &ENDS), None);
 }
 
 #[test]
 fn a_head_that_is_refused_ends_the_session(rt: HostRuntime) {
-    for (number, row) in REFUSED_HEADS.iter().enumerate() {
-        assert!(rt; is_row(&rt, rt.alloc(), row) == Some(true), "at {number}");
-    }
+    assert_eq!(rt; first_wrong(&rt, rt.alloc(), &REFUSED_HEADS), None);
 }
 
 #[test]
 fn a_message_is_refused_at_its_place(rt: HostRuntime) {
-    for (number, row) in REFUSED_LATER.iter().enumerate() {
-        assert!(rt; is_row(&rt, rt.alloc(), row) == Some(true), "at {number}");
-    }
+    assert_eq!(rt; first_wrong(&rt, rt.alloc(), &REFUSED_LATER), None);
 }
 
 // Whether so many letters without an empty line end so.
@@ -245,12 +265,9 @@ fn are_letters<R: Wait>(
     told: &[&str],
     end: SessionEnd,
 ) -> Option<bool> {
-    let mut store = stocked(alloc, DAYS)?;
-    let mut desk = Desk::open(alloc, &mut store)?;
-    let mut source = MemSource::new(alloc, vec![in alloc; b'a'; count].ok()?);
-    let mut sink = sink(alloc)?;
-    let ended = desk.serve(rt, alloc, &mut store, &[0], &mut source, &mut sink)?;
-    Some(ended == end && are_texts(sink.bytes(), told))
+    let source = MemSource::new(alloc, vec![in alloc; b'a'; count].ok()?);
+    let heard = place_of(alloc, World::Days)?.hear(rt, alloc, &[0], source, sink(alloc)?)?;
+    Some(heard.is(told, end))
 }
 
 #[test]
@@ -266,16 +283,18 @@ fn a_head_has_at_most_16384_bytes(rt: HostRuntime) {
 }
 
 // The clock is asked once for each request, and for the message that is refused.
-const MOMENTS: &[u64] = &[0, 784_111_777_000, 253_402_300_799_999];
-
-#[test]
-fn each_response_has_a_moment_of_its_own(rt: HostRuntime) {
-    let end = SessionEnd::BadMessage {
+static THREE: Answer<'static> = Answer {
+    moments: &[0, 784_111_777_000, 253_402_300_799_999],
+    told: &[NOT_FOUND, NOT_FOUND_OF_1994, BAD_MESSAGE_OF_9999],
+    end: SessionEnd::BadMessage {
         at: 54,
         flaw: Flaw::BadMessage,
         served: 2,
-    };
+    },
+};
+
+#[test]
+fn each_response_has_a_moment_of_its_own(rt: HostRuntime) {
     let asked = &[ROOT, ROOT, "( / HTTP/1.1\r\n\r\n"];
-    let told = &[NOT_FOUND, NOT_FOUND_OF_1994, BAD_MESSAGE_OF_9999];
-    assert!(rt; is_told(&rt, rt.alloc(), MOMENTS, asked, told, end) == Some(true));
+    assert!(rt; is_told(&rt, rt.alloc(), asked, &THREE) == Some(true));
 }

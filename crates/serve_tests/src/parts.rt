@@ -1,9 +1,8 @@
 // What links are answered by HEAD and by ranges (RFC 9110, sections 9.3.2 and 14), with responses made by hand.
-use crate::desk::{Desk, stock, stocked};
-use crate::rows::{are_texts, joined, one, sink, source};
-use crate::store_faults::calls_to_open;
-use crate::worlds::DAYS;
-use edge_core::MemStore;
+use crate::desk::{Heard, place_of};
+use crate::files::{large, place_failing};
+use crate::rows::{joined, sink, source};
+use crate::worlds::World;
 use share_serve::SessionEnd;
 use std::alloc::Global;
 use std::sync::Wait;
@@ -163,17 +162,16 @@ fn request(alloc: Global, method: &str, link: &str, fields: &str) -> Option<Vec<
     joined(alloc, &parts)
 }
 
+fn heard<R: Wait>(rt: &R, alloc: Global, request: &[u8]) -> Option<Heard> {
+    let request = std::str::from_utf8(request).ok()?;
+    let source = source(alloc, &[request], 8_192)?;
+    place_of(alloc, World::Days)?.hear(rt, alloc, &[0], source, sink(alloc)?)
+}
+
 fn is_told<R: Wait>(rt: &R, alloc: Global, row: &Row) -> Option<bool> {
-    let mut store = stocked(alloc, DAYS)?;
-    stock(alloc, &mut store, "tables/t1/one", b"0")?;
-    stock(alloc, &mut store, "tables/t1/empty", b"")?;
-    let mut desk = Desk::open(alloc, &mut store)?;
     let (method, link, fields, told) = *row;
-    let text = request(alloc, method, link, fields)?;
-    let mut source = source(alloc, &[std::str::from_utf8(&text).ok()?], 8_192)?;
-    let mut sink = sink(alloc)?;
-    let end = desk.serve(rt, alloc, &mut store, &[0], &mut source, &mut sink)?;
-    Some(end == SessionEnd::Done { served: 1 } && are_texts(sink.bytes(), &[told]))
+    let heard = heard(rt, alloc, &request(alloc, method, link, fields)?)?;
+    Some(heard.is(&[told], SessionEnd::Done { served: 1 }))
 }
 
 #[test]
@@ -198,21 +196,19 @@ const LAST_70000_HEAD: &str = "HTTP/1.1 206 Partial Content\r\n\
     Content-Type: application/octet-stream\r\n\
     Content-Length: 70000\r\n\r\n";
 
-// An object of 200,000 bytes, no two pieces of which are the same.
-fn large(alloc: Global) -> Option<Vec<u8>> {
-    let mut bytes = Vec::new(alloc);
-    for place in 0..200_000_usize {
-        let byte = place.wrapping_mul(place).wrapping_add(place / 251) % 256;
-        bytes.push(byte as u8).ok()?;
-    }
-    Some(bytes)
+fn heard_part<R: Wait>(rt: &R, alloc: Global, call: u64) -> Option<Heard> {
+    let source = source(alloc, &[LAST_70000], 8_192)?;
+    place_failing(alloc, Some(call))?.hear(rt, alloc, &[0], source, sink(alloc)?)
 }
 
-// The store with the object, and how many calls opening it takes.
-fn stocked_large(alloc: Global) -> Option<MemStore> {
-    let mut store = stocked(alloc, DAYS)?;
-    stock(alloc, &mut store, "tables/t1/large", &large(alloc)?)?;
-    Some(store)
+// Whether what is written is the head and so many bytes of the part.
+fn is_part(alloc: Global, bytes: &[u8], body: usize) -> Option<bool> {
+    let large = large(alloc)?;
+    let part = large.get(130_000..)?.get(..body)?;
+    match bytes.strip_prefix(LAST_70000_HEAD.as_bytes()) {
+        Some(behind) => Some(behind == part),
+        None => Some(false),
+    }
 }
 
 // Whether so many bytes of the part are written where the call of the store of that number fails, counted from 0 behind those at
@@ -224,20 +220,8 @@ fn is_read_so<R: Wait>(
     body: usize,
     end: SessionEnd,
 ) -> Option<bool> {
-    let mut store = stocked_large(alloc)?;
-    let mut desk = Desk::open(alloc, &mut store)?;
-    let opening = calls_to_open(alloc, DAYS)?;
-    let fails = one(alloc, call.saturating_add(opening))?;
-    let mut store = store.with_fails(fails, Vec::new(alloc));
-    let mut source = source(alloc, &[LAST_70000], 8_192)?;
-    let mut sink = sink(alloc)?;
-    let ended = desk.serve(rt, alloc, &mut store, &[0], &mut source, &mut sink)?;
-    let large = large(alloc)?;
-    let part = large.get(130_000..)?.get(..body)?;
-    match sink.bytes().strip_prefix(LAST_70000_HEAD.as_bytes()) {
-        Some(behind) => Some(ended == end && behind == part),
-        None => Some(false),
-    }
+    let heard = heard_part(rt, alloc, call)?;
+    Some(is_part(alloc, heard.sink.bytes(), body)? && heard.ends(end))
 }
 
 #[test]

@@ -1,5 +1,5 @@
 // What providers and the administrator are answered.
-use crate::desk::{Desk, stock, stocked};
+use crate::desk::{Place, place_of};
 use crate::requests::{
     BAD_COMMIT, BAD_COMMIT_BY_NOBODY, BAD_COMMIT_BY_R1, BAD_EDIT, BAD_EDIT_BY_PROVIDER,
     BAD_REFRESH, COMMIT_AHEAD, COMMIT_F, COMMIT_F_BY_ADMINISTRATOR, COMMIT_F_BY_R1, COMMIT_G,
@@ -14,11 +14,8 @@ use crate::responses::{
     READ_AHEAD_OF_5, RECORD_4, RECORD_6, REMOVE_ABSENT_0, SHARES_S1, TAKEN, TOKEN_TAKEN, TWO_OF_7,
     UNAUTHENTICATED, UNSUPPORTED_TABLE, VERSION_4, VERSION_5, VERSION_6, VERSION_69,
 };
-use crate::rows::{Row, holds, is_answered};
-use crate::worlds::{
-    APPEND_ONLY, FIVE, FOREIGN_BAD_RECORD, FOREIGN_BROKEN, FOREIGN_DAY_1, FOREIGN_DAY_2,
-    FOREIGN_RECORDS, FOREIGN_TWO,
-};
+use crate::rows::{Row, first_wrong, is_answered};
+use crate::worlds::World;
 use edge_core::{Got, MemStore, Name, Store};
 use itoa::Buffer;
 use share_serve::SessionEnd;
@@ -28,14 +25,14 @@ use std::sync::Wait;
 // Commits, beside what others commit.
 static COMMITS: [Row; 6] = [
     Row {
-        stored: FIVE,
-        later: FOREIGN_DAY_2,
+        stored: World::Five,
+        later: World::ForeignDay2,
         moments: &[0],
         turns: &[(COMMIT_READING_DAY_1, COMMITTED_6), (VERSION, VERSION_6)],
     },
     Row {
-        stored: FIVE,
-        later: FOREIGN_DAY_1,
+        stored: World::Five,
+        later: World::ForeignDay1,
         moments: &[0],
         turns: &[
             (COMMIT_READING_DAY_1, CONCURRENT_APPEND_5),
@@ -43,14 +40,14 @@ static COMMITS: [Row; 6] = [
         ],
     },
     Row {
-        stored: FIVE,
-        later: FOREIGN_DAY_1,
+        stored: World::Five,
+        later: World::ForeignDay1,
         moments: &[0],
         turns: &[(COMMIT_AHEAD, READ_AHEAD_OF_5)],
     },
     Row {
-        stored: APPEND_ONLY,
-        later: &[],
+        stored: World::AppendOnly,
+        later: World::Nothing,
         moments: &[0],
         turns: &[
             (COMMIT_REMOVING_A, APPENDED_ALONE),
@@ -58,8 +55,8 @@ static COMMITS: [Row; 6] = [
         ],
     },
     Row {
-        stored: FIVE,
-        later: &[],
+        stored: World::Five,
+        later: World::Nothing,
         moments: &[0],
         turns: &[
             (COMMIT_REMOVING_Z, REMOVE_ABSENT_0),
@@ -70,8 +67,8 @@ static COMMITS: [Row; 6] = [
         ],
     },
     Row {
-        stored: FIVE,
-        later: FOREIGN_BROKEN,
+        stored: World::Five,
+        later: World::ForeignBroken,
         moments: &[0],
         turns: &[(COMMIT_F, UNSUPPORTED_TABLE), (REFRESH, BLOCKED_AT_5)],
     },
@@ -79,16 +76,14 @@ static COMMITS: [Row; 6] = [
 
 #[test]
 fn commits_are_made_or_refused(rt: HostRuntime) {
-    for (number, row) in COMMITS.iter().enumerate() {
-        assert!(rt; holds(&rt, rt.alloc(), row) == Some(true), "at {number}");
-    }
+    assert_eq!(rt; first_wrong(&rt, rt.alloc(), &COMMITS), None);
 }
 
 // What others committed, once it is looked for.
 static REFRESHES: [Row; 2] = [
     Row {
-        stored: FIVE,
-        later: FOREIGN_TWO,
+        stored: World::Five,
+        later: World::ForeignTwo,
         moments: &[0],
         turns: &[
             (VERSION, VERSION_4),
@@ -98,8 +93,8 @@ static REFRESHES: [Row; 2] = [
         ],
     },
     Row {
-        stored: FIVE,
-        later: FOREIGN_BROKEN,
+        stored: World::Five,
+        later: World::ForeignBroken,
         moments: &[0],
         turns: &[
             (REFRESH, BLOCKED_AT_5),
@@ -114,16 +109,14 @@ static REFRESHES: [Row; 2] = [
 
 #[test]
 fn refreshes_find_what_others_committed(rt: HostRuntime) {
-    for (number, row) in REFRESHES.iter().enumerate() {
-        assert!(rt; holds(&rt, rt.alloc(), row) == Some(true), "at {number}");
-    }
+    assert_eq!(rt; first_wrong(&rt, rt.alloc(), &REFRESHES), None);
 }
 
 // Edits, beside what others record.
 static EDITS: [Row; 3] = [
     Row {
-        stored: FIVE,
-        later: &[],
+        stored: World::Five,
+        later: World::Nothing,
         moments: &[0],
         turns: &[
             (NEW_S1, TAKEN),
@@ -134,14 +127,14 @@ static EDITS: [Row; 3] = [
         ],
     },
     Row {
-        stored: FIVE,
-        later: FOREIGN_RECORDS,
+        stored: World::Five,
+        later: World::ForeignRecords,
         moments: &[0],
         turns: &[(NEW_S9, TAKEN), (NEW_S2, RECORD_6)],
     },
     Row {
-        stored: FIVE,
-        later: FOREIGN_BAD_RECORD,
+        stored: World::Five,
+        later: World::ForeignBadRecord,
         moments: &[0],
         turns: &[
             (NEW_S9, BLOCKED_AT_4),
@@ -153,16 +146,14 @@ static EDITS: [Row; 3] = [
 
 #[test]
 fn edits_are_made_or_refused(rt: HostRuntime) {
-    for (number, row) in EDITS.iter().enumerate() {
-        assert!(rt; holds(&rt, rt.alloc(), row) == Some(true), "at {number}");
-    }
+    assert_eq!(rt; first_wrong(&rt, rt.alloc(), &EDITS), None);
 }
 
 // Whose token it is comes before the body.
 static PARTIES: [Row; 3] = [
     Row {
-        stored: FIVE,
-        later: &[],
+        stored: World::Five,
+        later: World::Nothing,
         moments: &[0],
         turns: &[
             (COMMIT_F_BY_R1, UNAUTHENTICATED),
@@ -176,8 +167,8 @@ static PARTIES: [Row; 3] = [
         ],
     },
     Row {
-        stored: FIVE,
-        later: &[],
+        stored: World::Five,
+        later: World::Nothing,
         moments: &[0],
         turns: &[
             (BAD_COMMIT_BY_R1, UNAUTHENTICATED),
@@ -189,8 +180,8 @@ static PARTIES: [Row; 3] = [
         ],
     },
     Row {
-        stored: FIVE,
-        later: &[],
+        stored: World::Five,
+        later: World::Nothing,
         moments: &[0],
         turns: &[
             (COMMIT_READING_SOME, BAD_BODY),
@@ -202,9 +193,7 @@ static PARTIES: [Row; 3] = [
 
 #[test]
 fn each_call_wants_its_own_token(rt: HostRuntime) {
-    for (number, row) in PARTIES.iter().enumerate() {
-        assert!(rt; holds(&rt, rt.alloc(), row) == Some(true), "at {number}");
-    }
+    assert_eq!(rt; first_wrong(&rt, rt.alloc(), &PARTIES), None);
 }
 
 // The name of a version's commit, below 100.
@@ -221,23 +210,32 @@ fn version_name(alloc: Global, version: u64) -> Option<String> {
 // A commit that doesn't change what is read.
 const TRANSACTION: &[u8] = b"{\"txn\":{\"appId\":\"a\",\"version\":1}}\n";
 
-// 64 commits of another come before a provider's, which is told so; the next time it is made.
-fn is_contended<R: Wait>(rt: &R, alloc: Global) -> Option<bool> {
-    let mut store = stocked(alloc, FIVE)?;
-    let mut desk = Desk::open(alloc, &mut store)?;
+// A server behind which another made 64 commits.
+fn contended(alloc: Global) -> Option<Place> {
+    let mut place = place_of(alloc, World::Five)?;
     for version in 5..69 {
         let name = version_name(alloc, version)?;
-        stock(alloc, &mut store, name.as_str(), TRANSACTION)?;
+        place.stock(alloc, name.as_str(), TRANSACTION)?;
     }
+    Some(place)
+}
+
+const COMMITS_TWICE: &[&str] = &[COMMIT_F, COMMIT_F, VERSION];
+
+const MADE_AT_LAST: &[&str] = &[CONTENDED, COMMITTED_69, VERSION_69];
+
+// 64 commits of another come before a provider's, which is told so; the next time it is made.
+fn is_contended<R: Wait>(rt: &R, alloc: Global) -> Option<bool> {
+    let mut place = contended(alloc)?;
+    let end = SessionEnd::Done { served: 3 };
     is_answered(
         rt,
         alloc,
-        &mut desk,
-        &mut store,
+        &mut place,
         &[0],
-        &[COMMIT_F, COMMIT_F, VERSION],
-        &[CONTENDED, COMMITTED_69, VERSION_69],
-        SessionEnd::Done { served: 3 },
+        COMMITS_TWICE,
+        MADE_AT_LAST,
+        end,
     )
 }
 
@@ -261,25 +259,23 @@ const STORED_COMMIT: &[u8] = b"{\"commitInfo\":{\"timestamp\":0}}\n\
 
 const STORED_RECORD: &[u8] = b"{\"edit\":{\"newShare\":{\"name\":\"s2\"}},\"version\":1}\n";
 
+fn have_objects(alloc: Global, store: &mut MemStore) -> Option<bool> {
+    let version = "tables/t1/_delta_log/00000000000000000005.json";
+    let committed = has_object(alloc, store, version, STORED_COMMIT)?;
+    let record = "_share_log/00000000000000000004.json";
+    Some(committed && has_object(alloc, store, record, STORED_RECORD)?)
+}
+
+const WRITES: &[&str] = &[COMMIT_F, NEW_S2];
+
+const WRITTEN: &[&str] = &[COMMITTED_5, RECORD_4];
+
 // What a commit and an edit store.
 fn is_stored<R: Wait>(rt: &R, alloc: Global) -> Option<bool> {
-    let mut store = stocked(alloc, FIVE)?;
-    let mut desk = Desk::open(alloc, &mut store)?;
-    let answered = is_answered(
-        rt,
-        alloc,
-        &mut desk,
-        &mut store,
-        &[0],
-        &[COMMIT_F, NEW_S2],
-        &[COMMITTED_5, RECORD_4],
-        SessionEnd::Done { served: 2 },
-    )?;
-    let version = "tables/t1/_delta_log/00000000000000000005.json";
-    let committed = has_object(alloc, &mut store, version, STORED_COMMIT)?;
-    let record = "_share_log/00000000000000000004.json";
-    let recorded = has_object(alloc, &mut store, record, STORED_RECORD)?;
-    Some(answered && committed && recorded)
+    let mut place = place_of(alloc, World::Five)?;
+    let end = SessionEnd::Done { served: 2 };
+    let answered = is_answered(rt, alloc, &mut place, &[0], WRITES, WRITTEN, end)?;
+    Some(answered && have_objects(alloc, &mut place.store)?)
 }
 
 #[test]

@@ -15,14 +15,14 @@ use crate::responses::{
     TOKEN_INVALID, TOKEN_MISMATCH, TOKEN_STALE, UNAUTHENTICATED, UNAUTHENTICATED_AT_5000,
     UNSUPPORTED_TABLE, VERSION_5, VERSION_RANGE,
 };
-use crate::rows::{Row, holds};
-use crate::worlds::{DAYS, FED, FIVE, VECTORS};
+use crate::rows::{Row, first_wrong};
+use crate::worlds::World;
 
 // What the token and the path say, before anything is asked of the table.
 static WAYS: [Row; 5] = [
     Row {
-        stored: DAYS,
-        later: &[],
+        stored: World::Days,
+        later: World::Nothing,
         moments: &[0],
         turns: &[
             (ROOT, NOT_FOUND),
@@ -34,8 +34,8 @@ static WAYS: [Row; 5] = [
         ],
     },
     Row {
-        stored: DAYS,
-        later: &[],
+        stored: World::Days,
+        later: World::Nothing,
         moments: &[0],
         turns: &[
             (BAD_MOST_BY_NOBODY, UNAUTHENTICATED),
@@ -46,8 +46,8 @@ static WAYS: [Row; 5] = [
         ],
     },
     Row {
-        stored: DAYS,
-        later: &[],
+        stored: World::Days,
+        later: World::Nothing,
         moments: &[0, 4_999, 5_000],
         turns: &[
             (NEW_R2_TO_5000, RECORD_4),
@@ -56,8 +56,8 @@ static WAYS: [Row; 5] = [
         ],
     },
     Row {
-        stored: DAYS,
-        later: &[],
+        stored: World::Days,
+        later: World::Nothing,
         moments: &[0],
         turns: &[
             (SHARE_S9, NOT_FOUND),
@@ -70,8 +70,8 @@ static WAYS: [Row; 5] = [
         ],
     },
     Row {
-        stored: DAYS,
-        later: &[],
+        stored: World::Days,
+        later: World::Nothing,
         moments: &[0],
         turns: &[
             (SHARES, SHARES_S1),
@@ -84,16 +84,14 @@ static WAYS: [Row; 5] = [
 
 #[test]
 fn a_token_and_a_path_are_read_first(rt: HostRuntime) {
-    for (number, row) in WAYS.iter().enumerate() {
-        assert!(rt; holds(&rt, rt.alloc(), row) == Some(true), "at {number}");
-    }
+    assert_eq!(rt; first_wrong(&rt, rt.alloc(), &WAYS), None);
 }
 
 // A table that isn't read from version 3 on.
 static BLOCKED: [Row; 2] = [
     Row {
-        stored: VECTORS,
-        later: &[],
+        stored: World::Vectors,
+        later: World::Nothing,
         moments: &[0],
         turns: &[
             (QUERY, UNSUPPORTED_TABLE),
@@ -103,8 +101,8 @@ static BLOCKED: [Row; 2] = [
         ],
     },
     Row {
-        stored: VECTORS,
-        later: &[],
+        stored: World::Vectors,
+        later: World::Nothing,
         moments: &[0],
         turns: &[
             (BIND_T2, RECORD_4),
@@ -117,15 +115,13 @@ static BLOCKED: [Row; 2] = [
 
 #[test]
 fn a_table_is_read_below_its_block(rt: HostRuntime) {
-    for (number, row) in BLOCKED.iter().enumerate() {
-        assert!(rt; holds(&rt, rt.alloc(), row) == Some(true), "at {number}");
-    }
+    assert_eq!(rt; first_wrong(&rt, rt.alloc(), &BLOCKED), None);
 }
 
 // A page that has all files, one of none, and one of those that a predicate leaves.
 static PAGES: [Row; 1] = [Row {
-    stored: FIVE,
-    later: &[],
+    stored: World::Five,
+    later: World::Nothing,
     moments: &[0],
     turns: &[
         (PAGE_OF_5, ALL_FIVE),
@@ -136,15 +132,13 @@ static PAGES: [Row; 1] = [Row {
 
 #[test]
 fn a_page_has_the_files_that_are_left(rt: HostRuntime) {
-    for (number, row) in PAGES.iter().enumerate() {
-        assert!(rt; holds(&rt, rt.alloc(), row) == Some(true), "at {number}");
-    }
+    assert_eq!(rt; first_wrong(&rt, rt.alloc(), &PAGES), None);
 }
 
 // The pages of one version, whatever is committed between them.
 static CHAIN: [Row; 1] = [Row {
-    stored: FIVE,
-    later: &[],
+    stored: World::Five,
+    later: World::Nothing,
     moments: &[0],
     turns: &[
         (PAGE_OF_2, A_AND_B),
@@ -157,16 +151,14 @@ static CHAIN: [Row; 1] = [Row {
 
 #[test]
 fn pages_go_on_at_their_version(rt: HostRuntime) {
-    for (number, row) in CHAIN.iter().enumerate() {
-        assert!(rt; holds(&rt, rt.alloc(), row) == Some(true), "at {number}");
-    }
+    assert_eq!(rt; first_wrong(&rt, rt.alloc(), &CHAIN), None);
 }
 
 // What becomes of a token where the grant changes, and where another recipient has it.
 static TOKENS: [Row; 2] = [
     Row {
-        stored: FIVE,
-        later: &[],
+        stored: World::Five,
+        later: World::Nothing,
         moments: &[0],
         turns: &[
             (NEXT_OF_2, C_AND_D),
@@ -177,8 +169,8 @@ static TOKENS: [Row; 2] = [
         ],
     },
     Row {
-        stored: FIVE,
-        later: &[],
+        stored: World::Five,
+        later: World::Nothing,
         moments: &[0],
         turns: &[
             (NEW_R2, RECORD_4),
@@ -192,15 +184,13 @@ static TOKENS: [Row; 2] = [
 
 #[test]
 fn a_token_is_a_recipients_under_a_grant(rt: HostRuntime) {
-    for (number, row) in TOKENS.iter().enumerate() {
-        assert!(rt; holds(&rt, rt.alloc(), row) == Some(true), "at {number}");
-    }
+    assert_eq!(rt; first_wrong(&rt, rt.alloc(), &TOKENS), None);
 }
 
 // A token keeps the predicate that it was made for.
 static PREDICATES: [Row; 1] = [Row {
-    stored: FIVE,
-    later: &[],
+    stored: World::Five,
+    later: World::Nothing,
     moments: &[0],
     turns: &[
         (PAGE_OF_DAY_2, C_AND_D_OF_DAY_2),
@@ -211,14 +201,12 @@ static PREDICATES: [Row; 1] = [Row {
 
 #[test]
 fn a_token_keeps_its_predicate(rt: HostRuntime) {
-    for (number, row) in PREDICATES.iter().enumerate() {
-        assert!(rt; holds(&rt, rt.alloc(), row) == Some(true), "at {number}");
-    }
+    assert_eq!(rt; first_wrong(&rt, rt.alloc(), &PREDICATES), None);
 }
 
 static CHANGES: [Row; 1] = [Row {
-    stored: FED,
-    later: &[],
+    stored: World::Fed,
+    later: World::Nothing,
     moments: &[0],
     turns: &[
         (CHANGES_FROM_1, CHANGES_1_TO_3),
@@ -229,7 +217,5 @@ static CHANGES: [Row; 1] = [Row {
 
 #[test]
 fn changes_are_told_of_a_range(rt: HostRuntime) {
-    for (number, row) in CHANGES.iter().enumerate() {
-        assert!(rt; holds(&rt, rt.alloc(), row) == Some(true), "at {number}");
-    }
+    assert_eq!(rt; first_wrong(&rt, rt.alloc(), &CHANGES), None);
 }

@@ -1,7 +1,7 @@
 // Sessions with what is answered.
-use crate::desk::{Desk, stock_all, stocked};
-use crate::worlds::Object;
-use edge_core::{MemSink, MemSource, MemStore};
+use crate::desk::{Place, place_of};
+use crate::worlds::World;
+use edge_core::{MemSink, MemSource};
 use share_serve::SessionEnd;
 use std::alloc::Global;
 use std::sync::Wait;
@@ -15,9 +15,9 @@ pub(crate) const UNANSWERED: &str = "";
 /// A session that goes on to the end of its bytes, or to a request that closes it.
 pub(crate) struct Row {
     /// What is stored before the server is opened, besides the records.
-    pub stored: &'static [Object],
+    pub stored: World,
     /// What is stored after.
-    pub later: &'static [Object],
+    pub later: World,
     pub moments: &'static [u64],
     pub turns: &'static [Turn],
 }
@@ -84,45 +84,53 @@ pub(crate) fn sink(alloc: Global) -> Option<MemSink> {
     MemSink::new(alloc, 400_000, 2_000).ok()
 }
 
+/// A sink that takes at most so many bytes at once.
+pub(crate) fn sink_of(alloc: Global, size: usize) -> Option<MemSink> {
+    let sizes = vec![in alloc; size; 2_000].ok()?;
+    Some(sink(alloc)?.with_sizes(sizes))
+}
+
 /// One number, alone: that of a call that is to fail.
 pub(crate) fn one(alloc: Global, number: u64) -> Option<Vec<u64>> {
     Vec::from_slice(alloc, &[number]).ok()
 }
 
-/// Whether the session over the store is answered so, and ends so.
+/// Whether a session is answered so, and ends so.
 pub(crate) fn is_answered<R: Wait>(
     rt: &R,
     alloc: Global,
-    desk: &mut Desk,
-    store: &mut MemStore,
+    place: &mut Place,
     moments: &[u64],
     asked: &[&str],
     told: &[&str],
     end: SessionEnd,
 ) -> Option<bool> {
-    let mut source = source(alloc, asked, 8_192)?;
-    let mut sink = sink(alloc)?;
-    let ended = desk.serve(rt, alloc, store, moments, &mut source, &mut sink)?;
-    Some(ended == end && are_texts(sink.bytes(), told))
+    let source = source(alloc, asked, 8_192)?;
+    let heard = place.hear(rt, alloc, moments, source, sink(alloc)?)?;
+    Some(heard.is(told, end))
 }
 
-/// Whether the row holds, none where memory is wanting.
-pub(crate) fn holds<R: Wait>(rt: &R, alloc: Global, row: &Row) -> Option<bool> {
-    let mut store = stocked(alloc, row.stored)?;
-    let mut desk = Desk::open(alloc, &mut store)?;
-    stock_all(alloc, &mut store, row.later)?;
+fn is_row<R: Wait>(rt: &R, alloc: Global, row: &Row, place: &mut Place) -> Option<bool> {
     let asked = requests(alloc, row.turns)?;
     let told = responses(alloc, row.turns)?;
     let served = told.len() as u64;
     let end = SessionEnd::Done { served };
-    is_answered(
-        rt,
-        alloc,
-        &mut desk,
-        &mut store,
-        row.moments,
-        &asked,
-        &told,
-        end,
-    )
+    is_answered(rt, alloc, place, row.moments, &asked, &told, end)
+}
+
+/// Whether the row holds, none where memory is wanting.
+pub(crate) fn holds<R: Wait>(rt: &R, alloc: Global, row: &Row) -> Option<bool> {
+    let mut place = place_of(alloc, row.stored)?;
+    place.stock_all(alloc, row.later)?;
+    is_row(rt, alloc, row, &mut place)
+}
+
+/// Whether each row holds: the number of the first that doesn't, none where all do.
+pub(crate) fn first_wrong<R: Wait>(rt: &R, alloc: Global, rows: &[Row]) -> Option<usize> {
+    for (number, row) in rows.iter().enumerate() {
+        if holds(rt, alloc, row) != Some(true) {
+            return Some(number);
+        }
+    }
+    None
 }

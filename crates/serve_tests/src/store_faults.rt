@@ -1,5 +1,5 @@
 // Calls of the store that fail, each in turn.
-use crate::desk::{Desk, stocked};
+use crate::desk::{Place, opens_without, place_of};
 use crate::faults::{Session, USUAL, WRITING};
 use crate::requests::{COMMIT_F, COMMIT_G, VERSION};
 use crate::responses::{
@@ -9,8 +9,7 @@ use crate::responses::{
 };
 use crate::rows::{is_answered, one};
 use crate::usual::END;
-use crate::worlds::{FIVE, Object};
-use edge_core::MemStore;
+use crate::worlds::World;
 use share_serve::SessionEnd;
 use std::alloc::Global;
 use std::sync::Wait;
@@ -174,35 +173,39 @@ static WRITING_CALLS: [Failing; 10] = [
 ];
 
 /// How many calls of the store there are at opening: opening fails where one of them does.
-pub(crate) fn calls_to_open(alloc: Global, objects: &[Object]) -> Option<u64> {
+pub(crate) fn calls_to_open(alloc: Global, world: World) -> Option<u64> {
     for number in 0..100 {
-        let mut store = stocked(alloc, objects)?.with_fails(one(alloc, number)?, Vec::new(alloc));
-        if Desk::open(alloc, &mut store).is_some() {
+        if opens_without(alloc, world, one(alloc, number)?)? {
             return Some(number);
         }
     }
     None
 }
 
-// The store where the call of that number fails; a put that is late stores before.
-fn with_failing_call(alloc: Global, store: MemStore, number: u64, late: bool) -> Option<MemStore> {
+// A server whose store fails at the call of that number; a put that is late stores before.
+fn place_with_fault(alloc: Global, world: World, number: u64, late: bool) -> Option<Place> {
     let mut puts = Vec::new(alloc);
     if late {
         puts.push(number).ok()?;
     }
-    Some(store.with_fails(one(alloc, number)?, puts))
+    let calls = one(alloc, number)?;
+    Some(place_of(alloc, world)?.with_fails(calls, puts))
 }
 
-fn is_failing<R: Wait>(rt: &R, alloc: Global, session: &Session, row: &Failing) -> Option<bool> {
-    let mut store = stocked(alloc, session.stored)?;
-    let mut desk = Desk::open(alloc, &mut store)?;
-    let number = calls_to_open(alloc, session.stored)?.saturating_add(row.call);
-    let mut store = with_failing_call(alloc, store, number, row.late)?;
+// Whether the row holds behind so many calls at opening.
+fn is_failing<R: Wait>(
+    rt: &R,
+    alloc: Global,
+    session: &Session,
+    row: &Failing,
+    opening: u64,
+) -> Option<bool> {
+    let number = row.call.saturating_add(opening);
+    let mut place = place_with_fault(alloc, session.stored, number, row.late)?;
     is_answered(
         rt,
         alloc,
-        &mut desk,
-        &mut store,
+        &mut place,
         &[0],
         session.asked,
         row.told,
@@ -210,42 +213,47 @@ fn is_failing<R: Wait>(rt: &R, alloc: Global, session: &Session, row: &Failing) 
     )
 }
 
+// The number of the first row that doesn't hold, none where all do.
+fn first_wrong<R: Wait>(
+    rt: &R,
+    alloc: Global,
+    session: &Session,
+    rows: &[Failing],
+) -> Option<usize> {
+    let Some(opening) = calls_to_open(alloc, session.stored) else {
+        return Some(0);
+    };
+    for (number, row) in rows.iter().enumerate() {
+        if is_failing(rt, alloc, session, row, opening) != Some(true) {
+            return Some(number);
+        }
+    }
+    None
+}
+
 #[test]
 fn a_store_that_fails_is_told_of_a_link(rt: HostRuntime) {
-    for (number, row) in USUAL_CALLS.iter().enumerate() {
-        assert!(rt;
-            is_failing(&rt, rt.alloc(), &USUAL, row) == Some(true),
-            "at {number}"
-        );
-    }
+    assert_eq!(rt; first_wrong(&rt, rt.alloc(), &USUAL, &USUAL_CALLS), None);
 }
 
 #[test]
 fn a_store_that_fails_is_told_of_a_commit_or_an_edit(rt: HostRuntime) {
-    for (number, row) in WRITING_CALLS.iter().enumerate() {
-        assert!(rt;
-            is_failing(&rt, rt.alloc(), &WRITING, row) == Some(true),
-            "at {number}"
-        );
-    }
+    assert_eq!(rt;
+        first_wrong(&rt, rt.alloc(), &WRITING, &WRITING_CALLS),
+        None
+    );
 }
+
+const ASKED: &[&str] = &[COMMIT_F, VERSION, COMMIT_G, VERSION];
+
+const FOUND: &[&str] = &[STORE_FAULT, VERSION_4, COMMITTED_6, VERSION_6];
 
 // A commit that was stored by a put that failed is found by the next, which comes behind it.
 fn is_found<R: Wait>(rt: &R, alloc: Global) -> Option<bool> {
-    let mut store = stocked(alloc, FIVE)?;
-    let mut desk = Desk::open(alloc, &mut store)?;
-    let number = calls_to_open(alloc, FIVE)?.saturating_add(1);
-    let mut store = with_failing_call(alloc, store, number, true)?;
-    is_answered(
-        rt,
-        alloc,
-        &mut desk,
-        &mut store,
-        &[0],
-        &[COMMIT_F, VERSION, COMMIT_G, VERSION],
-        &[STORE_FAULT, VERSION_4, COMMITTED_6, VERSION_6],
-        SessionEnd::Done { served: 4 },
-    )
+    let number = calls_to_open(alloc, World::Five)?.saturating_add(1);
+    let mut place = place_with_fault(alloc, World::Five, number, true)?;
+    let end = SessionEnd::Done { served: 4 };
+    is_answered(rt, alloc, &mut place, &[0], ASKED, FOUND, end)
 }
 
 #[test]

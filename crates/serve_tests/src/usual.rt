@@ -1,13 +1,13 @@
 // A usual session of a recipient.
-use crate::desk::{Desk, stocked};
+use crate::desk::place_of;
 use crate::requests::{
     ALL_TABLES, LINK_A, LINK_B, METADATA, PAGE_OF_2, QUERY_CUT, QUERY_USUAL, SHARES, VERSION,
 };
 use crate::responses::{
     FILE_A, FILE_B, FILES_OF_DAY_1, METADATA_OF_DAYS, SHARES_S1, TABLES_T1, VERSION_0,
 };
-use crate::rows::{are_texts, sink, source};
-use crate::worlds::{DAYS, FIVE};
+use crate::rows::{are_texts, sink, sink_of, source};
+use crate::worlds::World;
 use share_serve::SessionEnd;
 use std::alloc::Global;
 use std::sync::Wait;
@@ -43,12 +43,10 @@ pub(crate) const END: SessionEnd = SessionEnd::Truncated {
 
 // Whether the session is the same where bytes come in pieces of one size, and go in pieces of another.
 fn is_usual<R: Wait>(rt: &R, alloc: Global, read: usize, written: usize) -> Option<bool> {
-    let mut store = stocked(alloc, DAYS)?;
-    let mut desk = Desk::open(alloc, &mut store)?;
-    let mut source = source(alloc, ASKED, read)?;
-    let mut sink = sink(alloc)?.with_sizes(vec![in alloc; written; 2_000].ok()?);
-    let end = desk.serve(rt, alloc, &mut store, &[0], &mut source, &mut sink)?;
-    Some(end == END && are_texts(sink.bytes(), TOLD))
+    let source = source(alloc, ASKED, read)?;
+    let sink = sink_of(alloc, written)?;
+    let heard = place_of(alloc, World::Days)?.hear(rt, alloc, &[0], source, sink)?;
+    Some(heard.is(TOLD, END))
 }
 
 #[test]
@@ -86,13 +84,10 @@ fn are_pieces(pieces: &[usize], texts: &[&str]) -> bool {
 
 // A page is written line by line.
 fn is_in_lines<R: Wait>(rt: &R, alloc: Global) -> Option<bool> {
-    let mut store = stocked(alloc, FIVE)?;
-    let mut desk = Desk::open(alloc, &mut store)?;
-    let mut source = source(alloc, &[PAGE_OF_2], 8_192)?;
-    let mut sink = sink(alloc)?;
-    let end = desk.serve(rt, alloc, &mut store, &[0], &mut source, &mut sink)?;
-    let whole = are_texts(sink.bytes(), PARTS) && are_pieces(sink.pieces(), PARTS);
-    Some(end == SessionEnd::Done { served: 1 } && whole)
+    let source = source(alloc, &[PAGE_OF_2], 8_192)?;
+    let heard = place_of(alloc, World::Five)?.hear(rt, alloc, &[0], source, sink(alloc)?)?;
+    let whole = are_texts(heard.sink.bytes(), PARTS) && are_pieces(heard.sink.pieces(), PARTS);
+    Some(heard.ends(SessionEnd::Done { served: 1 }) && whole)
 }
 
 #[test]

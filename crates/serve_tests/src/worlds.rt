@@ -4,7 +4,7 @@
 pub(crate) type Object = (&'static str, &'static str);
 
 /// The share `s1` with the table `t1`, and the recipient `r1` with the token `abc`, to whom the share is granted.
-pub(crate) const RECORDS: &[Object] = &[
+pub(crate) static RECORDS: [Object; 4] = [
     (
         "_share_log/00000000000000000000.json",
         "{\"edit\":{\"newShare\":{\"name\":\"s1\"}},\"version\":1}\n",
@@ -23,8 +23,8 @@ pub(crate) const RECORDS: &[Object] = &[
     ),
 ];
 
-/// The table with three files of two days, of which two are stored.
-pub(crate) const DAYS: &[Object] = &[
+// The table with three files of two days, of which two are stored, and two more objects.
+static DAYS: [Object; 5] = [
     (
         "tables/t1/_delta_log/00000000000000000000.json",
         "{\"protocol\":{\"minReaderVersion\":1,\"minWriterVersion\":2}}\n\
@@ -35,10 +35,12 @@ pub(crate) const DAYS: &[Object] = &[
     ),
     ("tables/t1/day=1/a.parquet", "0123456789"),
     ("tables/t1/day=1/b.parquet", "abcdefghijklmnopqrst"),
+    ("tables/t1/one", "0"),
+    ("tables/t1/empty", ""),
 ];
 
-/// The table at version 4, with the files `a` to `e`, one a version; `a` and `b` are of day 1.
-pub(crate) const FIVE: &[Object] = &[
+// The table at version 4, with the files `a` to `e`, one a version; `a` and `b` are of day 1.
+static FIVE: [Object; 5] = [
     (
         "tables/t1/_delta_log/00000000000000000000.json",
         "{\"protocol\":{\"minReaderVersion\":1,\"minWriterVersion\":2}}\n\
@@ -63,8 +65,8 @@ pub(crate) const FIVE: &[Object] = &[
     ),
 ];
 
-/// Two tables whose version 3 has a deletion vector: `d` is added with one, and `a` is removed and added with one.
-pub(crate) const VECTORS: &[Object] = &[
+// Two tables whose version 3 has a deletion vector: `d` is added with one, and `a` is removed and added with one.
+static VECTORS: [Object; 8] = [
     (
         "tables/t1/_delta_log/00000000000000000000.json",
         "{\"protocol\":{\"minReaderVersion\":3,\"minWriterVersion\":7,\"readerFeatures\":[\"deletionVectors\"],\"writerFeatures\":[\"deletionVectors\"]}}\n\
@@ -104,16 +106,16 @@ pub(crate) const VECTORS: &[Object] = &[
     ),
 ];
 
-/// The table, to which files may be added alone.
-pub(crate) const APPEND_ONLY: &[Object] = &[(
+// The table, to which files may be added alone.
+static APPEND_ONLY: [Object; 1] = [(
     "tables/t1/_delta_log/00000000000000000000.json",
     "{\"protocol\":{\"minReaderVersion\":1,\"minWriterVersion\":2}}\n\
             {\"metaData\":{\"configuration\":{\"delta.appendOnly\":\"true\"},\"id\":\"m1\",\"partitionColumns\":[],\"schemaString\":\"{}\"}}\n\
             {\"add\":{\"path\":\"a\",\"size\":1}}\n",
 )];
 
-/// The table with its changes: version 2 has one told, beside an add and a remove.
-pub(crate) const FED: &[Object] = &[
+// The table with its changes: version 2 has one told, beside an add and a remove.
+static FED: [Object; 4] = [
     (
         "tables/t1/_delta_log/00000000000000000000.json",
         "{\"commitInfo\":{\"timestamp\":100}}\n\
@@ -138,8 +140,8 @@ pub(crate) const FED: &[Object] = &[
     ),
 ];
 
-/// Versions 5 and 6, by someone else.
-pub(crate) const FOREIGN_TWO: &[Object] = &[
+// Versions 5 and 6, by someone else.
+static FOREIGN_TWO: [Object; 2] = [
     (
         "tables/t1/_delta_log/00000000000000000005.json",
         "{\"add\":{\"path\":\"f\",\"size\":1}}\n",
@@ -150,26 +152,23 @@ pub(crate) const FOREIGN_TWO: &[Object] = &[
     ),
 ];
 
-/// Version 5, by someone else: a file of day 1.
-pub(crate) const FOREIGN_DAY_1: &[Object] = &[(
+// Version 5, by someone else: a file of day 1.
+static FOREIGN_DAY_1: [Object; 1] = [(
     "tables/t1/_delta_log/00000000000000000005.json",
     "{\"add\":{\"partitionValues\":{\"day\":\"1\"},\"path\":\"f\",\"size\":1}}\n",
 )];
 
-/// Version 5, by someone else: a file of day 2.
-pub(crate) const FOREIGN_DAY_2: &[Object] = &[(
+// Version 5, by someone else: a file of day 2.
+static FOREIGN_DAY_2: [Object; 1] = [(
     "tables/t1/_delta_log/00000000000000000005.json",
     "{\"add\":{\"partitionValues\":{\"day\":\"2\"},\"path\":\"f\",\"size\":1}}\n",
 )];
 
-/// Version 5, by someone else, that is no commit.
-pub(crate) const FOREIGN_BROKEN: &[Object] = &[(
-    "tables/t1/_delta_log/00000000000000000005.json",
-    "{",
-)];
+// Version 5, by someone else, that is no commit.
+static FOREIGN_BROKEN: [Object; 1] = [("tables/t1/_delta_log/00000000000000000005.json", "{")];
 
-/// Records 4 and 5, by someone else.
-pub(crate) const FOREIGN_RECORDS: &[Object] = &[
+// Records 4 and 5, by someone else.
+static FOREIGN_RECORDS: [Object; 2] = [
     (
         "_share_log/00000000000000000004.json",
         "{\"edit\":{\"newShare\":{\"name\":\"s8\"}},\"version\":1}\n",
@@ -180,5 +179,40 @@ pub(crate) const FOREIGN_RECORDS: &[Object] = &[
     ),
 ];
 
-/// Record 4, by someone else, that is none.
-pub(crate) const FOREIGN_BAD_RECORD: &[Object] = &[("_share_log/00000000000000000004.json", "{}")];
+// Record 4, by someone else, that is none.
+static FOREIGN_BAD_RECORD: [Object; 1] = [("_share_log/00000000000000000004.json", "{}")];
+
+/// What is stored beside the records, or by someone else.
+#[derive(Clone, Copy)]
+pub(crate) enum World {
+    Nothing,
+    Days,
+    Five,
+    Vectors,
+    AppendOnly,
+    Fed,
+    ForeignTwo,
+    ForeignDay1,
+    ForeignDay2,
+    ForeignBroken,
+    ForeignRecords,
+    ForeignBadRecord,
+}
+
+/// The objects of a world. Rows name it, since a table of rows with all of its texts takes long to prove.
+pub(crate) fn objects(world: World) -> &'static [Object] {
+    match world {
+        World::Nothing => &[],
+        World::Days => &DAYS,
+        World::Five => &FIVE,
+        World::Vectors => &VECTORS,
+        World::AppendOnly => &APPEND_ONLY,
+        World::Fed => &FED,
+        World::ForeignTwo => &FOREIGN_TWO,
+        World::ForeignDay1 => &FOREIGN_DAY_1,
+        World::ForeignDay2 => &FOREIGN_DAY_2,
+        World::ForeignBroken => &FOREIGN_BROKEN,
+        World::ForeignRecords => &FOREIGN_RECORDS,
+        World::ForeignBadRecord => &FOREIGN_BAD_RECORD,
+    }
+}

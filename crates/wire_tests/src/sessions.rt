@@ -7,15 +7,12 @@ use std::alloc::{AllocError, Global};
 const SESSION: &[u8] =
     b"GET /a HTTP/1.1\r\nHost: x\r\n\r\nPOST /b HTTP/1.1\r\nHost: x\r\nTransfer-Encoding: chunked\r\n\r\n4;n=v\r\nWiki\r\n5\r\npedia\r\n0\r\nA: b\r\n\r\n\r\nPUT /c HTTP/1.0\nContent-Length: 3\n\nxyz";
 
-// A request of the session: the version of HTTP/1, its target and its body.
-type Row<'a> = (u8, &'a str, &'a [u8]);
-
-fn is_row(row: Row, head: &Head, body: &[u8]) -> bool {
-    head.minor == row.0 && head.target.as_str() == row.1 && body == row.2
+fn is_head(head: &Head, minor: u8, target: &str) -> bool {
+    head.minor == minor && head.target.as_str() == target
 }
 
-// Whether the message is the session's of that number: its three requests, and then the end.
-fn is_of_session(number: u8, message: &Message) -> bool {
+// Whether the message is the request of that place, version, target and body. A request of HTTP/1.0 is the last of its line.
+fn is_request(message: &Message, place: u64, minor: u8, target: &str, bytes: &[u8]) -> bool {
     match message {
         Message::Request {
             at,
@@ -23,15 +20,22 @@ fn is_of_session(number: u8, message: &Message) -> bool {
             body,
             closes,
         } => {
-            let (place, ends, row) = match number {
-                0 => (0u64, false, (1u8, "/a", b"".as_slice())),
-                1 => (28, false, (1, "/b", b"Wikipedia".as_slice())),
-                _ => (119, true, (0, "/c", b"xyz".as_slice())),
-            };
-            *at == place && *closes == ends && is_row(row, head, body)
+            *at == place
+                && *closes == (minor == 0)
+                && body.as_slice() == bytes
+                && is_head(head, minor, target)
         }
-        Message::End => number == 3,
         _ => false,
+    }
+}
+
+// Whether the message is the session's of that number: its three requests, and then the end.
+fn is_of_session(number: u8, message: &Message) -> bool {
+    match number {
+        0 => is_request(message, 0, 1, "/a", b""),
+        1 => is_request(message, 28, 1, "/b", b"Wikipedia"),
+        2 => is_request(message, 119, 0, "/c", b"xyz"),
+        _ => matches!(message, Message::End),
     }
 }
 
