@@ -2,9 +2,11 @@
 //! measures. `serve_peer serve PORT WORKERS`, in the folder of a store.
 //!
 //! It reads the configuration, the catalogue's records and the tables' logs once, at the start, and answers the lists, a table's
-//! version, metadata and query, and signed links to files. Predicates and ranges are passed over, and nobody can commit or edit.
+//! version, metadata and query, and signed links to files. Predicates and ranges are passed over. A commit is stored, whatever it is, and
+//! seen by nobody.
 mod link;
 mod page;
+mod put;
 mod reply;
 mod store;
 
@@ -89,6 +91,9 @@ async fn answer(state: &State, request: Request<Body>) -> Answer {
     if path.starts_with("/files/") {
         let target = request.uri().to_string();
         return if method == Method::GET { link::file(state, &target).await } else { Err(Refusal::MethodNotAllowed("GET")) };
+    }
+    if path == "/provider/commit" {
+        return if method == Method::POST { put::commit(request).await } else { Err(Refusal::MethodNotAllowed("POST")) };
     }
     let lowered = |s: &str| percent_decode_str(s).decode_utf8_lossy().to_ascii_lowercase();
     let segments: Vec<String> = path[1.min(path.len())..].split('/').map(lowered).collect();
