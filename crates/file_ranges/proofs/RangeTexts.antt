@@ -1,5 +1,5 @@
 -- How long the text of a part is.
-use Rattle.std.proofs.Common.{◌≡◌, ℕ, ◌<◌, ◌≤◌, ◌^◌, ◌++◌, length, length-append, decimal, codes, arith}
+use Rattle.std.proofs.Common.{ℕ, ◌<◌, ◌≤◌, ◌^◌, ◌++◌, length, length-append, decimal, codes, arith}
 use Rattle.std.proofs.lemmas.Fmt.{length-decimal-le}
 use Rattle.file_ranges.specs.Ranges.{Range, range_text}
 

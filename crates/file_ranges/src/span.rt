@@ -2,8 +2,9 @@
 ghost use Rattle.std.specs.Prelude.{◌≡◌};
 ghost use Rattle.file_ranges.specs.Spans as spec;
 
-use crate::text::{cut_at, short_number};
+use crate::text::cut_at;
 use http_message::field::{count_named, first_named};
+use http_message::framing::length_in;
 use http_message::head::Head;
 
 /// A span of bytes, counted from 0, of an object whose size isn't known (RFC 9110, section 14.1.2).
@@ -32,12 +33,12 @@ fn span_between(before: &[u8], behind: &[u8]) -> Option<Span>
     ensures { result ≡ spec.span_between before.now behind.now }
 {
     if before.is_empty() {
-        return Some(Span::Last(short_number(behind)?));
+        return Some(Span::Last(length_in(behind)?));
     }
     if behind.is_empty() {
-        return Some(Span::From(short_number(before)?));
+        return Some(Span::From(length_in(before)?));
     }
-    from_to(short_number(before)?, short_number(behind)?)
+    from_to(length_in(before)?, length_in(behind)?)
 }
 
 fn span_at(text: &[u8]) -> Option<Span>

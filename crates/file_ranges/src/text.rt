@@ -1,16 +1,10 @@
 // Pieces of texts, and the numbers that they write.
 ghost use Rattle.std.specs.Prelude.{◌≡◌, ◌==◌, ℕ, ◌<◌, ◌^◌, Some, IfSome, option_map, position};
-ghost use Rattle.std.specs.Char.{is_ascii_digit};
 ghost use Rattle.std.specs.Fmt.{decimal};
-ghost use Rattle.std.specs.List.{list_all};
-ghost use Rattle.http_message.specs.Framing.{is_length, length_in};
 ghost use Rattle.file_ranges.specs.Pieces.{cut_at};
 
 use itoa::Buffer;
 use std::str;
-
-// The most digits of a number that a request gives.
-const MOST_DIGITS: usize = 18;
 
 // Where the first byte that is the separator stands.
 fn place_of(bytes: &[u8], separator: u8) -> Option<usize>
@@ -25,32 +19,6 @@ pub(crate) fn cut_at(bytes: &[u8], separator: u8) -> Option<(&[u8], &[u8])>
 {
     let place = place_of(bytes, separator)?;
     Some((&bytes[..place], &bytes[place + 1..]))
-}
-
-fn are_digits(bytes: &[u8]) -> bool
-    ensures { result ≡ list_all is_ascii_digit bytes.now }
-{
-    bytes.iter().all(|byte| byte.is_ascii_digit())
-}
-
-// Whether the text is 1 to 18 digits.
-fn is_short_number(text: &[u8]) -> bool
-    ensures { result ≡ is_length text.now }
-{
-    !text.is_empty() && text.len() <= MOST_DIGITS && are_digits(text)
-}
-
-// The number that 1 to 18 digits write.
-pub(crate) fn short_number(text: &[u8]) -> Option<u64>
-    ensures { result ≡ length_in text.now }
-{
-    if !is_short_number(text) {
-        return None;
-    }
-    match str::from_utf8(text) {
-        Ok(text) => text.parse().ok(),
-        Err(_) => None,
-    }
 }
 
 // The number of 64 bits that is written so.

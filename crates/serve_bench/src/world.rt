@@ -135,7 +135,7 @@ fn target_of_object(alloc: Global) -> Option<Text> {
         grant: Edition::of(1)?,
         recipient: name(alloc, "r")?,
     };
-    link(alloc, &HmacKey::of(&[2; 32]), "", &parts).ok()
+    link(alloc, &HmacKey::of(&[2; 32]), "", &parts.lent()).ok()
 }
 
 fn request(alloc: Global, kind: Kind) -> Option<String> {

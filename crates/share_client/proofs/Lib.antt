@@ -2,8 +2,6 @@ mod Chaining
 mod Contents
 mod Counts
 mod Covering
-mod Digits
-mod Escapes
 mod Floats
 mod Items
 mod Knowing

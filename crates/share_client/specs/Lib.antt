@@ -2,7 +2,6 @@ pub mod Asking
 pub mod Bodies
 pub mod Chains
 pub mod Clients
-pub mod Escape
 pub mod Exchanges
 pub mod Files
 pub mod Listings

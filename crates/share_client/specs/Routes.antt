@@ -1,7 +1,7 @@
 -- The requests for lists (Delta Sharing PROTOCOL.md, "REST APIs"), below the path of the server's address.
 use Rattle.std.specs.Prelude.{ℕ, List, [], ◌++◌, Option, Some, None, codes}
 use Rattle.share_config.specs.Profiles.{without_slash}
-use Rattle.share_client.specs.Escape.{escaped}
+use Rattle.text_forms.specs.Escape.{escaped}
 use Rattle.share_client.specs.Requests.{get_text}
 use Rattle.share_client.specs.declared.server.Server.{Server}
 

@@ -2,7 +2,7 @@
 use Rattle.std.specs.Prelude.{ℕ, List, [], ◌++◌, Option, Some, None, decimal, codes}
 use Rattle.share_config.specs.Profiles.{without_slash}
 use Rattle.share_client.specs.Bodies.{body_sent}
-use Rattle.share_client.specs.Escape.{escaped}
+use Rattle.text_forms.specs.Escape.{escaped}
 use Rattle.share_client.specs.Requests.{post_text}
 use Rattle.share_client.specs.Routes.{route_text}
 use Rattle.share_client.specs.declared.listing.SharedTable.{SharedTable}

@@ -4,7 +4,6 @@
 
 mod ask;
 mod client;
-mod escape;
 mod exchange;
 mod fault;
 mod fetch;

@@ -4,11 +4,11 @@ ghost use Rattle.share_client.specs.Routes.{first_token, list_text, route_text, 
 ghost use Rattle.share_config.specs.Profiles.{without_slash as without_slash_at_end};
 ghost use Rattle.share_config.specs.Texts.{before as before_end};
 
-use crate::escape::push_escaped;
 use crate::request::get_text;
 use crate::server::Server;
 use json_tree::Text;
 use std::alloc::{AllocError, Global};
+use text_forms::push_escaped;
 
 // The route of the list of shares.
 pub(crate) const SHARES: &str = "/shares";

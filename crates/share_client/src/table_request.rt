@@ -1,16 +1,16 @@
 // The requests for the pages of a table.
 ghost use Rattle.std.specs.Prelude.{◌≡◌, ◌++◌, IfOk, OnOk, decimal, string_bytes};
-ghost use Rattle.share_client.specs.Escape.{escaped};
+ghost use Rattle.text_forms.specs.Escape.{escaped};
 ghost use Rattle.share_client.specs.TableRequests.{changes_text, later_token, query_text, request_text, table_route};
 
 use crate::SharedTable;
-use crate::escape::push_escaped;
 use crate::query_body::{QueryBody, body_sent};
 use crate::request::post_text;
 use crate::route::{path_of, route_text};
 use crate::server::Server;
 use json_tree::Text;
 use std::alloc::{AllocError, Global};
+use text_forms::push_escaped;
 
 // What is asked of a table.
 #[derive(Drop)]

@@ -5,8 +5,8 @@ use Rattle.std.specs.Char.{is_ascii_digit}
 use Rattle.std.specs.List.{list_all}
 use Rattle.std.specs.Str.Parse.{digits_value, ParsesUnsigned}
 use Rattle.std.proofs.lemmas.Bool.{and_from, and_parts}
-use Rattle.share_request.specs.Parameters.{is_digits}
-use Rattle.share_request.proofs.Digits as digits
+use Rattle.text_forms.specs.Numbers.{is_digits}
+use Rattle.text_forms.proofs.Digits as digits
 use Rattle.share_commands.specs.Words.{below_in, command_in, call_words_in, is_plain, location_in, name_in, number_in, serve_or_none}
 use Rattle.share_commands.specs.declared.words.CallWords.{CallWords}
 use Rattle.share_commands.specs.declared.words.Command.{Command}

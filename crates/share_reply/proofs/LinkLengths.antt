@@ -9,7 +9,7 @@ use Rattle.hmac_core.specs.Hmac.{hmac, is_tag_digit}
 use Rattle.hmac_core.proofs.Bytes.{IsByte}
 use Rattle.hmac_core.proofs.Facts.{digits_are_digits, length-digits}
 use Rattle.share_catalog.specs.Grammar.{is_catalog_name, is_name_byte}
-use Rattle.signed_link.specs.Escape.{escaped}
+use Rattle.text_forms.specs.Escape.{escaped}
 use Rattle.signed_link.specs.Link.{file_path, link_text, query, tag_text, unsigned}
 use Rattle.signed_link.specs.declared.parts.LinkParts.{LinkParts}
 use Rattle.share_reply.proofs.PrintedLengths.{IsPlain, all_plain, byte_plain, escape_both, number_plain, path_plain}

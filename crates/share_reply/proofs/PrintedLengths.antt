@@ -11,7 +11,7 @@ use Rattle.json.specs.Print.{escape, escape_byte, escape_letter}
 use Rattle.percent_encoding.specs.Percent.{percent_encode_byte}
 use Rattle.hmac_core.proofs.Bytes.{IsByte}
 use Rattle.json_print.proofs.LengthLemmas.{length-escape_byte, escaped_few}
-use Rattle.signed_link.specs.Escape.{escaped, escaped_byte, is_unreserved}
+use Rattle.text_forms.specs.Escape.{escaped, escaped_byte, is_unreserved}
 
 -- as long as it is
 abbrev pub IsPlain : List ℕ → Type 0

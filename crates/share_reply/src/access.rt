@@ -8,7 +8,7 @@ use json_tree::{Edition, Millis, Text};
 use page_token::TableAccess;
 use share_book::Spot;
 use share_catalog::{CatalogName, TableName};
-use signed_link::{LinkParts, link};
+use signed_link::{LentParts, link};
 use std::alloc::{AllocError, Global};
 use std::marker::Model;
 
@@ -101,22 +101,17 @@ impl Access {
         given.grant.get() == self.grant.get() && given.binding.get() == self.binding.get()
     }
 
-    fn link_parts(
-        &self,
-        alloc: Global,
-        expires: Millis,
-        path: &Text,
-    ) -> Result<LinkParts, AllocError>
-        ensures { IfOk result (λ p. p ≡ link_parts self.now expires path.now) }
+    fn link_parts<'a>(&'a self, expires: Millis, path: &'a Text) -> LentParts<'a>
+        ensures { result ≡ link_parts self.now expires path.now }
     {
-        Ok(LinkParts {
-            table: self.table.copy(alloc)?,
-            path: path.copy(alloc)?,
+        LentParts {
+            table: &self.table,
+            path,
             binding: self.binding,
             expires,
             grant: self.grant,
-            recipient: self.recipient.copy(alloc)?,
-        })
+            recipient: &self.recipient,
+        }
     }
 
     // The link to a file of the table, with its end.
@@ -129,7 +124,7 @@ impl Access {
     ) -> Result<Text, AllocError>
         ensures { IfOk result (λ t. t ≡ link_to keys.now self.now expires path.now) }
     {
-        let parts = self.link_parts(alloc, expires, path)?;
+        let parts = self.link_parts(expires, path);
         link(alloc, &keys.link, keys.endpoint.as_str(), &parts)
     }
 

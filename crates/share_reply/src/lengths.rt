@@ -1,7 +1,7 @@
 // How long the parts of links are, counted and not printed.
 ghost use Rattle.std.specs.Prelude.{◌≡◌, ◌≤◌, ◌<◌, ◌^◌, decimal, length};
 ghost use Rattle.json.specs.Print.{escape};
-ghost use Rattle.signed_link.specs.Escape.{escaped, escaped_byte, is_unreserved as stands_as_it_is};
+ghost use Rattle.text_forms.specs.Escape.{escaped, escaped_byte, is_unreserved as stands_as_it_is};
 
 use json_print::{Length, Tokens};
 use share_catalog::CatalogName;

@@ -17,12 +17,13 @@ use Rattle.serde_json.specs.Find.{as_object}
 use Rattle.signed_link.specs.Reading.{after}
 use Rattle.share_request.specs.Asked.{as_fault, what_at}
 use Rattle.share_request.specs.Asked as asked
+use Rattle.text_forms.specs.Numbers.{is_digits, number_in}
 use Rattle.share_request.specs.Bearers.{bearer_in}
 use Rattle.share_request.specs.Bodies.{edit_in, offer_in, refresh_in}
 use Rattle.share_request.specs.Faults.{or_bad, or_bad_body, parameter_word}
 use Rattle.share_request.specs.InForm.{IsAsked, IsBound, IsInForm, IsMax, IsPage, IsQuery, IsToken}
 use Rattle.share_request.specs.Laws.{RequestsAreInForm}
-use Rattle.share_request.specs.Parameters.{at_in, first_value, from_in, is_digits, max_files_in, moment_at, most_in, number_at, number_in, one_bound, page_in, read_value, start_in, start_or_token, to_in, token_in, version_at}
+use Rattle.share_request.specs.Parameters.{at_in, first_value, from_in, max_files_in, moment_at, most_in, number_at, one_bound, page_in, read_value, start_in, start_or_token, to_in, token_in, version_at}
 use Rattle.share_request.specs.Paths.{admin_route, name_at, provider_route, route_of, segments_in, share_route, table_at, table_route}
 use Rattle.share_request.specs.Query.{absent, between, fields_in, moment_beside, query_in, query_of_fields, query_of_tree, unless_empty}
 use Rattle.share_request.specs.Requests.{at_path, below_in, by_route, has_method, is_head, link_or, link_request, pairs_or_none, turned_away, with_bearer}

@@ -13,7 +13,8 @@ use Rattle.percent_encoding.specs.Percent.{percent_decode}
 use Rattle.percent_encoding.proofs.PercentLemmas.{All-percent_decode, IsByte}
 use Rattle.share_catalog.specs.Grammar.{is_name_byte, is_catalog_name}
 use Rattle.signed_link.specs.declared.parts.LinkParts.{LinkParts}
-use Rattle.signed_link.specs.Escape.{escaped, escaped_byte, is_unreserved}
+use Rattle.text_forms.specs.Escape.{escaped, escaped_byte, is_unreserved}
+use Rattle.text_forms.proofs.Escapes.{free_of_slash, percent_decode-escaped}
 use Rattle.signed_link.specs.Link.{query, tag_text, unsigned, IsValue}
 use Rattle.signed_link.specs.Reading.{after, cut}
 use Rattle.signed_link.proofs.Cuts.{cut_again}
@@ -22,7 +23,6 @@ use Rattle.signed_link.proofs.PartsOf.{same_two}
 use Rattle.share_request.specs.Laws.{LinksAreRead, OneSpelling, SpellingKeepsNames, names_and_path}
 use Rattle.share_request.specs.Requests.{has_method, link_request, request_in}
 use Rattle.share_request.specs.Targets.{link_parts, link_target, one_spelling, parts_spelling, path_spelling, query_text, split_query}
-use Rattle.share_request.proofs.Spellings.{escaped_free, percent_decode-escaped}
 
 abbrev Four : Type 0
 Four = List ℕ × List ℕ × List ℕ × List ℕ
@@ -105,7 +105,7 @@ keeps_by below (Some p) is all =
     let d3 = All-percent_decode p.3 bytes.path in
     ap (option_map (λ (p : Four). (percent_decode p.0, percent_decode p.1, percent_decode p.2, percent_decode p.3)))
     (parts_again (escaped (percent_decode p.0)) (escaped (percent_decode p.1)) (escaped (percent_decode p.2)) (escaped (percent_decode p.3))
-    (escaped_free (percent_decode p.0) d0) (escaped_free (percent_decode p.1) d1) (escaped_free (percent_decode p.2) d2))
+    (free_of_slash (percent_decode p.0) d0) (free_of_slash (percent_decode p.1) d1) (free_of_slash (percent_decode p.2) d2))
     ∙ rw (percent_decode-escaped (percent_decode p.0) d0, percent_decode-escaped (percent_decode p.1) d1, percent_decode-escaped (percent_decode p.2) d2, percent_decode-escaped (percent_decode p.3) d3) refl
 
 pub spelling_keeps_names : SpellingKeepsNames

@@ -1,11 +1,9 @@
 -- The parameters of query strings (Delta Sharing PROTOCOL.md, "REST APIs"; URL Standard, section 5).
-use Rattle.std.specs.Prelude.{ℕ, ◌-◌, ◌^◌, ℤ, Bool, ◌&&◌, List, [], ◌∷◌, Option, Some, None, Result, Ok, Err, is_some, map, min, length, nat_le, nat_lt, unwrap_or, bytes_eq, if◌then◌else◌, codes}
-use Rattle.std.specs.Char.{is_ascii_digit}
-use Rattle.std.specs.List.{list_all}
+use Rattle.std.specs.Prelude.{ℕ, ◌-◌, ◌^◌, ℤ, List, [], ◌∷◌, Option, Some, None, Result, Ok, Err, is_some, map, min, unwrap_or, bytes_eq, if◌then◌else◌, codes}
 use Rattle.std.specs.Str.Lossy.{utf8_lossy}
-use Rattle.std.specs.Str.Parse.{digits_value}
 use Rattle.form_urlencoded.specs.Form.{decode, raw_pairs}
 use Rattle.json_tree.specs.Results.{◌>>=◌}
+use Rattle.text_forms.specs.Numbers.{number_in}
 use Rattle.share_request.specs.Faults.{or_bad, parameter_word}
 use Rattle.share_request.specs.Query.{moment_of, unless_empty}
 use Rattle.share_request.specs.declared.asked.Bound.{Bound}
@@ -34,17 +32,6 @@ first_value name [] = None
 first_value name (p ∷ pairs) = if bytes_eq p.name name then Some p.value else first_value name pairs
 
 -- ---- grammars
-
--- one decimal digit or more
-abbrev pub is_digits : List ℕ → Bool
-is_digits text = nat_lt 0 (length text) && list_all is_ascii_digit text
-
--- the number of these bounds that digits write
-abbrev pub number_in : ℕ → ℕ → List ℕ → Option ℕ
-number_in low high text =
-    if is_digits text && (nat_le low (digits_value 10 text) && nat_le (digits_value 10 text) high)
-    then Some (digits_value 10 text)
-    else None
 
 -- what a reader makes of a value, where there is one
 abbrev pub read_value : {X : Type 0} → Parameter → (List ℕ → Option X) → Option (List ℕ) → Result (Option X) RequestFault

@@ -2,7 +2,7 @@
 use Rattle.std.specs.Prelude.{ℕ, List, [], ◌∷◌, ◌++◌, Option, Some, None, option_map, codes}
 use Rattle.percent_encoding.specs.Percent.{percent_decode}
 use Rattle.json_tree.specs.Options.{◌>>=◌}
-use Rattle.signed_link.specs.Escape.{escaped}
+use Rattle.text_forms.specs.Escape.{escaped}
 use Rattle.signed_link.specs.Reading.{after, cut}
 
 -- the path, and the query behind the first `?`, where there is one

@@ -1,9 +1,6 @@
 // The parameters of query strings.
-ghost use Rattle.std.specs.Prelude.{◌≡◌, ◌≤◌, ◌^◌, true, IfOk, IfSome, MatchOption, option_map};
-ghost use Rattle.std.specs.Char.{is_ascii_digit};
-ghost use Rattle.std.specs.List.{list_all};
-ghost use Rattle.std.specs.Str.Parse.{digits_value};
-ghost use Rattle.share_request.specs.Parameters.{first_value, number_in, pairs_in, is_digits, token_in};
+ghost use Rattle.std.specs.Prelude.{◌≡◌, ◌≤◌, IfOk, IfSome, option_map};
+ghost use Rattle.share_request.specs.Parameters.{first_value, pairs_in, token_in};
 ghost use Rattle.share_request.specs.Parameters as spec;
 ghost use Rattle.share_request.specs.Stops.{Gives};
 
@@ -12,6 +9,7 @@ use crate::fault::{Parameter, RequestFault, Stop};
 use crate::query::{moment_of, unless_empty};
 use json_tree::{Text, Version};
 use std::alloc::{AllocError, Global};
+use text_forms::number_in;
 
 // The most names of a page of a list.
 const MOST_NAMES: u64 = 500;
@@ -50,47 +48,6 @@ fn first_value<'a>(name: &str, pairs: &'a [QueryPair]) -> Option<&'a str>
     None
 }
 
-fn are_digits(bytes: &[u8]) -> bool
-    ensures { result ≡ list_all is_ascii_digit bytes.now }
-{
-    bytes.iter().all(|byte| byte.is_ascii_digit())
-}
-
-fn is_digits(text: &str) -> bool
-    ensures { result ≡ is_digits text.now }
-{
-    !text.is_empty() && are_digits(text.as_bytes())
-}
-
-// The number that digits write; none where it has more than 64 bits.
-fn value_of(text: &str) -> Option<u64>
-    ensures { MatchOption result (is_digits text.now ≡ true → 2 ^ 64 ≤ digits_value 10 text.now) (λ n. (is_digits text.now ≡ true) × (n ≡ digits_value 10 text.now)) }
-{
-    if !is_digits(text) {
-        return None;
-    }
-    match text.parse::<u64>() {
-        Ok(number) => Some(number),
-        Err(_) => None,
-    }
-}
-
-// The number of these bounds that digits write.
-fn number_in(low: u64, high: u64, text: &str) -> Option<u64>
-    ensures { result ≡ number_in low high text.now }
-{
-    match value_of(text) {
-        Some(number) => {
-            if low <= number && number <= high {
-                Some(number)
-            } else {
-                None
-            }
-        }
-        None => None,
-    }
-}
-
 fn number_at(
     parameter: Parameter,
     low: u64,
@@ -103,7 +60,7 @@ fn number_at(
     let Some(text) = first_value(parameter.word(), pairs) else {
         return Ok(None);
     };
-    match number_in(low, high, text) {
+    match number_in(low, high, text.as_bytes()) {
         Some(number) => Ok(Some(number)),
         None => Err(RequestFault::BadParameter(parameter)),
     }

@@ -5,17 +5,9 @@ ghost use Rattle.share_request.specs.Targets.{behind_host, below_endpoint, below
 ghost use Rattle.share_request.specs.Targets as spec;
 
 use json_tree::Text;
-use percent_encoding::{AsciiSet, NON_ALPHANUMERIC, ascii_set, percent_decode_str, percent_encode};
+use percent_encoding::percent_decode_str;
 use std::alloc::{AllocError, Global};
-
-// The ASCII bytes that links escape: all but those that RFC 3986 calls unreserved (section 2.3).
-const RESERVED: AsciiSet = ascii_set!(
-    NON_ALPHANUMERIC
-        .remove(b'-')
-        .remove(b'.')
-        .remove(b'_')
-        .remove(b'~')
-);
+use text_forms::push_escaped;
 
 // What comes before the first such character, and what comes after it.
 #[tactic(auto, unfolding(signed_link::specs::Reading::cut))]
@@ -90,7 +82,7 @@ fn push_spelling(alloc: Global, text: &mut String, part: &str) -> Result<(), All
 {
     let mut bytes = Vec::new(alloc);
     percent_decode_str(part).append_to(&mut bytes)?;
-    percent_encode(&bytes, RESERVED).append_to(text)
+    push_escaped(text, &bytes)
 }
 
 fn push_segment(alloc: Global, text: &mut String, name: &str) -> Result<(), AllocError>

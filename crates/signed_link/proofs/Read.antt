@@ -10,7 +10,7 @@ use Rattle.hex.specs.Hex.{encode_lower}
 use Rattle.hmac_core.specs.Hmac.{hmac}
 use Rattle.share_catalog.specs.Grammar.{is_name_byte, is_catalog_name}
 use Rattle.signed_link.specs.declared.parts.LinkParts.{LinkParts}
-use Rattle.signed_link.specs.Escape.{escaped}
+use Rattle.text_forms.specs.Escape.{escaped}
 use Rattle.signed_link.specs.Link.{unsigned, link_text, IsValue, IsInRange, IsLink}
 use Rattle.signed_link.specs.Reading.{cut, after, value_in, number_in, name_of, path_of, parts_in}
 use Rattle.signed_link.proofs.Cuts.{cut_again, after_again, value_again}

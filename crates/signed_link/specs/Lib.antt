@@ -1,4 +1,3 @@
-pub mod Escape
 pub mod Laws
 pub mod Link
 pub mod Parts

@@ -7,7 +7,7 @@ use Rattle.hmac_core.specs.Hmac.{are_tag_digits, hmac}
 use Rattle.share_catalog.specs.Grammar.{is_catalog_name}
 use Rattle.share_catalog.specs.declared.table_name.TableName.{TableName}
 use Rattle.signed_link.specs.declared.parts.LinkParts.{LinkParts}
-use Rattle.signed_link.specs.Escape.{escaped}
+use Rattle.text_forms.specs.Escape.{escaped}
 
 -- the table's name and the file's path, one below the other
 abbrev pub file_path : LinkParts → List ℕ

@@ -6,9 +6,9 @@ ghost use Rattle.signed_link.specs.Laws.{LinksAreSpelt, OneLink, SpellingsAreRea
 ghost use Rattle.signed_link.specs.Link.{cut_tail, endpoint_path, unsigned, IsInRange, IsLink, IsValue};
 ghost use Rattle.signed_link.specs.Parts.{parts_of};
 
-use crate::parts::LinkParts;
+use crate::parts::{LentParts, LinkParts};
 use crate::reading::parts_in;
-use crate::spelling::{signed, unsigned};
+use crate::spelling::{push_signed, push_unsigned};
 use hmac_core::{Fault, HmacKey, are_tag_digits};
 use json_tree::Text;
 use std::alloc::{AllocError, Global};
@@ -19,18 +19,22 @@ const ENDPOINT_PATH: &str = "/delta-sharing";
 // The bytes of the last parameter: `&t=` and the digits of the tag.
 const TAIL: usize = 67;
 
+// The room that most links fit in.
+const ROOM: usize = 384;
+
 /// The link with these parts, below the endpoint and under the key. The endpoint is the text that the
 /// link begins with, without a slash at its end. The error is want of memory.
 pub fn link(
     alloc: Global,
     key: &HmacKey,
     endpoint: &str,
-    parts: &LinkParts,
+    parts: &LentParts<'_>,
 ) -> Result<Text, AllocError>
     ensures { IfOk result (λ t. IsLink key.now endpoint.now t parts.now) }
 {
-    let mut text = String::from_str(alloc, endpoint)?;
-    text.push_str(&signed(alloc, key, parts)?)?;
+    let mut text = String::with_capacity(alloc, ROOM)?;
+    text.push_str(endpoint)?;
+    push_signed(&mut text, key, parts)?;
     Ok(Text::of(text))
 }
 
@@ -61,7 +65,8 @@ fn is_signed(
     ensures value { IfOk result (λ _. IsValue parts.now) }
     ensures in_range { IfOk result (λ _. IsInRange parts.now) }
 {
-    let unsigned = unsigned(alloc, parts)?;
+    let mut unsigned = String::new(alloc);
+    push_unsigned(&mut unsigned, &parts.lent())?;
     let mut again = String::from_str(alloc, ENDPOINT_PATH)?;
     again.push_str(&unsigned)?;
     let is_spelt = again.as_bytes() == front;

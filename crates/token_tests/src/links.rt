@@ -42,7 +42,7 @@ fn leading_to(alloc: Global, path: String) -> Option<LinkParts> {
 
 fn linked(alloc: Global, endpoint: &str, path: String) -> Option<Text> {
     let parts = leading_to(alloc, path)?;
-    link(alloc, &HmacKey::of(&KEY), endpoint, &parts).ok()
+    link(alloc, &HmacKey::of(&KEY), endpoint, &parts.lent()).ok()
 }
 
 #[test]

@@ -1,4 +1,4 @@
-use Rattle.std.proofs.Common.{◌≡◌, ◌≤◌, ◌<◌, ◌^◌, length, ap, subst, sym, arith}
+use Rattle.std.proofs.Common.{◌≡◌, ◌≤◌, ◌<◌, ◌^◌, length, subst, sym, arith}
 use Rattle.file_ranges.specs.Ranges.{range_text}
 use Rattle.file_ranges.proofs.RangeTexts.{range_text_short}
 use Rattle.file_ranges.proofs.content_range.range_text.Goals as goal

@@ -1,6 +1,6 @@
 use Rattle.std.proofs.Common.{◌≡◌, ◌+◌, ◌*◌, ◌≤◌, length, drop}
 use Rattle.std.specs.List.{flat_map}
-use Rattle.signed_link.specs.Escape.{escaped_byte}
+use Rattle.text_forms.specs.Escape.{escaped_byte}
 use Rattle.share_reply.proofs.lengths.escaped_len.Given as goal
 
 abbrev pub invariant-loop-byte : goal.invariant-loop-byte

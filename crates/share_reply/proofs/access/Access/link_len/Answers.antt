@@ -1,7 +1,7 @@
 use Rattle.std.proofs.Common.{◌≡◌, All, length, decimal, ap, subst, arith}
 use Rattle.hmac_core.proofs.Bytes.{IsByte, utf8_bytes}
 use Rattle.page_token.specs.declared.cursor.TableAccess.{TableAccess}
-use Rattle.signed_link.specs.Escape.{escaped}
+use Rattle.text_forms.specs.Escape.{escaped}
 use Rattle.share_reply.specs.Access.{link_parts}
 use Rattle.share_reply.proofs.LinkLengths.{link_length}
 use Rattle.share_reply.proofs.access.Access.link_len.Goals as goal
