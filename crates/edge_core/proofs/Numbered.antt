@@ -1,5 +1,5 @@
 -- A number in 20 digits and `.json` is a segment.
-use Rattle.std.proofs.Common.{◌≡◌, ℕ, zero, suc, ◌+◌, ◌-◌, ◌<◌, ◌≤◌, ◌==◌, ◌||◌, not, List, [], ◌∷◌, ◌++◌, length, refl, ap, ◌∙◌, Bool, true, false, arith, bytes_eq, codes, nat_lt, length-append}
+use Rattle.std.proofs.Common.{◌≡◌, ℕ, zero, suc, ◌-◌, ◌<◌, ◌≤◌, ◌==◌, ◌||◌, not, List, [], ◌∷◌, ◌++◌, length, refl, ap, ◌∙◌, Bool, true, false, arith, bytes_eq, codes, nat_lt, length-append}
 use Rattle.std.specs.Prelude.{◌^◌, replicate}
 use Rattle.std.specs.List.{list_any}
 use Rattle.std.specs.Char.{digit_value}

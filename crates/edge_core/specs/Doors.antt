@@ -12,12 +12,17 @@ abbrev pub failed_listen : Listening → Bool
 failed_listen listening.Open = false
 failed_listen listening.Failed = true
 
--- A listener that is open stays so, untouched, and answers Open at its port alone; else it is opened, if it is.
-abbrev pub ListensOnce : {N : Type 0} → N → N → Option ℕ → Option ℕ → ℕ → Listening → Type 0
-ListensOnce old new (Some open_at) port_new port answer =
+-- the port at which a listener was opened last, by where it was before a call of `listen`: a call that fails leaves it there
+abbrev pub listens_after : Option ℕ → ℕ → Listening → Option ℕ
+listens_after old port listening.Open = Some port
+listens_after old port listening.Failed = old
+
+-- A listener that is open stays so, untouched, and answers Open at its port alone; else it is opened at that port, if it is.
+abbrev pub ListensOnce : {N : Type 0} → (N → Option ℕ) → N → N → Option ℕ → Option ℕ → ℕ → Listening → Type 0
+ListensOnce listens old new (Some open_at) port_new port answer =
     (new ≡ old) × (port_new ≡ Some open_at) × (answer ≡ (if nat_eq open_at port then listening.Open else listening.Failed))
-ListensOnce old new None port_new port listening.Open = port_new ≡ Some port
-ListensOnce old new None port_new port listening.Failed = port_new ≡ None
+ListensOnce listens old new None port_new port listening.Open = (port_new ≡ Some port) × (listens new ≡ Some port)
+ListensOnce listens old new None port_new port listening.Failed = port_new ≡ None
 
 module _ {I O : Type 0} where
   abbrev pub failed_accept : Taken I O → Bool

@@ -1,5 +1,5 @@
 -- What the clock, the listener and the link in memory stand for.
-use Rattle.std.specs.Prelude.{ℕ, ◌+◌, List, [], ◌∷◌, drop, Some, Bool, false, map, not, ◌&&◌, ◌||◌, nat_eq, bytes_eq, string_bytes, if◌then◌else◌}
+use Rattle.std.specs.Prelude.{ℕ, ◌+◌, List, [], ◌∷◌, drop, Option, Some, Bool, false, map, not, ◌&&◌, ◌||◌, nat_eq, bytes_eq, string_bytes, if◌then◌else◌}
 use Rattle.edge_core.specs.Calls.{calls_failed, due}
 use Rattle.edge_core.specs.Memory.{source_left, source_calls, sink_bytes, sink_calls}
 use Rattle.edge_core.specs.Lines.{ClosedLine, closed_line, PeerLine, peer_line}
@@ -54,6 +54,10 @@ listener_closed d = lines_closed d.given
 
 abbrev pub listener_out : MemListener → ℕ
 listener_out d = lines_out d.given
+
+-- the port at which it was opened last
+abbrev pub listener_port : MemListener → Option ℕ
+listener_port d = d.port
 
 abbrev pub listener_calls : MemListener → Calls
 listener_calls d = d.calls

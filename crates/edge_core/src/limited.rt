@@ -48,6 +48,8 @@ impl<N: Listener> Listener for Limited<N> {
 
     ghost out = { λ d. N.out (limited_listener d) };
 
+    ghost listens = { λ d. N.listens (limited_listener d) };
+
     ghost faults = { λ d. N.faults (limited_listener d) };
 
     fn listen(&mut self, port: u16) -> Listening {
@@ -58,6 +60,7 @@ impl<N: Listener> Listener for Limited<N> {
         ensures line { Takes N.In.left N.In.faults N.Out.holds N.Out.faults (option_map (take (limited_lines self.old)) (N.coming (limited_listener self.old))) (option_map (take (limited_lines self.new)) (N.coming (limited_listener self.new))) result }
         ensures out { OnTrue (is_line result) (N.out (limited_listener self.new) ≡ true) }
         ensures closed { N.closed (limited_listener self.new) ≡ N.closed (limited_listener self.old) }
+        ensures listens { N.listens (limited_listener self.new) ≡ N.listens (limited_listener self.old) }
         ensures cause { Cause (N.faults (limited_listener self.old)) (N.faults (limited_listener self.new)) (failed_accept result) }
         ensures limits { Limits (limited_lines self.old) (limited_lines self.new) result }
     {

@@ -3,7 +3,7 @@ ghost use Rattle.std.specs.Prelude.{◌≡◌, ℕ, ◌≤◌, Bool, List, Optio
 ghost use Rattle.std.specs.Bool.{OnTrue};
 ghost use Rattle.edge_core.specs.Faults.{Cause};
 ghost use Rattle.edge_core.specs.Lines.{ClosedLine, closed_line, with_line};
-ghost use Rattle.edge_core.specs.Doors.{Takes, failed_listen, failed_accept, is_line};
+ghost use Rattle.edge_core.specs.Doors.{Takes, failed_listen, failed_accept, is_line, listens_after};
 
 use crate::{Sink, Source};
 
@@ -46,12 +46,16 @@ pub trait Listener {
     /// Whether a line is known to be out.
     ghost out: { Self → Bool };
 
+    /// The port at which `listen` opened it last, or none where it never did.
+    ghost listens: { Self → Option ℕ };
+
     /// How often the listener has failed: a count that never falls, and stands still at 2^64 - 1.
     ghost faults: { Self → ℕ };
 
     /// Opens the listener at a port, or, at 0, at one that is free. `Failed` comes only where the count of faults rose in
     /// this call.
     fn listen(&mut self, port: u16) -> Listening
+        ensures listens { listens self.new ≡ listens_after (listens self.old) port result }
         ensures coming { coming self.new ≡ coming self.old }
         ensures closed { closed self.new ≡ closed self.old }
         ensures out { out self.new ≡ out self.old }
@@ -63,6 +67,7 @@ pub trait Listener {
         ensures line { Takes Self.In.left Self.In.faults Self.Out.holds Self.Out.faults (coming self.old) (coming self.new) result }
         ensures out { OnTrue (is_line result) (out self.new ≡ true) }
         ensures closed { closed self.new ≡ closed self.old }
+        ensures listens { listens self.new ≡ listens self.old }
         ensures cause { Cause (faults self.old) (faults self.new) (failed_accept result) };
 
     /// Takes a line back.
@@ -70,5 +75,6 @@ pub trait Listener {
         requires { out self.old ≡ true }
         ensures closed { closed self.new ≡ with_line (closed self.old) (closed_line (Self.Out.holds output) (Self.In.faults input) (Self.Out.faults output)) }
         ensures coming { coming self.new ≡ coming self.old }
+        ensures listens { listens self.new ≡ listens self.old }
         ensures later { faults self.old ≤ faults self.new };
 }

@@ -32,7 +32,7 @@ impl<N> SharedDoor<N> {
 impl<N: Listener> Listener for SharedDoor<N> {
     ghost use Rattle.std.specs.Prelude.{◌≡◌};
     ghost use Rattle.edge_core.specs.Faults.{Cause};
-    ghost use Rattle.edge_core.specs.Doors.{ListensOnce, failed_listen};
+    ghost use Rattle.edge_core.specs.Doors.{ListensOnce, failed_listen, listens_after};
     ghost use Rattle.edge_core.specs.Handles.{fault_count, shared_listener, shared_port, shared_faults};
 
     type In = N::In;
@@ -45,15 +45,18 @@ impl<N: Listener> Listener for SharedDoor<N> {
 
     ghost out = { λ d. N.out (shared_listener d) };
 
+    ghost listens = { λ d. shared_port d };
+
     ghost faults = { λ d. fault_count (shared_faults d) };
 
     // Where it is open, nothing is done: the answer is `Open` at its port, and `Failed` at another.
     fn listen(&mut self, port: u16) -> Listening
+        ensures listens { shared_port self.new ≡ listens_after (shared_port self.old) port result }
         ensures coming { N.coming (shared_listener self.new) ≡ N.coming (shared_listener self.old) }
         ensures closed { N.closed (shared_listener self.new) ≡ N.closed (shared_listener self.old) }
         ensures out { N.out (shared_listener self.new) ≡ N.out (shared_listener self.old) }
         ensures cause { Cause (fault_count (shared_faults self.old)) (fault_count (shared_faults self.new)) (failed_listen result) }
-        ensures once { ListensOnce (shared_listener self.old) (shared_listener self.new) (shared_port self.old) (shared_port self.new) port result }
+        ensures once { ListensOnce N.listens (shared_listener self.old) (shared_listener self.new) (shared_port self.old) (shared_port self.new) port result }
     {
         let listening = match self.port {
             Some(open) if open == port => Listening::Open,
@@ -90,6 +93,7 @@ impl<N: Listener> Listener for SharedDoor<N> {
 pub struct LockedDoor<R, N> {
     rt: R,
     shared: Arc<Mutex<SharedDoor<N>>, Global>,
+    port: Option<u16>,
     out: bool,
     faults: FaultCount,
 }
@@ -100,6 +104,7 @@ impl<R, N> LockedDoor<R, N> {
         LockedDoor {
             rt,
             shared,
+            port: None,
             out: false,
             faults: FaultCount::new(),
         }
@@ -124,11 +129,16 @@ where
 
     ghost out = { λ d. d.out };
 
+    ghost listens = { λ d. d.port };
+
     ghost faults = { λ d. fault_count d.faults };
 
     fn listen(&mut self, port: u16) -> Listening {
         let listening = self.shared.lock(&self.rt).listen(port);
-        self.faults.note(matches!(listening, Listening::Failed));
+        match listening {
+            Listening::Open => self.port = Some(port),
+            Listening::Failed => self.faults.note(true),
+        }
         listening
     }
 

@@ -14,13 +14,14 @@ use std::collections::VecDeque;
 pub struct MemListener {
     coming: VecDeque<MemLine>,
     given: GivenLines,
+    port: Option<u16>,
     calls: Calls,
     ghost lines: { deque_len coming + given.out ≤ given.room },
 }
 
 impl MemListener {
-    ghost use Rattle.std.specs.Prelude.{◌≡◌, [], map, IfOk};
-    ghost use Rattle.edge_core.specs.MemoryLines.{line_bytes, closed_of, listener_coming, listener_closed, listener_out, listener_calls};
+    ghost use Rattle.std.specs.Prelude.{◌≡◌, [], None, map, IfOk};
+    ghost use Rattle.edge_core.specs.MemoryLines.{line_bytes, closed_of, listener_coming, listener_closed, listener_out, listener_port, listener_calls};
     ghost use Rattle.edge_core.specs.Calls.{IsFresh, Plans};
 
     /// A listener of those lines, the first first. The error is want of memory.
@@ -28,12 +29,14 @@ impl MemListener {
         ensures coming { IfOk result (λ d. listener_coming d ≡ map line_bytes lines.items) }
         ensures closed { IfOk result (λ d. listener_closed d ≡ []) }
         ensures out { IfOk result (λ d. listener_out d ≡ 0) }
+        ensures port { IfOk result (λ d. listener_port d ≡ None) }
         ensures calls { IfOk result (λ d. IsFresh (listener_calls d)) }
     {
         let given = GivenLines::new(alloc, lines.len())?;
         Ok(MemListener {
             coming: VecDeque::from(lines),
             given,
+            port: None,
             calls: Calls::new(alloc),
         })
     }
@@ -43,6 +46,7 @@ impl MemListener {
         ensures coming { listener_coming result ≡ listener_coming self }
         ensures closed { listener_closed result ≡ listener_closed self }
         ensures out { listener_out result ≡ listener_out self }
+        ensures port { listener_port result ≡ listener_port self }
         ensures calls { Plans (listener_calls self) (listener_calls result) fails.items }
     {
         self.calls.set_fails(fails);
@@ -64,8 +68,8 @@ impl Listener for MemListener {
     ghost use Rattle.edge_core.specs.Calls.{due, calls_failed, Counts};
     ghost use Rattle.edge_core.specs.Memory.{source_left, source_calls, sink_bytes, sink_calls};
     ghost use Rattle.edge_core.specs.Lines.{closed_line, with_line};
-    ghost use Rattle.edge_core.specs.Doors.{Takes, failed_listen, failed_accept, is_line};
-    ghost use Rattle.edge_core.specs.MemoryLines.{listener_coming, listener_closed, listener_out, listener_calls, more_out};
+    ghost use Rattle.edge_core.specs.Doors.{Takes, failed_listen, failed_accept, is_line, listens_after};
+    ghost use Rattle.edge_core.specs.MemoryLines.{listener_coming, listener_closed, listener_out, listener_port, listener_calls, more_out};
 
     type In = MemSource;
 
@@ -77,9 +81,12 @@ impl Listener for MemListener {
 
     ghost out = { λ d. nat_lt 0 (listener_out d) };
 
+    ghost listens = { λ d. listener_port d };
+
     ghost faults = { λ d. calls_failed (listener_calls d) };
 
-    fn listen(&mut self, _port: u16) -> Listening
+    fn listen(&mut self, port: u16) -> Listening
+        ensures listens { listener_port self.new ≡ listens_after (listener_port self.old) port result }
         ensures coming { listener_coming self.new ≡ listener_coming self.old }
         ensures closed { listener_closed self.new ≡ listener_closed self.old }
         ensures out { listener_out self.new ≡ listener_out self.old }
@@ -90,6 +97,7 @@ impl Listener for MemListener {
         if self.calls.next() {
             Listening::Failed
         } else {
+            self.port = Some(port);
             Listening::Open
         }
     }
@@ -98,6 +106,7 @@ impl Listener for MemListener {
         ensures line { Takes (λ s. Some (source_left s)) (λ s. calls_failed (source_calls s)) (λ s. Some (sink_bytes s)) (λ s. calls_failed (sink_calls s)) (Some (listener_coming self.old)) (Some (listener_coming self.new)) result }
         ensures out { OnTrue (is_line result) (nat_lt 0 (listener_out self.new) ≡ true) }
         ensures closed { listener_closed self.new ≡ listener_closed self.old }
+        ensures listens { listener_port self.new ≡ listener_port self.old }
         ensures cause { Cause (calls_failed (listener_calls self.old)) (calls_failed (listener_calls self.new)) (failed_accept result) }
         ensures fails { failed_accept result ≡ due (listener_calls self.old) }
         ensures counts { Counts (listener_calls self.old) (listener_calls self.new) (failed_accept result) }
@@ -120,6 +129,7 @@ impl Listener for MemListener {
         requires { nat_lt 0 (listener_out self.old) ≡ true }
         ensures closed { Some (listener_closed self.new) ≡ with_line (Some (listener_closed self.old)) (closed_line (Some (sink_bytes output)) (calls_failed (source_calls input)) (calls_failed (sink_calls output))) }
         ensures coming { listener_coming self.new ≡ listener_coming self.old }
+        ensures listens { listener_port self.new ≡ listener_port self.old }
         ensures later { calls_failed (listener_calls self.old) ≤ calls_failed (listener_calls self.new) }
         ensures calls { listener_calls self.new ≡ listener_calls self.old }
         ensures fewer { listener_out self.new ≡ listener_out self.old - 1 }

@@ -19,6 +19,7 @@ pub struct TcpDoor {
     host: Option<IpAddr>,
     timeouts: Timeouts,
     listener: Option<TcpListener>,
+    asked: Option<u16>,
     out: bool,
     faults: FaultCount,
 }
@@ -31,6 +32,7 @@ impl TcpDoor {
             host: Some(IpAddr::V4(Ipv4Addr::LOCALHOST)),
             timeouts: Timeouts::accepted(),
             listener: None,
+            asked: None,
             out: false,
             faults: FaultCount::new(),
         }
@@ -89,12 +91,15 @@ impl Listener for TcpDoor {
 
     ghost out = { λ d. d.out };
 
+    ghost listens = { λ d. d.asked };
+
     ghost faults = { λ d. fault_count d.faults };
 
     fn listen(&mut self, port: u16) -> Listening {
         match self.bind(port) {
             Ok(listener) => {
                 self.listener = Some(listener);
+                self.asked = Some(port);
                 Listening::Open
             }
             Err(_) => {

@@ -46,7 +46,7 @@ numbered hub h ps i p all less =
     let same : 0 + i ≡ i = omega arith in
     fresh_at hub h ps 0 i p all less ∙ ap (λ z. fresh hub z h) same
 
-module _ {N W C L : Type 0} (coming : N → Option (List (List ℕ))) (closed : N → Option (List ClosedLine)) (failed : N → ℕ) (moments : C → Option (List ℕ)) (objects : W → Option Objects) (alone : W → Bool) (faults : W → ℕ) where
+module _ {N W C L : Type 0} (coming : N → Option (List (List ℕ))) (closed : N → Option (List ClosedLine)) (failed : N → ℕ) (listens : N → Option ℕ) (moments : C → Option (List ℕ)) (objects : W → Option Objects) (alone : W → Bool) (faults : W → ℕ) where
   -- each desk that was made ready has its pass
   abbrev pub Seated : List P → ℕ → List (Desk N W C L) → Type 0
   Seated passes n desks = (i : ℕ) (d : Desk N W C L) (p : P) → i < n → (slice_index_or desks i d).pass ≡ Some (slice_index_or passes i p)
@@ -58,17 +58,18 @@ module _ {N W C L : Type 0} (coming : N → Option (List (List ℕ))) (closed : 
   pub has_pass : (hub : TableId) (h : List Entry) (passes : List P) (desks : List (Desk N W C L)) (n : ℕ) → AllFresh hub h 0 passes → n ≤ length passes → Seated passes n desks → (i : ℕ) (d : Desk N W C L) → i < n → HasPass hub (slice_index_or desks i d).pass
   has_pass hub h passes desks n all enough ready i d less = subst (HasPass hub) (sym (seat_of hub h passes desks n all enough ready i d less)) (refl, refl)
 
-  pub all_serve : (hub : TableId) (server : Server) (config : Config) (found : List Step) (passes : List P) (first ready last : List (Desk N W C L)) (n : ℕ) (e : ServeEnd) → server ≡ server_of config → AllFresh hub (first_history found) 0 passes → n ≤ length passes
-      → AllWait coming closed failed moments objects alone faults n first ready → Seated passes n ready
-      → ((i : ℕ) (d : Desk N W C L) → i < n → DeskWorks coming closed failed moments objects alone faults hub server (slice_index_or ready i d) (slice_index_or last i d)) → e ≡ all_end (map (λ d. d.end) last) → length last ≤ n
-      → WorkersServe coming closed failed moments objects alone faults config found n e first last
-  all_serve hub server config found passes first ready last n e is all enough waits seated works end short = record {
+  pub all_serve : (hub : TableId) (server : Server) (config : Config) (found : List Step) (port : ℕ) (passes : List P) (first ready last : List (Desk N W C L)) (n : ℕ) (e : ServeEnd) → server ≡ server_of config → AllFresh hub (first_history found) 0 passes → n ≤ length passes
+      → AllWait coming closed failed listens moments objects alone faults n first ready → Seated passes n ready → ((i : ℕ) (d : Desk N W C L) → i < n → listens (slice_index_or ready i d).door ≡ Some port)
+      → ((i : ℕ) (d : Desk N W C L) → i < n → DeskWorks coming closed failed listens moments objects alone faults hub server (slice_index_or ready i d) (slice_index_or last i d)) → e ≡ all_end (map (λ d. d.end) last) → length last ≤ n
+      → WorkersServe coming closed failed listens moments objects alone faults config found port n e first last
+  all_serve hub server config found port passes first ready last n e is all enough waits seated listen works end short = record {
     hub = hub;
     each = λ i d less. (
       slice_index_or ready i d,
       waits i d less,
       seat_of hub (first_history found) passes ready n all enough seated i d less,
-      subst (λ s. DeskWorks coming closed failed moments objects alone faults hub s (slice_index_or ready i d) (slice_index_or last i d)) is (works i d less),
+      listen i d less,
+      subst (λ s. DeskWorks coming closed failed listens moments objects alone faults hub s (slice_index_or ready i d) (slice_index_or last i d)) is (works i d less),
     );
     end = end ∙ ap (λ l. all_end (map (λ (d : Desk N W C L). d.end) l)) (sym (take_all n last short));
   }
@@ -96,39 +97,39 @@ module _ {N W C L : Type 0} (coming : N → Option (List (List ℕ))) (closed : 
   among Q used desks part desks' f i d less q =
       subst (λ x. Q i (slice_index_or desks i d) x) (first_of used desks part desks' f i d less) (subst (λ x. Q i x (slice_index_or part i d)) (get_or-take used desks i d less) q)
 
-  pub door_fails : (used : ℕ) (desks part desks' : List (Desk N W C L)) → Front used desks part desks' → DoorFails coming closed failed moments objects alone faults used (take used desks) part → DoorFails coming closed failed moments objects alone faults used desks desks'
+  pub door_fails : (used : ℕ) (desks part desks' : List (Desk N W C L)) → Front used desks part desks' → DoorFails coming closed failed listens moments objects alone faults used (take used desks) part → DoorFails coming closed failed listens moments objects alone faults used desks desks'
   door_fails used desks part desks' f (waits, (i, less, rose)) =
-      ((λ j d below. among (λ n x y. Waits coming closed failed moments objects alone faults x y) used desks part desks' f j d below (waits j d below)), (i, less, λ d. among (λ n x y. Rose (failed x.door) (failed y.door)) used desks part desks' f i d less (rose d)))
+      ((λ j d below. among (λ n x y. Waits coming closed failed listens moments objects alone faults x y) used desks part desks' f j d below (waits j d below)), (i, less, λ d. among (λ n x y. Rose (failed x.door) (failed y.door)) used desks part desks' f i d less (rose d)))
 
-  pub workers_serve : (config : Config) (found : List Step) (used : ℕ) (e : ServeEnd) (desks part desks' : List (Desk N W C L)) → Front used desks part desks'
-      → WorkersServe coming closed failed moments objects alone faults config found used e (take used desks) part → WorkersServe coming closed failed moments objects alone faults config found used e desks desks'
-  workers_serve config found used e desks part desks' f w = record {
+  pub workers_serve : (config : Config) (found : List Step) (port used : ℕ) (e : ServeEnd) (desks part desks' : List (Desk N W C L)) → Front used desks part desks'
+      → WorkersServe coming closed failed listens moments objects alone faults config found port used e (take used desks) part → WorkersServe coming closed failed listens moments objects alone faults config found port used e desks desks'
+  workers_serve config found port used e desks part desks' f w = record {
     hub = w.hub;
-    each = λ i d less. among (WorksAt coming closed failed moments objects alone faults w.hub config found) used desks part desks' f i d less (w.each i d less);
+    each = λ i d less. among (WorksAt coming closed failed listens moments objects alone faults w.hub config found port) used desks part desks' f i d less (w.each i d less);
     end = w.end ∙ ap (λ l. all_end (map (λ (d : Desk N W C L). d.end) l)) (take_all used part (let c = f.count in omega (arith, c)) ∙ sym (front used desks part desks' f));
   }
 
   -- ---- a run of `serve`
 
   -- the desks that were used came to what a run says of them
-  pub served_desks : (config : Config) (found : List Step) (used n : ℕ) (e : ServeEnd) (desks part desks' : List (Desk N W C L)) → n ≡ used → Front used desks part desks'
-      → WorkersServe coming closed failed moments objects alone faults config found n e (take used desks) part → IsServing coming closed failed moments objects alone faults config found used e desks desks'
-  served_desks config found used n e desks part desks' is f w =
-      inr (workers_serve config found used e desks part desks' f (subst (λ k. WorkersServe coming closed failed moments objects alone faults config found k e (take used desks) part) is w))
+  pub served_desks : (config : Config) (found : List Step) (port used n : ℕ) (e : ServeEnd) (desks part desks' : List (Desk N W C L)) → n ≡ used → Front used desks part desks'
+      → WorkersServe coming closed failed listens moments objects alone faults config found port n e (take used desks) part → IsServing coming closed failed listens moments objects alone faults config found port used e desks desks'
+  served_desks config found port used n e desks part desks' is f w =
+      inr (workers_serve config found port used e desks part desks' f (subst (λ k. WorkersServe coming closed failed listens moments objects alone faults config found port k e (take used desks) part) is w))
 
-  pub failed_desks : (config : Config) (found : List Step) (used n : ℕ) (desks part desks' : List (Desk N W C L)) → n ≡ used → Front used desks part desks'
-      → DoorFails coming closed failed moments objects alone faults n (take used desks) part → IsServing coming closed failed moments objects alone faults config found used serve_end.ListenerFault desks desks'
-  failed_desks config found used n desks part desks' is f w =
-      inl (door_fails used desks part desks' f (subst (λ k. DoorFails coming closed failed moments objects alone faults k (take used desks) part) is w), refl)
+  pub failed_desks : (config : Config) (found : List Step) (port used n : ℕ) (desks part desks' : List (Desk N W C L)) → n ≡ used → Front used desks part desks'
+      → DoorFails coming closed failed listens moments objects alone faults n (take used desks) part → IsServing coming closed failed listens moments objects alone faults config found port used serve_end.ListenerFault desks desks'
+  failed_desks config found port used n desks part desks' is f w =
+      inl (door_fails used desks part desks' f (subst (λ k. DoorFails coming closed failed listens moments objects alone faults k (take used desks) part) is w), refl)
 
-  pub serves_at : (config : Config) (found : List Step) (used workers : ℕ) (e : ServeEnd) (end : End) (old new : Outside) (desks part desks' : List (Desk N W C L)) → used ≡ min workers (length desks) → Front used desks part desks' → end ≡ end_of e → OpensServer config found old new
-      → IsServing coming closed failed moments objects alone faults config found used e desks desks' → Serves coming closed failed moments objects alone faults workers old new end desks desks'
-  serves_at config found used workers e end old new desks part desks' is f ends opens serving =
-      subst (λ k. ServesAt coming closed failed moments objects alone faults k old new end desks desks') is (inr (e, ends, (config, found, opens, serving, behind used desks part desks' f)))
+  pub serves_at : (config : Config) (found : List Step) (port used workers : ℕ) (e : ServeEnd) (end : End) (old new : Outside) (desks part desks' : List (Desk N W C L)) → used ≡ min workers (length desks) → Front used desks part desks' → end ≡ end_of e → OpensServer config found old new
+      → IsServing coming closed failed listens moments objects alone faults config found port used e desks desks' → Serves coming closed failed listens moments objects alone faults port workers old new end desks desks'
+  serves_at config found port used workers e end old new desks part desks' is f ends opens serving =
+      subst (λ k. ServesAt coming closed failed listens moments objects alone faults port k old new end desks desks') is (inr (e, ends, (config, found, opens, serving, behind used desks part desks' f)))
 
   -- what a run says of the desks it says of the outside as the notes leave it
-  pub desks_told : (asked : Option Command) (old mid new : Outside) (text : List ℕ) (end : End) (desks desks' : List (Desk N W C L)) → Tells mid new text → UsesDesks coming closed failed moments objects alone faults asked old mid end desks desks'
-      → UsesDesks coming closed failed moments objects alone faults asked old new end desks desks'
+  pub desks_told : (asked : Option Command) (old mid new : Outside) (text : List ℕ) (end : End) (desks desks' : List (Desk N W C L)) → Tells mid new text → UsesDesks coming closed failed listens moments objects alone faults asked old mid end desks desks'
+      → UsesDesks coming closed failed listens moments objects alone faults asked old new end desks desks'
   desks_told None old mid new text end desks desks' tells u = u
   desks_told (Some command.Help) old mid new text end desks desks' tells u = u
   desks_told (Some command.Version) old mid new text end desks desks' tells u = u
@@ -139,7 +140,7 @@ module _ {N W C L : Type 0} (coming : N → Option (List (List ℕ))) (closed : 
   desks_told (Some (command.Serve port workers)) old mid new text end desks desks' tells (inl (why, is, u, same)) = inl (why, is, unserved_told why old mid new text tells u, same)
   desks_told (Some (command.Serve port workers)) old mid new text end desks desks' tells (inr (e, is, (config, found, o, serving, rest))) = inr (e, is, (config, found, opens_told config found old mid new text tells o, serving, rest))
 
-  pub desks_still : (asked : Option Command) (o : Outside) (desks : List (Desk N W C L)) → UsesDesks coming closed failed moments objects alone faults asked o o ends.NoMemory desks desks
+  pub desks_still : (asked : Option Command) (o : Outside) (desks : List (Desk N W C L)) → UsesDesks coming closed failed listens moments objects alone faults asked o o ends.NoMemory desks desks
   desks_still None o desks = refl
   desks_still (Some command.Help) o desks = refl
   desks_still (Some command.Version) o desks = refl

@@ -1,4 +1,4 @@
--- What `serve` does: a server is opened over the store, and workers serve the connections that come to a port, each at a desk.
+-- What `serve` does: a server is opened over the store, and workers serve the connections that come to the port of the words, each at a desk.
 use Rattle.std.specs.Prelude.{◌≡◌, ◌⊎◌, ◌<◌, ◌≤◌, ℕ, Bool, List, drop, length, map, min, take, Option, None, Some, slice_index_or}
 use Rattle.atomic_table.specs.Seated.{TableId}
 use Rattle.edge_core.specs.Faults.{Rose}
@@ -49,7 +49,7 @@ IsServe old new end =
 
 -- ---- the desks
 
-module _ {N W C L : Type 0} (coming : N → Option (List (List ℕ))) (closed : N → Option (List ClosedLine)) (failed : N → ℕ) (moments : C → Option (List ℕ)) (objects : W → Option Objects) (alone : W → Bool) (faults : W → ℕ) where
+module _ {N W C L : Type 0} (coming : N → Option (List (List ℕ))) (closed : N → Option (List ClosedLine)) (failed : N → ℕ) (listens : N → Option ℕ) (moments : C → Option (List ℕ)) (objects : W → Option Objects) (alone : W → Bool) (faults : W → ℕ) where
   -- at this desk no line came and none was closed, and its store and clock weren't used
   pub record Waits (old new : Desk N W C L) : Type 0 where
     pub same_coming : coming new.door ≡ coming old.door
@@ -67,30 +67,30 @@ module _ {N W C L : Type 0} (coming : N → Option (List (List ℕ))) (closed : 
   DoorFails workers old new =
       AllWait workers old new × ((i : ℕ) × (i < workers) × ((d : Desk N W C L) → Rose (failed (slice_index_or old i d).door) (failed (slice_index_or new i d).door)))
 
-  -- The worker of that number had the place of its number at the hub, which has seen the edits that the hub was opened with, and did its work from there.
-  abbrev pub WorksAt : TableId → Config → List Step → ℕ → (old new : Desk N W C L) → Type 0
-  WorksAt hub config found i old new =
-      (ready : Desk N W C L) × Waits old ready × (ready.pass ≡ Some (fresh hub i (first_history found))) × DeskWorks coming closed failed moments objects alone faults hub (server_of config) ready new
+  -- The worker of that number had the place of its number at the hub, which has seen the edits that the hub was opened with, and a door that listens at the port, and did its work from there.
+  abbrev pub WorksAt : TableId → Config → List Step → (port i : ℕ) → (old new : Desk N W C L) → Type 0
+  WorksAt hub config found port i old new =
+      (ready : Desk N W C L) × Waits old ready × (ready.pass ≡ Some (fresh hub i (first_history found))) × (listens ready.door ≡ Some port) × DeskWorks coming closed failed listens moments objects alone faults hub (server_of config) ready new
 
-  -- So many workers served, each at its desk, all over one hub.
-  pub record WorkersServe (config : Config) (found : List Step) (workers : ℕ) (e : ServeEnd) (old new : List (Desk N W C L)) : Type 0 where
+  -- So many workers served what came to the port, each at its desk, all over one hub.
+  pub record WorkersServe (config : Config) (found : List Step) (port workers : ℕ) (e : ServeEnd) (old new : List (Desk N W C L)) : Type 0 where
     pub hub : TableId
-    pub each : (i : ℕ) (d : Desk N W C L) → i < workers → WorksAt hub config found i (slice_index_or old i d) (slice_index_or new i d)
+    pub each : (i : ℕ) (d : Desk N W C L) → i < workers → WorksAt hub config found port i (slice_index_or old i d) (slice_index_or new i d)
     pub end : e ≡ all_end (map (λ d. d.end) (take workers new))
 
   -- why workers ended so
-  abbrev pub IsServing : Config → List Step → ℕ → ServeEnd → (old new : List (Desk N W C L)) → Type 0
-  IsServing config found workers e old new = (DoorFails workers old new × (e ≡ serve_end.ListenerFault)) ⊎ WorkersServe config found workers e old new
+  abbrev pub IsServing : Config → List Step → (port workers : ℕ) → ServeEnd → (old new : List (Desk N W C L)) → Type 0
+  IsServing config found port workers e old new = (DoorFails workers old new × (e ≡ serve_end.ListenerFault)) ⊎ WorkersServe config found port workers e old new
 
   -- A run of `serve`, by its input, output and store and by its desks: there was no server, and no desk was used; or there was one, and so many of the first desks were used.
-  abbrev pub ServesAt : ℕ → Outside → Outside → End → (old new : List (Desk N W C L)) → Type 0
-  ServesAt used old new end desks desks' =
+  abbrev pub ServesAt : (port used : ℕ) → Outside → Outside → End → (old new : List (Desk N W C L)) → Type 0
+  ServesAt port used old new end desks desks' =
       ((why : NoServer) × (end ≡ end_without why) × IsUnserved why old new × (desks' ≡ desks))
-      ⊎ ((e : ServeEnd) × (end ≡ end_of e) × ((config : Config) × (found : List Step) × OpensServer config found old new × IsServing config found used e desks desks' × (drop used desks' ≡ drop used desks)))
+      ⊎ ((e : ServeEnd) × (end ≡ end_of e) × ((config : Config) × (found : List Step) × OpensServer config found old new × IsServing config found port used e desks desks' × (drop used desks' ≡ drop used desks)))
 
   -- as many desks are used as there are workers, and all where there are fewer
-  abbrev pub Serves : ℕ → Outside → Outside → End → (old new : List (Desk N W C L)) → Type 0
-  Serves workers old new end desks desks' = ServesAt (min workers (length desks)) old new end desks desks'
+  abbrev pub Serves : (port workers : ℕ) → Outside → Outside → End → (old new : List (Desk N W C L)) → Type 0
+  Serves port workers old new end desks desks' = ServesAt port (min workers (length desks)) old new end desks desks'
 
   -- what a run does to the desks: `serve` alone uses any
   abbrev pub UsesDesks : Option Command → Outside → Outside → End → (old new : List (Desk N W C L)) → Type 0
@@ -101,4 +101,4 @@ module _ {N W C L : Type 0} (coming : N → Option (List (List ℕ))) (closed : 
   UsesDesks (Some command.Stdio) old new end desks desks' = desks' ≡ desks
   UsesDesks (Some (command.Rehearse number)) old new end desks desks' = desks' ≡ desks
   UsesDesks (Some (command.Client name call_words)) old new end desks desks' = desks' ≡ desks
-  UsesDesks (Some (command.Serve port workers)) old new end desks desks' = Serves workers old new end desks desks'
+  UsesDesks (Some (command.Serve port workers)) old new end desks desks' = Serves port workers old new end desks desks'

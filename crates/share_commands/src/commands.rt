@@ -177,8 +177,8 @@ fn find_lines<S: Source, K: Sink, M: Sink, W: Store, C: Clock, G: Gate, L>(
     }
 }
 
-// Answers a query of the table there.
-fn query<S: Source, K: Sink, M: Sink, W: Store, C: Clock, G: Gate, L>(
+/// Answers a query of the table there, and notes nothing: what [`run`] does for the words `query LOCATION`, before it tells how it ended.
+pub fn query<S: Source, K: Sink, M: Sink, W: Store, C: Clock, G: Gate, L>(
     alloc: Global,
     location: &Name,
     edge: &mut Edge<S, K, M, W, C, G, L>,
@@ -229,7 +229,7 @@ fn answer<
 ) -> End
     requires workers { (port workers : ℕ) → command ≡ Some (Serve port workers) → (1 ≤ workers) × (workers ≤ 64) }
     ensures runs { Runs command edge.old edge.new result }
-    ensures desks { UsesDesks N.coming N.closed N.faults C.coming W.objects W.alone W.faults command edge.old edge.new result desks.old desks.new }
+    ensures desks { UsesDesks N.coming N.closed N.faults N.listens C.coming W.objects W.alone W.faults command edge.old edge.new result desks.old desks.new }
     ensures way { UsesWay V.coming V.closed V.faults V.read_faults V.write_faults command edge.old edge.new result way.old way.new }
 {
     match command {
@@ -249,8 +249,8 @@ fn answer<
     }
 }
 
-// Writes the line of an end to the notes. A fault in writing it changes no status.
-fn tell<S: Source, K: Sink, M: Sink, W: Store, C: Clock, G: Gate, L>(
+/// Writes the line of an end to the notes. A fault in writing it changes no status.
+pub fn tell<S: Source, K: Sink, M: Sink, W: Store, C: Clock, G: Gate, L>(
     edge: &mut Edge<S, K, M, W, C, G, L>,
     end: &End,
 )
@@ -292,7 +292,7 @@ fn perform<
     way: &mut V,
 ) -> End
     ensures runs { Runs (command_in words.now) edge.old edge.new result }
-    ensures desks { UsesDesks N.coming N.closed N.faults C.coming W.objects W.alone W.faults (command_in words.now) edge.old edge.new result desks.old desks.new }
+    ensures desks { UsesDesks N.coming N.closed N.faults N.listens C.coming W.objects W.alone W.faults (command_in words.now) edge.old edge.new result desks.old desks.new }
     ensures way { UsesWay V.coming V.closed V.faults V.read_faults V.write_faults (command_in words.now) edge.old edge.new result way.old way.new }
 {
     match command_of(alloc, words) {
@@ -322,7 +322,7 @@ fn perform_and_tell<
     way: &mut V,
 ) -> End
     ensures run { IsRun (command_in words.now) edge.old edge.new result }
-    ensures desks { UsesDesks N.coming N.closed N.faults C.coming W.objects W.alone W.faults (command_in words.now) edge.old edge.new result desks.old desks.new }
+    ensures desks { UsesDesks N.coming N.closed N.faults N.listens C.coming W.objects W.alone W.faults (command_in words.now) edge.old edge.new result desks.old desks.new }
     ensures way { UsesWay V.coming V.closed V.faults V.read_faults V.write_faults (command_in words.now) edge.old edge.new result way.old way.new }
 {
     let end = perform(rt, alloc, words, edge, desks, way);
@@ -378,7 +378,7 @@ pub fn run<
 ) -> u8
     ensures cause { (end : End) × (result ≡ status end)
         × IsRun (command_in words.now) edge.old edge.new end
-        × UsesDesks N.coming N.closed N.faults C.coming W.objects W.alone W.faults (command_in words.now) edge.old edge.new end desks.old desks.new
+        × UsesDesks N.coming N.closed N.faults N.listens C.coming W.objects W.alone W.faults (command_in words.now) edge.old edge.new end desks.old desks.new
         × UsesWay V.coming V.closed V.faults V.read_faults V.write_faults (command_in words.now) edge.old edge.new end way.old way.new }
     ensures exact { IsExact words.now edge.old edge.new result }
     ensures alone { IsExactAlone words.now edge.old edge.new result }

@@ -13,6 +13,7 @@ mod stdio;
 mod table;
 mod words;
 
-pub use commands::{run, tell_memory};
+pub use commands::{query, run, tell, tell_memory};
 pub use edge::Edge;
-pub use words::{HELP, MOST_WORKERS, VERSION};
+pub use ends::End;
+pub use words::{HELP, MOST_WORKERS, VERSION, location_of};

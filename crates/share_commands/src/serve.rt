@@ -40,8 +40,9 @@ fn make_ready<N: Listener, W: Store, C: Clock, L>(
     pass: Option<HubPass>,
     port: u16,
 ) -> bool
-    ensures waits { Waits N.coming N.closed N.faults C.coming W.objects W.alone W.faults desk.old desk.new }
+    ensures waits { Waits N.coming N.closed N.faults N.listens C.coming W.objects W.alone W.faults desk.old desk.new }
     ensures pass { desk.new.pass ≡ pass }
+    ensures listens { OnTrue result (N.listens desk.new.door ≡ Some port) }
     ensures fails { OnFalse result (Rose (N.faults desk.old.door) (N.faults desk.new.door)) }
 {
     desk.pass = pass;
@@ -59,9 +60,10 @@ fn make_all_ready<N: Listener, W: Store, C: Clock, L>(
 ) -> bool
     requires { length desks.old ≤ length passes.items }
     ensures count { length desks.new ≡ length desks.old }
-    ensures waits { AllWait N.coming N.closed N.faults C.coming W.objects W.alone W.faults (length desks.old) desks.old desks.new }
+    ensures waits { AllWait N.coming N.closed N.faults N.listens C.coming W.objects W.alone W.faults (length desks.old) desks.old desks.new }
     ensures ready { OnTrue result ((i : ℕ) (d : _) (p : _) → i < length desks.old → (slice_index_or desks.new i d).pass ≡ Some (slice_index_or passes.items i p)) }
-    ensures fails { OnFalse result (DoorFails N.coming N.closed N.faults C.coming W.objects W.alone W.faults (length desks.old) desks.old desks.new) }
+    ensures listens { OnTrue result ((i : ℕ) (d : _) → i < length desks.old → N.listens (slice_index_or desks.new i d).door ≡ Some port) }
+    ensures fails { OnFalse result (DoorFails N.coming N.closed N.faults N.listens C.coming W.objects W.alone W.faults (length desks.old) desks.old desks.new) }
 {
     let mut passes = passes.into_iter();
     for desk in desks.iter_mut() {
@@ -92,7 +94,7 @@ fn serve_at<
     requires fresh { (h : List Entry) × AllFresh opened.hub h 0 opened.passes.items }
     ensures count { length desks.new ≡ length desks.old }
     ensures serves { (config : Config) (found : List Step) → opened.server ≡ server_of config → AllFresh opened.hub (first_history found) 0 opened.passes.items
-        → MatchOption result (DoorFails N.coming N.closed N.faults C.coming W.objects W.alone W.faults (length desks.old) desks.old desks.new) (λ e. WorkersServe N.coming N.closed N.faults C.coming W.objects W.alone W.faults config found (length desks.old) e desks.old desks.new) }
+        → MatchOption result (DoorFails N.coming N.closed N.faults N.listens C.coming W.objects W.alone W.faults (length desks.old) desks.old desks.new) (λ e. WorkersServe N.coming N.closed N.faults N.listens C.coming W.objects W.alone W.faults config found port (length desks.old) e desks.old desks.new) }
 {
     let Opened {
         server,
@@ -141,7 +143,7 @@ pub fn serve<
 ) -> End
     requires workers { (1 ≤ workers) × (workers ≤ 64) }
     ensures runs { Runs (Some (Serve port workers)) edge.old edge.new result }
-    ensures desks { Serves N.coming N.closed N.faults C.coming W.objects W.alone W.faults workers edge.old edge.new result desks.old desks.new }
+    ensures desks { Serves N.coming N.closed N.faults N.listens C.coming W.objects W.alone W.faults port workers edge.old edge.new result desks.old desks.new }
 {
     let opened = match open_over(alloc, workers, edge) {
         Ok(opened) => opened,

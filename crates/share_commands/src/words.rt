@@ -131,7 +131,8 @@ fn text_of(alloc: Global, text: &str) -> Result<Text, AllocError>
     Ok(Text::of(String::from_str(alloc, text)?))
 }
 
-fn location_of(alloc: Global, text: &str) -> Result<Option<Location>, AllocError>
+/// The location that a word names, none where it names none. The error is want of memory.
+pub fn location_of(alloc: Global, text: &str) -> Result<Option<Location>, AllocError>
     ensures { IfOk result (λ location. location ≡ location_in text.now) }
 {
     match Name::of(String::from_str(alloc, text)?) {

@@ -18,11 +18,11 @@ use Rattle.share_pool.specs.declared.desk.ServeEnd.TheVariants as serve_end
 abbrev pub HasPass : TableId → Option P → Type 0
 HasPass hub pass = IsSomeAnd pass (λ p. (p.cell ≡ hub) × (p.holds ≡ false))
 
-module _ {N W C L : Type 0} (coming : N → Option (List (List ℕ))) (closed : N → Option (List ClosedLine)) (failed : N → ℕ) (moments : C → Option (List ℕ)) (objects : W → Option Objects) (alone : W → Bool) (faults : W → ℕ) where
+module _ {N W C L : Type 0} (coming : N → Option (List (List ℕ))) (closed : N → Option (List ClosedLine)) (failed : N → ℕ) (listens : N → Option ℕ) (moments : C → Option (List ℕ)) (objects : W → Option Objects) (alone : W → Bool) (faults : W → ℕ) where
   abbrev pub post_of : Desk N W C L → P → Post
   post_of d pass = post (coming d.door) (closed d.door) (moments d.clock) (held objects alone faults pass d.store)
 
-  -- the desk's worker did its work, from where its pass, door, clock and store stood to where they stand, and left its answer
+  -- the desk's worker did its work, from where its pass, door, clock and store stood to where they stand, its door listens where it did, and it left its answer
   pub record DeskWorks (hub : TableId) (server : Server) (old new : Desk N W C L) : Type 0 where
     pub before : P
     pub after : P
@@ -32,6 +32,7 @@ module _ {N W C L : Type 0} (coming : N → Option (List (List ℕ))) (closed : 
     pub ends : new.end ≡ Some ended
     pub same : IsIdle before after
     pub cell : before.cell ≡ hub
+    pub port : listens new.door ≡ listens old.door
     pub works : Works server (post_of old before) (post_of new after) (failed old.door) (failed new.door) ended
 
 -- ---- the answer of all

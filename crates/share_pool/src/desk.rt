@@ -67,6 +67,7 @@ fn serve_lines<R: Wait, N: Listener, W: Store, C: Clock, G: Gate, L>(
 ) -> ServeEnd
     requires cell { (pass.old.cell ≡ hub.now) × (pass.old.holds ≡ false) }
     ensures same { IsIdle pass.old pass.new }
+    ensures listens { N.listens door.new ≡ N.listens door.old }
     ensures works { Works server.now (post (N.coming door.old) (N.closed door.old) (C.coming clock.old) (held W.objects W.alone W.faults pass.old store.old)) (post (N.coming door.new) (N.closed door.new) (C.coming clock.new) (held W.objects W.alone W.faults pass.new store.new)) (N.faults door.old) (N.faults door.new) result }
 {
     let mut served: u64 = 0;
@@ -102,7 +103,7 @@ pub fn serve_desk<R: Wait, N: Listener, W: Store, C: Clock, G: Gate, L>(
     gate: &G,
 )
     requires pass { HasPass hub.now desk.old.pass }
-    ensures works { DeskWorks N.coming N.closed N.faults C.coming W.objects W.alone W.faults hub.now server.now desk.old desk.new }
+    ensures works { DeskWorks N.coming N.closed N.faults N.listens C.coming W.objects W.alone W.faults hub.now server.now desk.old desk.new }
 {
     let Desk {
         pass,

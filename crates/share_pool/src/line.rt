@@ -48,6 +48,7 @@ pub(crate) fn serve_line<R: Wait, N: Listener, W: Store, C: Clock, G: Gate, L>(
     requires cell { (pass.old.cell ≡ hub.now) × (pass.old.holds ≡ false) }
     ensures same { IsIdle pass.old pass.new }
     ensures later { N.faults door.old ≤ N.faults door.new }
+    ensures listens { N.listens door.new ≡ N.listens door.old }
     ensures next { Nexts server.now (post (N.coming door.old) (N.closed door.old) (C.coming clock.old) (held W.objects W.alone W.faults pass.old store.old)) (post (N.coming door.new) (N.closed door.new) (C.coming clock.new) (held W.objects W.alone W.faults pass.new store.new)) (N.faults door.old) (N.faults door.new) result }
 {
     match door.accept() {

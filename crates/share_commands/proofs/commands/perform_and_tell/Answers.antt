@@ -10,7 +10,7 @@ returns-clause-run g c = told_runs _ _ _ _ _ c.perform-end.ensures.runs c.tell.e
 
 pub returns-clause-desks : goal.returns-clause-desks
 returns-clause-desks g c =
-    desks_told g.N.Listener.coming g.N.Listener.closed g.N.Listener.faults g.C.Clock.coming g.W.Store.objects g.W.Store.alone g.W.Store.faults (command_in c.args.words.now) c.args.edge.now c.perform-end.new.edge c.tell.new.edge (note c.perform-end.result) c.perform-end.result c.args.desks.now c.perform-end.new.desks c.tell.ensures c.perform-end.ensures.desks
+    desks_told g.N.Listener.coming g.N.Listener.closed g.N.Listener.faults g.N.Listener.listens g.C.Clock.coming g.W.Store.objects g.W.Store.alone g.W.Store.faults (command_in c.args.words.now) c.args.edge.now c.perform-end.new.edge c.tell.new.edge (note c.perform-end.result) c.perform-end.result c.args.desks.now c.perform-end.new.desks c.tell.ensures c.perform-end.ensures.desks
 
 pub returns-clause-way : goal.returns-clause-way
 returns-clause-way g c =

@@ -29,11 +29,11 @@ returns-clause-desks g c =
     let count : length part ≡ used = c.serve_at.ensures.count ∙ few in
     elim c.match-serve_at.branch [
       | in-Some w ↦
-          serves_at g.N.Listener.coming g.N.Listener.closed g.N.Listener.faults g.C.Clock.coming g.W.Store.objects g.W.Store.alone g.W.Store.faults config found used c.args.workers w.in-Some.end c.match-serve_at.result c.args.edge.now c.open_over.new.edge desks part (part ++ drop used desks) is
+          serves_at g.N.Listener.coming g.N.Listener.closed g.N.Listener.faults g.N.Listener.listens g.C.Clock.coming g.W.Store.objects g.W.Store.alone g.W.Store.faults config found c.args.port used c.args.workers w.in-Some.end c.match-serve_at.result c.args.edge.now c.open_over.new.edge desks part (part ++ drop used desks) is
           (record { most = most; count = count; rest = refl }) (w.result-is ∙ w.end_of.ensures) opens
-          (served_desks g.N.Listener.coming g.N.Listener.closed g.N.Listener.faults g.C.Clock.coming g.W.Store.objects g.W.Store.alone g.W.Store.faults config found used (length (take used desks)) w.in-Some.end desks part (part ++ drop used desks) few (record { most = most; count = count; rest = refl }) (w.in-Some.ensures.serves config found opened.0.1 opened.1.begin))
+          (served_desks g.N.Listener.coming g.N.Listener.closed g.N.Listener.faults g.N.Listener.listens g.C.Clock.coming g.W.Store.objects g.W.Store.alone g.W.Store.faults config found c.args.port used (length (take used desks)) w.in-Some.end desks part (part ++ drop used desks) few (record { most = most; count = count; rest = refl }) (w.in-Some.ensures.serves config found opened.0.1 opened.1.begin))
       | in-None w ↦
-          serves_at g.N.Listener.coming g.N.Listener.closed g.N.Listener.faults g.C.Clock.coming g.W.Store.objects g.W.Store.alone g.W.Store.faults config found used c.args.workers serve_end.ListenerFault c.match-serve_at.result c.args.edge.now c.open_over.new.edge desks part (part ++ drop used desks) is
+          serves_at g.N.Listener.coming g.N.Listener.closed g.N.Listener.faults g.N.Listener.listens g.C.Clock.coming g.W.Store.objects g.W.Store.alone g.W.Store.faults config found c.args.port used c.args.workers serve_end.ListenerFault c.match-serve_at.result c.args.edge.now c.open_over.new.edge desks part (part ++ drop used desks) is
           (record { most = most; count = count; rest = refl }) w.result-is opens
-          (failed_desks g.N.Listener.coming g.N.Listener.closed g.N.Listener.faults g.C.Clock.coming g.W.Store.objects g.W.Store.alone g.W.Store.faults config found used (length (take used desks)) desks part (part ++ drop used desks) few (record { most = most; count = count; rest = refl }) (w.in-None.ensures.serves config found opened.0.1 opened.1.begin))
+          (failed_desks g.N.Listener.coming g.N.Listener.closed g.N.Listener.faults g.N.Listener.listens g.C.Clock.coming g.W.Store.objects g.W.Store.alone g.W.Store.faults config found c.args.port used (length (take used desks)) desks part (part ++ drop used desks) few (record { most = most; count = count; rest = refl }) (w.in-None.ensures.serves config found opened.0.1 opened.1.begin))
     ]

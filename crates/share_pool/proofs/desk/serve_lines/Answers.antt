@@ -1,4 +1,4 @@
-use Rattle.std.proofs.Common.{◌||◌, [], ◌∷◌, ◌++◌, ap, arith}
+use Rattle.std.proofs.Common.{◌||◌, [], ◌∷◌, ◌++◌, ◌∙◌, ap, arith}
 use Rattle.share_hub.proofs.Passes.{idle_more}
 use Rattle.share_serve.specs.Sides.{held}
 use Rattle.share_pool.specs.Posts.{post}
@@ -16,6 +16,7 @@ loop-preserved g c =
     let next = post (g.N.Listener.coming s.door) (g.N.Listener.closed s.door) (g.C.Clock.coming s.clock) (held g.W.Store.objects g.W.Store.alone g.W.Store.faults s.pass s.store) in
     let v = n.next.0 in record {
       same = idle_more c.args.pass.now l.pass s.pass i.same n.same;
+      listens = n.listens ∙ i.listens;
       later = (let a = i.later in let b = n.later in omega arith);
       runs = (
         i.runs.0 ++ v ∷ [],
