@@ -1,4 +1,4 @@
-// The commits that are kept, one version after another.
+// The commits of a log that are kept, one version after another.
 ghost use Rattle.std.specs.Prelude.{◌≡◌, ◌<◌, ◌^◌, ◌++◌, ◌∷◌, [], IfOk, OnOk, OnErr, false, length, map};
 ghost use Rattle.log_actions.specs.CommitTexts.{printed_bytes};
 ghost use Rattle.log_store.specs.Log.{cause_with};
@@ -15,9 +15,11 @@ use std::alloc::Global;
 use std::marker::Model;
 use std::sync::Arc;
 
-const MOST_BYTES: u64 = 64 << 20;
+/// The most bytes of a log's printed texts: 64 MiB.
+pub const MOST_LOG_BYTES: u64 = 64 << 20;
 
-// Commits of versions that are read, and whose printed texts have at most 64 MiB in sum.
+/// Commits of the versions 0 and on, each of which is read after those before it, and whose printed texts have at most 64 MiB in
+/// sum. Contracts see them.
 #[derive(Drop)]
 pub struct Kept {
     commits: Vec<Arc<Commit>>,
@@ -39,6 +41,7 @@ impl Model for Kept {
 }
 
 impl Kept {
+    /// None yet.
     pub fn new(alloc: Global) -> Kept
         ensures { result ≡ [] }
     {
@@ -49,27 +52,34 @@ impl Kept {
         }
     }
 
-    // Keeps the commit of the next version, or tells why it isn't kept; then nothing has changed.
-    pub fn keep(&mut self, alloc: Global, commit: Commit) -> Result<(), Stop>
+    /// How many there are, which is the next version.
+    pub fn versions(&self) -> u64
+        ensures { result ≡ length self.now }
+    {
+        self.support.versions()
+    }
+
+    /// Keeps the commit of the next version, or tells why it isn't kept; then nothing has changed. `Blocked` comes where its log isn't
+    /// read with it, or is too large; `Failed` is want of memory, and never a fault of a store.
+    pub fn keep(&mut self, alloc: Global, commit: Arc<Commit>) -> Result<(), Stop>
         requires { length self.old < 2 ^ 63 }
-        ensures told { Stops (cause_with self.old commit) result }
-        ensures more { OnOk result (self.new ≡ self.old ++ commit ∷ []) }
+        ensures told { Stops (cause_with self.old commit.value) result }
+        ensures more { OnOk result (self.new ≡ self.old ++ commit.value ∷ []) }
         ensures same { OnErr result (self.new ≡ self.old) }
         ensures no_store { failed_step result ≡ false }
     {
         let len = text_len(&commit);
-        if len > MOST_BYTES - self.bytes {
+        if len > MOST_LOG_BYTES - self.bytes {
             return Err(Stop::Blocked(BlockCause::TooLarge));
         }
         self.commits.reserve(1)?;
-        let commit = Arc::new(alloc, commit)?;
         self.support.admit(alloc, &commit)?;
         self.bytes += len;
         self.commits.push(commit).unwrap();
         Ok(())
     }
 
-    // What was loaded, with the block after it.
+    /// What was loaded, with the block after it.
     pub fn loaded(self, block: Option<Block>) -> Loaded
         requires { IfSome block (λ b. b.version ≡ length self) }
         ensures value { result ≡ record { commits = self; bytes = printed_bytes self; block = block } }

@@ -9,8 +9,9 @@ mod reading;
 mod refusal;
 mod versions;
 
+pub use kept::{Kept, MOST_LOG_BYTES};
 pub use loaded::{Block, BlockCause, Commits, Loaded};
 pub use log::load;
 pub use probing::{Probed, probe};
 pub use reading::{Fetched, fetch};
-pub use refusal::LoadRefusal;
+pub use refusal::{LoadRefusal, Stop};

@@ -15,6 +15,7 @@ use edge_core::{Got, Name, Store};
 use log_actions::Commit;
 use log_commit::{CommitFault, commit_of, name_of};
 use std::alloc::{AllocError, Global};
+use std::sync::Arc;
 
 /// What a store has under a name.
 #[derive(Drop)]
@@ -120,7 +121,7 @@ fn keep_version<W: Store>(
     ensures cause { Cause (W.faults store.old) (W.faults store.new) (failed_step result) }
 {
     let commit = commit_of_version(alloc, store, location, version, piece)?;
-    kept.keep(alloc, commit)
+    kept.keep(alloc, Arc::new(alloc, commit)?)
 }
 
 // What is kept of the versions below n, whose commits are stored.

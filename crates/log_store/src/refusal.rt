@@ -34,12 +34,12 @@ impl<T: Drop> From<AllocFailed<T>> for LoadRefusal {
     }
 }
 
-// Why a version wasn't kept.
+/// Why a version wasn't kept.
 #[derive(Clone, Copy)]
 pub enum Stop {
-    // It is the log's block.
+    /// It is the log's block.
     Blocked(BlockCause),
-    // Nothing was learnt of it.
+    /// Nothing was learnt of it.
     Failed(LoadRefusal),
 }
 

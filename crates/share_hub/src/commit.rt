@@ -19,12 +19,13 @@ ghost use Rattle.share_hub.specs.TableTurns.{IsLog};
 use crate::admission::{admission, states_of};
 use crate::hub::{Hub, HubPass};
 use crate::refresh::MOST_LOCATION;
-use crate::table_rounds::{LogEnd, LogHead, MOST_BYTES, NextCommit, version_name};
+use crate::table_rounds::{LogEnd, LogHead, NextCommit, version_name};
 use crate::table_turns::KnownLog;
 use commit_check::{Conflict, NotAdmitted, Offer};
 use edge_core::{Name, Put, Store};
 use log_actions::{Commit, CommitTime, text_len};
 use log_commit::bytes_of;
+use log_store::MOST_LOG_BYTES;
 use share_book::{LogState, SharedCommit};
 use std::alloc::{AllocError, Global};
 use std::sync::{Arc, Wait};
@@ -161,7 +162,7 @@ impl Hub {
         ensures cause { Cause (W.faults store.old) (W.faults store.new) (failed_place result) }
     {
         let len = text_len(&commit);
-        if len > MOST_BYTES - head.bytes {
+        if len > MOST_LOG_BYTES - head.bytes {
             self.abort_log(rt, pass, log);
             return PlaceEnd::Limit;
         }

@@ -18,12 +18,10 @@ use edge_core::{Measured, Name, Store};
 use log_actions::Commit;
 use log_commit::name_of;
 use log_replay::{NoState, Support};
-use log_store::{LoadRefusal, Probed, probe};
+use log_store::{LoadRefusal, MOST_LOG_BYTES, Probed, probe};
 use share_book::SharedCommit;
 use std::alloc::{AllocError, Global};
 use std::sync::{Arc, Wait};
-
-pub const MOST_BYTES: u64 = 64 << 20;
 
 // What is known of a log for its next version: the protocol and the metaData that hold, and the bytes of its printed texts.
 #[derive(Drop)]
@@ -70,7 +68,7 @@ fn take_next(alloc: Global, head: &mut LogHead, commit: Commit, bytes: u64) -> T
     requires counted { IsCounted (probed.Found commit bytes) }
     ensures { (log : List (List Action)) → IsHeadOf head.old log → TakesNext result log commit bytes head.new }
 {
-    if bytes > MOST_BYTES - head.bytes {
+    if bytes > MOST_LOG_BYTES - head.bytes {
         return Taken::Unkept;
     }
     let Ok(held) = Arc::new(alloc, commit) else {

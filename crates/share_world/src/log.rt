@@ -11,10 +11,10 @@ ghost use Rattle.share_world.specs.Worlds.{takes};
 ghost use Rattle.share_world.specs.declared.event.Event.{Event as OneEvent};
 ghost use Rattle.share_world.specs.declared.event.Event.TheVariants as event_is;
 
-use crate::kept::MOST_BYTES;
 use edge_core::Name;
 use log_actions::{Commit, text_len};
 use log_replay::refusal_after;
+use log_store::MOST_LOG_BYTES;
 use share_book::{Book, SharedCommit, SharedSnapshot};
 use std::alloc::{AllocError, Global};
 use std::sync::Arc;
@@ -46,7 +46,7 @@ fn does_take(alloc: Global, book: &mut Book, log: u32, commit: &Commit) -> Resul
     let head = head_of(alloc, book, log)?;
     let head = head.as_ref().map(SharedSnapshot::get);
     let refusal = refusal_after(state.kept, head, commit.actions());
-    let is_short = text_len(commit) <= MOST_BYTES - state.bytes;
+    let is_short = text_len(commit) <= MOST_LOG_BYTES - state.bytes;
     Ok(refusal.is_none() && is_short)
 }
 
