@@ -40,6 +40,7 @@ pub(crate) fn size<S: Store>(alloc: Global, store: &mut S, object: &str) -> Resu
     Ok(store.size(&name))
 }
 
+// What is read into the room from a place on.
 pub(crate) fn get<S: Store>(
     alloc: Global,
     store: &mut S,

@@ -1,11 +1,13 @@
-//! Tests of the libraries that read, make and print the lines of a table's log. They stand apart from those libraries, since a
-//! crate with tests is proved twice.
+//! Tests of the libraries that read, make and print the lines of a table's log, and of the change feed. They stand apart from those
+//! libraries, since a crate with tests is proved twice.
 #![tactic(auto)]
 
 #[cfg(test)]
 mod commit_names;
 #[cfg(test)]
 mod commits;
+#[cfg(test)]
+mod feed_ranges;
 #[cfg(test)]
 mod lines;
 #[cfg(test)]

@@ -39,7 +39,10 @@ fn replayed(alloc: Global, log: &[Arc<Commit>]) -> Option<Snapshot> {
         return None;
     }
     let mut steps: Steps<Work> = Steps::new();
-    replay(alloc, log, &mut steps).ok()
+    match replay(alloc, log, &mut steps) {
+        Ok(snapshot) => Some(snapshot),
+        Err(_) => None,
+    }
 }
 
 fn advanced(alloc: Global, base: &Snapshot, text: &str) -> Option<Snapshot> {

@@ -1,8 +1,8 @@
 // Links under a key of 32 bytes 0x02. The tags are from Python's `hmac`.
-use crate::texts::long;
+use crate::texts::{long, name};
 use hmac_core::HmacKey;
 use json_tree::{Edition, Millis, Text};
-use share_catalog::{CatalogName, TableName};
+use share_catalog::TableName;
 use signed_link::{LinkParts, link, parts_of};
 use std::alloc::Global;
 
@@ -13,10 +13,6 @@ const LINK: &str =
 
 const TARGET: &str =
     "/delta-sharing/files/s1/sc/t1/day%3D1%2Fa.parquet?b=1&e=3600000&g=1&r=r1&t=cde8925f25c9f209b7167a21cac87b606b31f783cee12ffeecc77883b42e2c78";
-
-fn name(alloc: Global, of: &str) -> Option<CatalogName> {
-    CatalogName::of(String::from_str(alloc, of).ok()?)
-}
 
 // The parts of the first recipient's link to that path.
 fn leading_to(alloc: Global, path: String) -> Option<LinkParts> {

@@ -1,0 +1,103 @@
+//! The work that `bench/replies` measures: pages of a table's files, planned, counted and printed.
+//!
+//! Words: `plan`, `lines` or `bare`; how many files the table has, from which place a page begins, how many files it has at most, and how
+//! often it is made. `plan` only plans it; `lines` counts its bytes and prints each line besides; `bare` prints the lines of the same files
+//! without links. With other words, or none, it does nothing. It prints nothing: the script has the clock. The status is 1 where an answer
+//! was another or memory was wanting, else 0.
+
+mod printed;
+mod table;
+
+use crate::replies::printed::{bare, planned, printed};
+use crate::replies::table::{query, seen_of, state_of};
+use crate::words::{status, words_of};
+use share_book::SharedSnapshot;
+use std::alloc::Global;
+use std::io;
+use std::process::ExitCode;
+
+// What is measured.
+#[derive(Clone, Copy)]
+enum Kind {
+    Plan,
+    Lines,
+    Bare,
+}
+
+// The files of the table, the page, and how often it is made.
+#[derive(Clone, Copy)]
+struct Load {
+    kind: Kind,
+    files: u64,
+    place: u64,
+    most: u64,
+    times: u32,
+}
+
+fn count(load: Load) -> u64 {
+    load.files.saturating_sub(load.place).min(load.most)
+}
+
+fn repeat_bare(alloc: Global, state: &SharedSnapshot, load: Load) -> Option<()> {
+    for _ in 0..load.times {
+        if bare(alloc, state.get(), load.place, load.most)? != count(load) {
+            return None;
+        }
+    }
+    Some(())
+}
+
+fn repeat_pages(alloc: Global, state: SharedSnapshot, load: Load) -> Option<()> {
+    let keys = table::keys(alloc)?;
+    let request = query(alloc, &keys, load.place, load.most)?;
+    let seen = seen_of(alloc, state)?;
+    for _ in 0..load.times {
+        let told = match load.kind {
+            Kind::Lines => printed(alloc, &keys, &request, &seen)?,
+            Kind::Plan | Kind::Bare => planned(alloc, &keys, &request, &seen)?,
+        };
+        // The protocol, the metaData and the end stand beside the files.
+        if told.saturating_sub(3) != count(load) {
+            return None;
+        }
+    }
+    Some(())
+}
+
+fn repeat(alloc: Global, load: Load) -> Option<()> {
+    let state = state_of(alloc, load.files)?;
+    match load.kind {
+        Kind::Bare => repeat_bare(alloc, &state, load),
+        Kind::Plan | Kind::Lines => repeat_pages(alloc, state, load),
+    }
+}
+
+fn kind_of(kind: &str) -> Option<Kind> {
+    match kind {
+        "plan" => Some(Kind::Plan),
+        "lines" => Some(Kind::Lines),
+        "bare" => Some(Kind::Bare),
+        _ => None,
+    }
+}
+
+fn load_of(words: &[String]) -> Option<Load> {
+    if words.len() != 5 {
+        return None;
+    }
+    Some(Load {
+        kind: kind_of(words[0].as_str())?,
+        files: words[1].as_str().parse::<u64>().ok()?,
+        place: words[2].as_str().parse::<u64>().ok()?,
+        most: words[3].as_str().parse::<u64>().ok()?,
+        times: words[4].as_str().parse::<u32>().ok()?,
+    })
+}
+
+pub(crate) fn run(rt: &HostRuntime) -> io::Result<ExitCode> {
+    let words = words_of(rt)?;
+    let Some(load) = load_of(&words) else {
+        return Ok(ExitCode::SUCCESS);
+    };
+    Ok(status(repeat(rt.alloc(), load).is_some()))
+}

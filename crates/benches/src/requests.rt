@@ -1,0 +1,124 @@
+//! The work that `bench/requests` measures: a list of shares is asked for by token, and the request read from its head.
+//!
+//! Words: how many parameters of two bytes the target has, and how many fields of 256 bytes stand before the token (each at most
+//! 100,000). It prints how many bytes the head's target and fields have, and the nanoseconds that the reading took. With no
+//! words, or others, it reads a small head and prints the bytes alone. The status is 1 where the request isn't read, else 0.
+
+use crate::words::status;
+use http_message::field::Fields;
+use http_message::head::Head;
+use json_tree::Text;
+use share_request::{Request, request_of};
+use std::alloc::{AllocError, Global};
+use std::process::ExitCode;
+use std::time::Instant;
+use std::{env, io};
+
+const NAME: &[u8] = b"x-forwarded-for-";
+
+// 15 addresses of 16 bytes.
+const VALUE: &[u8] = b"192.0.2.100:8080192.0.2.101:8080192.0.2.102:8080192.0.2.103:8080\
+192.0.2.104:8080192.0.2.105:8080192.0.2.106:8080192.0.2.107:8080\
+192.0.2.108:8080192.0.2.109:8080192.0.2.110:8080192.0.2.111:8080\
+192.0.2.112:8080192.0.2.113:8080192.0.2.114:8080";
+
+// How large a head is.
+#[derive(Clone, Copy)]
+struct Load {
+    parameters: usize,
+    fields: usize,
+}
+
+fn target(alloc: Global, parameters: usize) -> Result<Text, AllocError> {
+    let mut target = String::from_str(alloc, "/delta-sharing/shares?")?;
+    for _ in 0..parameters {
+        target.push_str("x&")?;
+    }
+    Ok(Text::of(target))
+}
+
+fn fields(alloc: Global, count: usize) -> Result<Fields, AllocError> {
+    let mut fields = Fields::with_capacity(alloc, 64, 1)?;
+    for _ in 0..count {
+        fields.push(NAME, VALUE)?;
+    }
+    fields.push(b"authorization", b"Bearer 0f1e2d3c4b5a6978")?;
+    Ok(fields)
+}
+
+fn head_of(alloc: Global, load: Load) -> Result<Head, AllocError> {
+    Ok(Head {
+        method: Text::of(String::from_str(alloc, "GET")?),
+        target: target(alloc, load.parameters)?,
+        minor: 1,
+        fields: fields(alloc, load.fields)?,
+    })
+}
+
+fn bytes_of(head: &Head) -> u64 {
+    let mut bytes = head.target.as_str().len() as u64;
+    for index in 0..head.fields.len() {
+        bytes = bytes
+            .saturating_add(head.fields.name(index).len() as u64)
+            .saturating_add(head.fields.value(index).len() as u64);
+    }
+    bytes
+}
+
+fn is_read(alloc: Global, head: &Head) -> bool {
+    match &request_of(alloc, head, b"") {
+        Ok(Request::ByToken(by)) => by.asked.is_ok(),
+        _ => false,
+    }
+}
+
+// Reads a request, and prints how large it is.
+fn show(rt: &HostRuntime, load: Load) -> io::Result<bool> {
+    let head = head_of(rt.alloc(), load)?;
+    println!(rt; "{}", bytes_of(&head))?;
+    Ok(is_read(rt.alloc(), &head))
+}
+
+// The same with the time that the reading took.
+fn time(rt: &HostRuntime, load: Load) -> io::Result<bool> {
+    let head = head_of(rt.alloc(), load)?;
+    let start = Instant::now(rt)?;
+    let read = is_read(rt.alloc(), &head);
+    let took = start.elapsed(rt)?.as_nanos();
+    println!(rt; "{} {took}", bytes_of(&head))?;
+    Ok(read)
+}
+
+// What the words ask for.
+fn asked(rt: &HostRuntime) -> io::Result<Option<Load>> {
+    let mut words = env::args(rt)?.skip(2);
+    let (Some(parameters), Some(fields)) = (words.next(), words.next()) else {
+        return Ok(None);
+    };
+    let (Ok(parameters), Ok(fields)) = (parameters.parse::<usize>(), fields.parse::<usize>()) else {
+        return Ok(None);
+    };
+    Ok(Some(Load {
+        parameters: parameters.min(100_000),
+        fields: fields.min(100_000),
+    }))
+}
+
+/// Reads a small head, and prints how large it is.
+pub(crate) fn show_small(rt: &HostRuntime) -> io::Result<bool> {
+    show(
+        rt,
+        Load {
+            parameters: 8,
+            fields: 2,
+        },
+    )
+}
+
+pub(crate) fn run(rt: &HostRuntime) -> io::Result<ExitCode> {
+    let read = match asked(rt)? {
+        Some(load) => time(rt, load)?,
+        None => show_small(rt)?,
+    };
+    Ok(status(read))
+}

@@ -1,0 +1,120 @@
+//! The work that `bench/turns` measures: threads that each add entries to one value, under a cell or under a lock.
+//!
+//! Words: `cell` or `lock`, the number of threads (1 to 65), the number of turns of each. With other words, or none, it does
+//! nothing. It prints nothing: the script has the clock.
+
+ghost use Rattle.std.specs.Prelude.{◌≡◌, ◌<◌, ◌≤◌, length, All, false};
+
+mod page;
+
+use crate::turns::page::Page;
+use std::alloc::{AllocError, Global};
+use std::process::ExitCode;
+use std::sync::{Mutex, Wait};
+use std::thread::Threads;
+use std::{env, io, thread};
+use turn_cell::{Pass, TurnCell};
+
+// How many threads there are, and how many turns each takes.
+#[derive(Clone, Copy)]
+struct Load {
+    threads: u32,
+    turns: u32,
+}
+
+// Adds one entry in a turn of its own.
+fn add_entry<R: Wait>(rt: &R, cell: &TurnCell<Page>, pass: &mut Pass<Page>)
+    requires { (pass.old.cell ≡ cell.now) × (pass.old.holds ≡ false) }
+    ensures { (pass.new.cell ≡ cell.now) × (pass.new.holds ≡ false) }
+{
+    let caller = pass.number();
+    let mut turn = cell.take(rt, pass);
+    match turn.value.entries.push(caller) {
+        Ok(()) => cell.give(pass, turn),
+        Err(_) => cell.give(pass, turn),
+    }
+}
+
+fn add_entries<R: Wait>(rt: &R, cell: &TurnCell<Page>, pass: &mut Pass<Page>, turns: u32)
+    requires { (pass.old.cell ≡ cell.now) × (pass.old.holds ≡ false) }
+    ensures { (pass.new.cell ≡ cell.now) × (pass.new.holds ≡ false) }
+{
+    for _ in 0..turns {
+        add_entry(rt, cell, pass);
+    }
+}
+
+// A thread for each pass.
+fn add_all<R: Threads + Wait + Sync>(
+    rt: &R,
+    cell: &TurnCell<Page>,
+    passes: &mut [Pass<Page>],
+    turns: u32,
+)
+    requires some_pass { 0 < length passes.old }
+    requires idle { All (λ p. (p.cell ≡ cell.now) × (p.holds ≡ false)) passes.old }
+{
+    let threads = passes.len();
+    thread::for_each_mut(
+        rt,
+        passes,
+        threads,
+        &|_, pass| add_entries(rt, cell, pass, turns),
+    );
+}
+
+fn run_cell<R: Threads + Wait + Sync>(rt: &R, alloc: Global, load: Load) -> Result<(), AllocError>
+    requires { (1 ≤ load.threads) × (load.threads ≤ 65) }
+{
+    let page = Page {
+        entries: Vec::new(alloc),
+    };
+    let (cell, mut passes) = TurnCell::new(alloc, page, load.threads)?;
+    add_all(rt, &cell, passes.as_mut_slice(), load.turns);
+    Ok(())
+}
+
+fn push_entries<R: Wait>(rt: &R, lock: &Mutex<Vec<u32>>, caller: u32, turns: u32) {
+    for _ in 0..turns {
+        let _ = lock.lock(rt).push(caller);
+    }
+}
+
+fn run_lock<R: Threads + Wait + Sync>(rt: &R, alloc: Global, load: Load) -> Result<(), AllocError>
+    requires { (1 ≤ load.threads) × (load.threads ≤ 65) }
+{
+    let lock = Mutex::new(Vec::new(alloc));
+    let mut callers = Vec::new(alloc);
+    for caller in 0..load.threads {
+        callers.push(caller)?;
+    }
+    let lock = &lock;
+    thread::for_each_mut(
+        rt,
+        callers.as_mut_slice(),
+        load.threads as usize,
+        &|_, caller| push_entries(rt, lock, *caller, load.turns),
+    );
+    Ok(())
+}
+
+// Only `main`'s handle can start threads, so it is passed beside the runtime.
+pub(crate) fn run<R: Threads + Wait + Sync>(rt: &R, host: &HostRuntime) -> io::Result<ExitCode> {
+    let mut words = env::args(host)?.skip(2);
+    let (Some(kind), Some(threads), Some(turns)) = (words.next(), words.next(), words.next()) else {
+        return Ok(ExitCode::SUCCESS);
+    };
+    let (Ok(threads), Ok(turns)) = (threads.parse::<u32>(), turns.parse::<u32>()) else {
+        return Ok(ExitCode::SUCCESS);
+    };
+    if threads < 1 || threads > 65 {
+        return Ok(ExitCode::SUCCESS);
+    }
+    let load = Load { threads, turns };
+    match kind.as_str() {
+        "cell" => run_cell(rt, host.alloc(), load)?,
+        "lock" => run_lock(rt, host.alloc(), load)?,
+        _ => {}
+    }
+    Ok(ExitCode::SUCCESS)
+}

@@ -1,0 +1,271 @@
+// Each refusal, each limit, what a drop ends, and a large catalogue. Edits are made of their JSON.
+use crate::catalog_names::table;
+use crate::texts::joined;
+use catalog_log::edit_at;
+use json_tree::{Millis, tree_of};
+use share_catalog::{Catalog, Edit, EditRefusal};
+use std::alloc::Global;
+
+const NEW_S1: &str = "{\"newShare\":{\"name\":\"s1\"}}";
+
+const DROP_S1: &str = "{\"dropShare\":{\"name\":\"s1\"}}";
+
+const BIND_T: &str =
+    "{\"bind\":{\"history\":true,\"location\":\"tables/t\",\"schema\":\"d\",\"share\":\"s1\",\"table\":\"t\"}}";
+
+const BIND_A: &str =
+    "{\"bind\":{\"history\":true,\"location\":\"tables/a\",\"schema\":\"d\",\"share\":\"s1\",\"table\":\"a\"}}";
+
+const UNBIND_T: &str = "{\"unbind\":{\"schema\":\"d\",\"share\":\"s1\",\"table\":\"t\"}}";
+
+const NEW_R1: &str =
+    "{\"newRecipient\":{\"digest\":\"0101010101010101010101010101010101010101010101010101010101010101\",\"expires\":7,\"name\":\"r1\"}}";
+
+const NEW_R2: &str =
+    "{\"newRecipient\":{\"digest\":\"0101010101010101010101010101010101010101010101010101010101010101\",\"expires\":7,\"name\":\"r2\"}}";
+
+const NEW_R2_OF_2: &str =
+    "{\"newRecipient\":{\"digest\":\"0202020202020202020202020202020202020202020202020202020202020202\",\"expires\":7,\"name\":\"r2\"}}";
+
+const ROTATE_R1: &str =
+    "{\"rotate\":{\"digest\":\"0101010101010101010101010101010101010101010101010101010101010101\",\"expires\":7,\"name\":\"r1\"}}";
+
+const ROTATE_R1_TO_2: &str =
+    "{\"rotate\":{\"digest\":\"0202020202020202020202020202020202020202020202020202020202020202\",\"expires\":7,\"name\":\"r1\"}}";
+
+const DROP_R1: &str = "{\"dropRecipient\":{\"name\":\"r1\"}}";
+
+const GRANT_S1: &str = "{\"grant\":{\"recipient\":\"r1\",\"share\":\"s1\"}}";
+
+const REVOKE_R2: &str = "{\"revoke\":{\"recipient\":\"r2\",\"share\":\"s1\"}}";
+
+// A share.
+const SHARES: [&str; 3] = ["{\"newShare\":{\"name\":\"s", "\"}}", ""];
+
+// A table at a location of its own.
+const TABLES_APART: [&str; 3] = [
+    "{\"bind\":{\"history\":true,\"location\":\"t",
+    "\",\"schema\":\"d\",\"share\":\"s1\",\"table\":\"t",
+    "\"}}",
+];
+
+// A table at one location with the others.
+const TABLES: [&str; 3] = [
+    "{\"bind\":{\"history\":true,\"location\":\"at\",\"schema\":\"d\",\"share\":\"s1\",\"table\":\"t",
+    "\"}}",
+    "",
+];
+
+// A grant.
+const GRANTS: [&str; 3] = ["{\"grant\":{\"recipient\":\"r1\",\"share\":\"s", "\"}}", ""];
+
+fn edit(alloc: Global, text: &str) -> Option<Edit> {
+    let object = tree_of(alloc, text.as_bytes()).ok()?;
+    edit_at(alloc, &object).ok()
+}
+
+// Takes memory for the edit, and makes it.
+fn apply(catalog: &mut Catalog, alloc: Global, edit: Edit) -> Option<Result<(), EditRefusal>> {
+    match catalog.reserve(alloc) {
+        Ok(()) => Some(catalog.apply(edit)),
+        Err(_) => None,
+    }
+}
+
+// The answer to an edit that is made, which was told before.
+fn make(catalog: &mut Catalog, alloc: Global, text: &str) -> Option<Result<(), EditRefusal>> {
+    let edit = edit(alloc, text)?;
+    let before = catalog.admits(&edit.copy(alloc).ok()?);
+    let made = apply(catalog, alloc, edit)?;
+    if before == made { Some(made) } else { None }
+}
+
+// Whether all these are accepted.
+fn make_all(catalog: &mut Catalog, alloc: Global, texts: &[&str]) -> bool {
+    for text in texts {
+        if !matches!(make(catalog, alloc, text), Some(Ok(()))) {
+            return false;
+        }
+    }
+    true
+}
+
+// The catalogue of a share with a table, of a recipient that may read it, and of these edits.
+fn catalog_of(alloc: Global, more: &[&str]) -> Option<Catalog> {
+    let mut catalog = Catalog::new(alloc);
+    let first = make_all(&mut catalog, alloc, &[NEW_S1, BIND_T, NEW_R1, GRANT_S1]);
+    let then = make_all(&mut catalog, alloc, more);
+    if first && then { Some(catalog) } else { None }
+}
+
+// Whether the recipient has the credential of 32 such bytes, and is found by it.
+fn has_credential(catalog: &Catalog, recipient: &str, byte: u8) -> Option<bool> {
+    let credential = catalog.credential(recipient)?;
+    let holder = catalog.holder(&[byte; 32])?;
+    Some(
+        credential.digest == [byte; 32]
+            && credential.expires == Millis::of(7)
+            && holder.as_str() == recipient,
+    )
+}
+
+// How often the pair was granted, where it is granted.
+fn granted_at(catalog: &Catalog, recipient: &str, share: &str) -> Option<u64> {
+    if catalog.is_granted(recipient, share) {
+        Some(catalog.grant_edition(recipient, share).get())
+    } else {
+        None
+    }
+}
+
+// How often the table of the share `s1` was bound, where it is bound there.
+fn bound_at(catalog: &Catalog, alloc: Global, of: &str, at: &str) -> Option<u64> {
+    let of = table(alloc, "s1", "d", of)?;
+    if catalog.binding(&of)?.location.as_str() == at {
+        Some(catalog.binding_edition(&of).get())
+    } else {
+        None
+    }
+}
+
+// How many tables are listed of the share, where the first and the last are these.
+fn listed_tables(catalog: &Catalog, alloc: Global, first: &str, last: &str) -> Option<usize> {
+    let tables = catalog.bindings_of(alloc, "s1").ok()?;
+    let is_first = tables.first()?.table.table.as_str() == first;
+    let is_last = tables.last()?.table.table.as_str() == last;
+    if is_first && is_last {
+        Some(tables.len())
+    } else {
+        None
+    }
+}
+
+// How many shares are listed of the recipient, where the last is this one, granted once.
+fn listed_shares(catalog: &Catalog, alloc: Global, end: &str) -> Option<usize> {
+    let grants = catalog.grants_of(alloc, "r1").ok()?;
+    let last = grants.last()?;
+    if last.share.as_str() == end && last.edition.get() == 1 {
+        Some(grants.len())
+    } else {
+        None
+    }
+}
+
+#[test]
+fn what_is_shared_is_told_and_listed(rt: HostRuntime) {
+    let alloc = rt.alloc();
+    let mut catalog = catalog_of(alloc, &[]).expect(&rt, "a catalogue");
+    assert!(rt; catalog.count() == 4);
+    assert!(rt; catalog.has_share("s1") && catalog.has_recipient("r1"));
+    assert!(rt; granted_at(&catalog, "r1", "s1") == Some(1));
+    assert!(rt; has_credential(&catalog, "r1", 1) == Some(true));
+    assert!(rt; bound_at(&catalog, alloc, "t", "tables/t") == Some(1));
+    assert!(rt; make_all(&mut catalog, alloc, &[BIND_A]));
+    assert!(rt; listed_tables(&catalog, alloc, "a", "t") == Some(2));
+    assert!(rt; listed_shares(&catalog, alloc, "s1") == Some(1));
+    let others = catalog.grants_of(alloc, "r").ok().expect(&rt, "memory");
+    assert!(rt; others.is_empty());
+}
+
+// Whether an edit is answered so behind the first edits and a rotation to the second credential, and how many edits
+// there are then.
+fn is_answered(
+    alloc: Global,
+    text: &str,
+    answer: Result<(), EditRefusal>,
+    count: u64,
+) -> Option<bool> {
+    let mut catalog = catalog_of(alloc, &[ROTATE_R1_TO_2])?;
+    let made = make(&mut catalog, alloc, text)?;
+    Some(made == answer && catalog.count() == count)
+}
+
+#[test]
+fn each_refusal_comes_once(rt: HostRuntime) {
+    let alloc = rt.alloc();
+    for (text, answer, count) in [
+        (NEW_S1, Err(EditRefusal::Taken), 5),
+        (REVOKE_R2, Err(EditRefusal::Missing), 5),
+        (NEW_R2_OF_2, Err(EditRefusal::TokenTaken), 5),
+        (NEW_R2, Ok(()), 6),
+        (ROTATE_R1_TO_2, Ok(()), 6),
+        (UNBIND_T, Ok(()), 6),
+        (DROP_R1, Ok(()), 6),
+    ] {
+        assert!(rt; is_answered(alloc, text, answer, count) == Some(true));
+    }
+}
+
+#[test]
+fn what_is_rotated_or_dropped_is_gone(rt: HostRuntime) {
+    let alloc = rt.alloc();
+    let catalog = catalog_of(alloc, &[ROTATE_R1, ROTATE_R1_TO_2]).expect(&rt, "a catalogue");
+    assert!(rt; catalog.holder(&[1; 32]).is_none());
+    assert!(rt; has_credential(&catalog, "r1", 2) == Some(true));
+    assert!(rt; granted_at(&catalog, "r1", "s1") == Some(1));
+    let mut catalog = catalog_of(alloc, &[DROP_S1, NEW_S1]).expect(&rt, "a catalogue");
+    assert!(rt; bound_at(&catalog, alloc, "t", "tables/t").is_none());
+    assert!(rt; granted_at(&catalog, "r1", "s1").is_none());
+    assert!(rt; make_all(&mut catalog, alloc, &[GRANT_S1]));
+    assert!(rt; granted_at(&catalog, "r1", "s1") == Some(2));
+}
+
+// Makes the edits of these pieces, with each of the numbers behind the first and, where there is a third, behind the
+// second: the last number that is one too many, or 0.
+fn make_numbered(
+    catalog: &mut Catalog,
+    alloc: Global,
+    pieces: [&str; 3],
+    from: u32,
+    to: u32,
+    limit: u32,
+) -> Option<u32> {
+    let mut refused = 0;
+    for number in from..to {
+        let digits = format!(in alloc; "{number}").ok()?;
+        let again = if pieces[2].is_empty() {
+            ""
+        } else {
+            digits.as_str()
+        };
+        let text = joined(alloc, &[pieces[0], &digits, pieces[1], again, pieces[2]])?;
+        match make(catalog, alloc, &text)? {
+            Ok(()) => {}
+            Err(EditRefusal::Full { limit: most }) if most == limit => refused = number,
+            Err(_) => return None,
+        }
+    }
+    Some(refused)
+}
+
+#[test]
+fn shares_end_at_1024_and_locations_at_32(rt: HostRuntime) {
+    let alloc = rt.alloc();
+    let mut catalog = Catalog::new(alloc);
+    assert!(rt; make_numbered(&mut catalog, alloc, SHARES, 0, 1025, 1024) == Some(1024));
+    assert!(rt; make_all(&mut catalog, alloc, &[DROP_S1, NEW_S1]));
+    assert!(rt; make_numbered(&mut catalog, alloc, TABLES_APART, 0, 33, 32) == Some(32));
+}
+
+// 900 shares, and 550 tables and grants.
+fn large(alloc: Global) -> Option<Catalog> {
+    let mut catalog = Catalog::new(alloc);
+    make_numbered(&mut catalog, alloc, SHARES, 0, 900, 0)?;
+    make(&mut catalog, alloc, NEW_R1)?.ok()?;
+    make_numbered(&mut catalog, alloc, TABLES, 100, 650, 0)?;
+    make_numbered(&mut catalog, alloc, GRANTS, 100, 650, 0)?;
+    Some(catalog)
+}
+
+#[test]
+fn a_large_catalogue_answers(rt: HostRuntime) {
+    let alloc = rt.alloc();
+    let catalog = large(alloc).expect(&rt, "a catalogue");
+    assert!(rt; catalog.count() == 2001);
+    assert!(rt; catalog.has_share("s899") && catalog.has_recipient("r1"));
+    assert!(rt; granted_at(&catalog, "r1", "s649") == Some(1));
+    assert!(rt; has_credential(&catalog, "r1", 1) == Some(true));
+    assert!(rt; bound_at(&catalog, alloc, "t649", "at") == Some(1));
+    assert!(rt; listed_tables(&catalog, alloc, "t100", "t649") == Some(550));
+    assert!(rt; listed_shares(&catalog, alloc, "s649") == Some(550));
+}
