@@ -66,7 +66,7 @@ fn bytes_of(head: &Head) -> u64 {
 }
 
 fn is_read(alloc: Global, head: &Head) -> bool {
-    match &request_of(alloc, head, b"") {
+    match request_of(alloc, head, b"") {
         Ok(Request::ByToken(by)) => by.asked.is_ok(),
         _ => false,
     }

@@ -74,9 +74,9 @@ static ROWS: [(Option<u64>, &[&str], Told); 11] = [
 
 fn admitted(alloc: Global, offer: &Offer) -> Option<Told> {
     let now = CommitTime::of(NOW)?;
-    match &admit(alloc, 0, &[], None, None, now, offer) {
+    match admit(alloc, 0, &[], None, None, now, offer) {
         Ok(commit) => Some(Told::Commit(commit.actions().len())),
-        Err(NotAdmitted::Conflict(conflict)) => Some(Told::Conflict(*conflict)),
+        Err(NotAdmitted::Conflict(conflict)) => Some(Told::Conflict(conflict)),
         Err(NotAdmitted::NoMemory) => Some(Told::NoMemory),
     }
 }

@@ -49,9 +49,9 @@ fn lines(text: &[u8]) -> usize {
 }
 
 fn answered(alloc: Global, log: &[Arc<Commit>], offer: &Offer) -> Option<Told> {
-    match &offered(alloc, log, offer)? {
-        Answer::Text(text) => Some(Told::Commit(lines(text))),
-        Answer::Conflict(conflict) => Some(Told::Conflict(*conflict)),
+    match offered(alloc, log, offer)? {
+        Answer::Text(text) => Some(Told::Commit(lines(&text))),
+        Answer::Conflict(conflict) => Some(Told::Conflict(conflict)),
     }
 }
 

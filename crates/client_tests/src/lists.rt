@@ -52,8 +52,8 @@ fn tables_come_share_by_share(rt: HostRuntime) -> Result<(), AllocError> {
         peer_of(TABLES),
     ];
     let mut link = link_of(alloc, &peers)?;
-    match &list(alloc, &mut link) {
-        Ok(tables) => assert!(rt; are_tables(tables)),
+    match list(alloc, &mut link) {
+        Ok(tables) => assert!(rt; are_tables(&tables)),
         Err(_) => assert!(rt; false),
     }
     assert!(rt; are_written(link.closed(), &REQUESTS));
@@ -63,9 +63,9 @@ fn tables_come_share_by_share(rt: HostRuntime) -> Result<(), AllocError> {
 // What a list ends in over this line.
 fn end_of(alloc: Global, peer: Peer) -> Result<Told, AllocError> {
     let mut link = link_of(alloc, &[peer])?;
-    Ok(match &list(alloc, &mut link) {
+    Ok(match list(alloc, &mut link) {
         Ok(_) => ("tables", 0, 0),
-        Err(fault) => told_by(fault),
+        Err(fault) => told_by(&fault),
     })
 }
 

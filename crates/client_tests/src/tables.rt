@@ -287,8 +287,8 @@ fn are_changes(lines: &[Line]) -> bool {
 fn pages_of_changes_are_joined(rt: HostRuntime) -> Result<(), AllocError> {
     let alloc = rt.alloc();
     let mut link = link_of(alloc, &[peer_of(FIRST_CHANGES), peer_of(LAST_CHANGES)])?;
-    match &changes(alloc, &mut link, 9) {
-        Ok(lines) => assert!(rt; are_changes(lines)),
+    match changes(alloc, &mut link, 9) {
+        Ok(lines) => assert!(rt; are_changes(&lines)),
         Err(_) => assert!(rt; false),
     }
     assert!(rt; are_written(link.closed(), &CHANGES_REQUESTS));
@@ -300,8 +300,8 @@ fn pages_of_changes_are_joined(rt: HostRuntime) -> Result<(), AllocError> {
 fn files_are_no_changes(rt: HostRuntime) -> Result<(), AllocError> {
     let alloc = rt.alloc();
     let mut link = link_of(alloc, &[peer_of(LAST_PAGE)])?;
-    match &changes(alloc, &mut link, 0) {
-        Err(fault) => assert!(rt; is_told(told_by(fault), "bad reply", 0, 0)),
+    match changes(alloc, &mut link, 0) {
+        Err(fault) => assert!(rt; is_told(told_by(&fault), "bad reply", 0, 0)),
         Ok(_) => assert!(rt; false),
     }
     Ok(())

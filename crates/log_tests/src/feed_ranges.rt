@@ -324,8 +324,8 @@ fn long_count(alloc: Global, versions: usize) -> Option<(usize, u64)> {
     if versions > log.len() {
         return None;
     }
-    match &feed(alloc, &log, log.len() - versions, log.len())? {
-        Ok(changes) => counted(changes),
+    match feed(alloc, &log, log.len() - versions, log.len())? {
+        Ok(changes) => counted(&changes),
         Err(_) => None,
     }
 }

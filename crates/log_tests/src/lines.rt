@@ -132,16 +132,16 @@ fn copied(alloc: Global, action: &Action) -> Result<Action, AllocError> {
 }
 
 fn kind_of_copy(alloc: Global, action: &Action) -> u8 {
-    match &copied(alloc, action) {
-        Ok(copy) => kind_of(copy),
+    match copied(alloc, action) {
+        Ok(copy) => kind_of(&copy),
         Err(_) => 0,
     }
 }
 
 // The kind of a copy of the action of a line: 9 where the line gives none, 10 where it isn't read.
 fn kind_in(alloc: Global, line: &[u8]) -> u8 {
-    match &action(alloc, line) {
-        Ok(Some(action)) => kind_of_copy(alloc, action),
+    match action(alloc, line) {
+        Ok(Some(action)) => kind_of_copy(alloc, &action),
         Ok(None) => 9,
         Err(_) => 10,
     }
@@ -216,8 +216,8 @@ fn line_without(alloc: Global, action: &str, field: &str) -> Result<String, Allo
 }
 
 fn fault_of(alloc: Global, line: &[u8]) -> (&'static str, &'static str) {
-    match &action(alloc, line) {
-        Err(NoAction::Fault(fault)) => line_words(*fault),
+    match action(alloc, line) {
+        Err(NoAction::Fault(fault)) => line_words(fault),
         Err(NoAction::NoMemory) => ("none", "no memory"),
         Ok(_) => ("none", "no fault"),
     }

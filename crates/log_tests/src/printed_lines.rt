@@ -79,8 +79,8 @@ fn is_text_of(alloc: Global, action: &Action, wanted: &str) -> Result<bool, Allo
 
 // Whether the line is read and printed so, and as long as it is told to be.
 fn is_printed(alloc: Global, line: &str, wanted: &str) -> Result<bool, AllocError> {
-    match &action(alloc, line.as_bytes()) {
-        Ok(Some(action)) => is_text_of(alloc, action, wanted),
+    match action(alloc, line.as_bytes()) {
+        Ok(Some(action)) => is_text_of(alloc, &action, wanted),
         _ => Ok(false),
     }
 }

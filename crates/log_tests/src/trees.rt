@@ -20,7 +20,7 @@ static NOT_JSON: [&[u8]; 9] = [
 ];
 
 fn tree_word(alloc: Global, bytes: &[u8]) -> &'static str {
-    match &tree_of(alloc, bytes) {
+    match tree_of(alloc, bytes) {
         Ok(_) => "read",
         Err(TreeFault::NotUtf8) => "not UTF-8",
         Err(TreeFault::NotJson) => "not JSON",

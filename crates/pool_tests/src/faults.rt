@@ -1,6 +1,6 @@
 // Two workers with a line each, on which a read or a write fails, each in turn.
-use crate::outside::{Fails, PIECE, SOUND, door_of_one, store};
-use crate::pool::{Place, Pool};
+use crate::outside::{Fails, PIECE, SOUND, door_of_one};
+use crate::pool::{Place, Pool, add, empty};
 use crate::texts::{SHARES, SHARES_S1};
 use edge_core::{MemClosed, MemListener, OpenGate};
 use share_pool::ServeEnd;
@@ -33,9 +33,9 @@ fn door(alloc: Global, fault: Fault) -> Option<MemListener> {
 
 // The pool of a worker for each.
 fn filled(alloc: Global, faults: [Fault; 2]) -> Option<Pool<MemListener>> {
-    let mut pool = Pool::open(alloc, &mut store(alloc, &[], 0, &[])?, 8080)?;
+    let mut pool = empty(alloc, 8080)?;
     for fault in faults {
-        pool.add(alloc, door(alloc, fault)?, store(alloc, &[], 0, &[])?)?;
+        add(alloc, &mut pool, door(alloc, fault)?)?;
     }
     Some(pool)
 }

@@ -3,7 +3,7 @@ ghost use Rattle.std.specs.Prelude.{◌≡◌, All, false};
 ghost use Rattle.std.proofs.Props.{props};
 ghost use Rattle.share_pool.specs.Desks.{HasPass};
 
-use crate::outside::clock;
+use crate::outside::{clock, store};
 use edge_core::{Gate, Listener, MemClock, MemStore};
 use share_config::{Config, config_of};
 use share_hub::{Hub, HubPass};
@@ -91,4 +91,20 @@ impl<N: Listener + Send + Drop> Pool<N> {
         let end = serve_all(rt, alloc, &hub, &server, desks.as_mut_slice(), gate);
         Some((end, desks))
     }
+}
+
+/// A server at that port over what every test begins with, and no worker.
+pub(crate) fn empty<N: Listener + Send + Drop>(alloc: Global, port: u16) -> Option<Pool<N>> {
+    let mut store = store(alloc, &[], 0, &[])?;
+    Pool::open(alloc, &mut store, port)
+}
+
+/// Adds a worker at that door, over a store of the same.
+pub(crate) fn add<N: Listener + Send + Drop>(
+    alloc: Global,
+    pool: &mut Pool<N>,
+    door: N,
+) -> Option<()> {
+    let store = store(alloc, &[], 0, &[])?;
+    pool.add(alloc, door, store)
 }

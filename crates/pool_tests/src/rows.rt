@@ -1,6 +1,6 @@
 // Workers with what they are asked and what is written.
 use crate::outside::{Door, are_written, door, store};
-use crate::pool::{Place, Pool};
+use crate::pool::{Place, Pool, empty};
 use crate::texts::Object;
 use edge_core::Gate;
 use share_pool::{Desk, ServeEnd};
@@ -29,13 +29,17 @@ pub(crate) struct Row {
     pub end: ServeEnd,
 }
 
+fn add_worker(alloc: Global, pool: &mut Pool<Door>, row: &Row, worker: &Worker) -> Option<()> {
+    let store = store(alloc, row.later, row.from, row.fails)?;
+    let door = door(alloc, worker.asked, worker.most, worker.fails)?;
+    pool.add(alloc, door, store)
+}
+
 // The pool of a row's workers.
 fn filled(alloc: Global, row: &Row) -> Option<Pool<Door>> {
-    let mut pool = Pool::open(alloc, &mut store(alloc, &[], 0, &[])?, 8080)?;
+    let mut pool = empty(alloc, 8080)?;
     for worker in row.workers {
-        let store = store(alloc, row.later, row.from, row.fails)?;
-        let door = door(alloc, worker.asked, worker.most, worker.fails)?;
-        pool.add(alloc, door, store)?;
+        add_worker(alloc, &mut pool, row, worker)?;
     }
     Some(pool)
 }

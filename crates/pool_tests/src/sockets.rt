@@ -1,6 +1,5 @@
 // Clients and workers over connections of TCP, each in a thread of its own.
-use crate::outside::store;
-use crate::pool::Pool;
+use crate::pool::{Pool, add, empty};
 use crate::texts::FILE;
 use edge_core::{HoldGate, Limited, Listener, Listening, LockedDoor, MemSink, SharedDoor};
 use edge_std::{TcpDoor, TcpWay};
@@ -20,13 +19,18 @@ type Shared = Arc<Mutex<SharedDoor<Limited<TcpDoor>>>, Global>;
 
 type Door<R> = LockedDoor<R, Limited<TcpDoor>>;
 
+// The port at which a door is opened.
+fn opened_at(door: &mut TcpDoor) -> Option<u16> {
+    match door.listen(0) {
+        Listening::Open => door.port(),
+        Listening::Failed => None,
+    }
+}
+
 // A door at a free port, which gives that many connections, and the port.
 fn opened(rt: &HostRuntime) -> Option<(Shared, u16)> {
     let mut door = TcpDoor::new(rt.clone().ok()?);
-    if door.listen(0) == Listening::Failed {
-        return None;
-    }
-    let port = door.port()?;
+    let port = opened_at(&mut door)?;
     let shared = SharedDoor::new(Limited::new(door, LINES));
     Some((Arc::new(rt.alloc(), Mutex::new(shared)).ok()?, port))
 }
@@ -39,9 +43,9 @@ fn handle<R: Wait + Copy>(rt: R, door: &Shared) -> Option<Door<R>> {
 fn workers<R: Wait + Send + Copy>(host: &HostRuntime, rt: R) -> Option<(Pool<Door<R>>, u16)> {
     let alloc = host.alloc();
     let (door, port) = opened(host)?;
-    let mut pool = Pool::open(alloc, &mut store(alloc, &[], 0, &[])?, port)?;
+    let mut pool = empty(alloc, port)?;
     for _ in 0..2 {
-        pool.add(alloc, handle(rt, &door)?, store(alloc, &[], 0, &[])?)?;
+        add(alloc, &mut pool, handle(rt, &door)?)?;
     }
     Some((pool, port))
 }
@@ -94,16 +98,32 @@ fn is_fetched(alloc: Global, client: &Client, way: &mut TcpWay, link: &str) -> O
     Some(size == 10 && sink.bytes() == FILE.as_bytes())
 }
 
-// Whether a client sees the table and its file.
-fn is_told(host: &HostRuntime, port: u16) -> Option<bool> {
-    let alloc = host.alloc();
-    let client = client(alloc, port)?;
-    let mut way = TcpWay::new(host.clone().ok()?);
-    let table = listed(alloc, &client, &mut way)?;
-    let read = read(alloc, &client, &mut way, &table)?;
+// Whether the client sees the file of the table.
+fn sees_file(
+    alloc: Global,
+    port: u16,
+    client: &Client,
+    way: &mut TcpWay,
+    table: &SharedTable,
+) -> Option<bool> {
     let link = link(alloc, port)?;
-    let fetched = is_fetched(alloc, &client, &mut way, &link)?;
-    Some(is_t1(&table) && is_read(&read, &link) && fetched)
+    let read = read(alloc, client, way, table)?;
+    let fetched = is_fetched(alloc, client, way, &link);
+    Some(is_read(&read, &link) && fetched == Some(true))
+}
+
+// Whether the client sees the table and its file.
+fn sees_table(alloc: Global, port: u16, client: &Client, way: &mut TcpWay) -> Option<bool> {
+    let table = listed(alloc, client, way)?;
+    let seen = sees_file(alloc, port, client, way, &table);
+    Some(is_t1(&table) && seen == Some(true))
+}
+
+// Whether a client sees all.
+fn is_told(host: &HostRuntime, port: u16) -> Option<bool> {
+    let mut way = TcpWay::new(host.clone().ok()?);
+    let client = client(host.alloc(), port)?;
+    sees_table(host.alloc(), port, &client, &mut way)
 }
 
 // Whether each of two clients does.

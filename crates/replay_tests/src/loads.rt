@@ -145,10 +145,10 @@ fn kept(log: &Loaded) -> u64 {
 #[test]
 fn the_block_has_its_cause(rt: HostRuntime) {
     for (objects, version, word, number) in &BLOCKED {
-        match &loaded(rt.alloc(), objects, 99, &[]) {
+        match loaded(rt.alloc(), objects, 99, &[]) {
             Ok(log) => {
                 assert!(rt; is_block(&log.block, *version, word, *number));
-                assert!(rt; kept(log) == *version);
+                assert!(rt; kept(&log) == *version);
             }
             Err(_) => assert!(rt; false),
         }
@@ -183,8 +183,8 @@ fn loads_versions_from_zero(rt: HostRuntime) {
 
 #[test]
 fn an_empty_folder_has_no_version(rt: HostRuntime) {
-    match &loaded(rt.alloc(), &[], 99, &[]) {
-        Ok(log) => assert!(rt; log.block.is_none() && kept(log) == 0 && log.bytes == 0),
+    match loaded(rt.alloc(), &[], 99, &[]) {
+        Ok(log) => assert!(rt; log.block.is_none() && kept(&log) == 0 && log.bytes == 0),
         Err(_) => assert!(rt; false),
     }
 }

@@ -91,9 +91,9 @@ fn state(alloc: Global, commits: &[Arc<Commit>]) -> Result<Option<Snapshot>, NoS
 }
 
 fn told_by_replay(alloc: Global, commits: &[Arc<Commit>]) -> (&'static str, u64) {
-    match &state(alloc, commits) {
+    match state(alloc, commits) {
         Ok(_) => ("a state", 0),
-        Err(told) => state_words(*told),
+        Err(told) => state_words(told),
     }
 }
 
@@ -172,20 +172,26 @@ fn has_txn(snapshot: &Snapshot, app: &str, version: i64) -> bool {
     matches!(txn_version(snapshot, app), Some(found) if found == version)
 }
 
-// Looks at the table of that log.
-fn expect_table(rt: &impl Abort, snapshot: &Snapshot) {
-    assert!(rt; is_state(snapshot, 2, 2, "m2") && has_writer(snapshot, 2));
-    assert!(rt; has_path(snapshot, "a") && has_path(snapshot, "b") && !has_path(snapshot, "c"));
-    assert!(rt; is_at(snapshot, 0, "a", 2));
-    assert!(rt; is_listed(snapshot, "b", "one"));
-    assert!(rt; has_txn(snapshot, "one", -4));
-    assert!(rt; txn_version(snapshot, "three").is_none());
+// Whether it is the table of that log.
+fn is_table(snapshot: &Snapshot) -> bool {
+    is_state(snapshot, 2, 2, "m2")
+        && has_writer(snapshot, 2)
+        && is_at(snapshot, 0, "a", 2)
+        && is_listed(snapshot, "b", "one")
+        && has_txn(snapshot, "one", -4)
+        && txn_version(snapshot, "three").is_none()
 }
 
-// Looks at the table one version later.
-fn expect_next(rt: &impl Abort, snapshot: &Snapshot) {
-    assert!(rt; is_state(snapshot, 3, 1, "m1") && has_path(snapshot, "b"));
-    assert!(rt; has_txn(snapshot, "one", 1) && has_txn(snapshot, "two", 7));
+fn has_paths(snapshot: &Snapshot) -> bool {
+    has_path(snapshot, "a") && has_path(snapshot, "b") && !has_path(snapshot, "c")
+}
+
+// Whether it is the table one version later.
+fn is_later(snapshot: &Snapshot) -> bool {
+    is_state(snapshot, 3, 1, "m1")
+        && has_path(snapshot, "b")
+        && has_txn(snapshot, "one", 1)
+        && has_txn(snapshot, "two", 7)
 }
 
 // Two commits, each of which may come next.
@@ -199,35 +205,42 @@ fn next(alloc: Global, base: &Snapshot, commit: &Commit) -> Result<Snapshot, NoS
     advance(alloc, base, commit, &mut steps)
 }
 
-fn expect_advances(rt: &impl Abort, alloc: Global, base: &Snapshot) -> Result<(), AllocError> {
-    let commits = commits(alloc, &NEXT)?;
-    match commits.as_slice() {
-        [first, second] => {
-            match &next(alloc, base, first) {
-                Ok(snapshot) => expect_next(rt, snapshot),
-                Err(_) => assert!(rt; false),
-            }
-            match &next(alloc, base, second) {
-                Ok(_) => assert!(rt; false),
-                Err(told) => assert!(rt; are_words(state_words(*told), "vector", 3)),
-            }
-        }
-        _ => assert!(rt; false),
+fn goes_on(alloc: Global, base: &Snapshot, commit: &Commit) -> bool {
+    match next(alloc, base, commit) {
+        Ok(snapshot) => is_later(&snapshot),
+        Err(_) => false,
     }
-    Ok(())
+}
+
+fn is_refused(alloc: Global, base: &Snapshot, commit: &Commit) -> bool {
+    match next(alloc, base, commit) {
+        Ok(_) => false,
+        Err(told) => are_words(state_words(told), "vector", 3),
+    }
+}
+
+// Whether the first of them comes next, and the second may not.
+fn advances(alloc: Global, base: &Snapshot) -> Result<bool, AllocError> {
+    let commits = commits(alloc, &NEXT)?;
+    Ok(match commits.as_slice() {
+        [first, second] => goes_on(alloc, base, first) && is_refused(alloc, base, second),
+        _ => false,
+    })
+}
+
+fn is_live(alloc: Global, base: &Snapshot) -> Result<bool, AllocError> {
+    Ok(is_table(base) && has_paths(base) && advances(alloc, base)?)
 }
 
 #[test]
 fn the_last_add_is_live(rt: HostRuntime) -> Result<(), AllocError> {
     let commits = commits(rt.alloc(), &LOG)?;
     assert!(rt; commits.len() == 3);
-    match &state(rt.alloc(), &commits) {
-        Ok(Some(base)) => {
-            expect_table(&rt, base);
-            expect_advances(&rt, rt.alloc(), base)?;
-        }
-        _ => assert!(rt; false),
-    }
+    let found = match state(rt.alloc(), &commits) {
+        Ok(Some(base)) => is_live(rt.alloc(), &base),
+        _ => Ok(false),
+    };
+    assert!(rt; found?);
     Ok(())
 }
 
@@ -254,11 +267,11 @@ fn a_borrowed_state_is_copied(rt: HostRuntime) -> Result<(), AllocError> {
     let only = commits(rt.alloc(), &LOG[..1])?;
     assert!(rt; only.len() == 1);
     let mut steps: Steps<Work> = Steps::new();
-    match &replay_ref(rt.alloc(), &only, &mut steps) {
+    match replay_ref(rt.alloc(), &only, &mut steps) {
         Ok(snapshot) => {
-            assert!(rt; is_borrowed(snapshot));
-            assert!(rt; is_borrowed_at(snapshot, 0, "a") && is_borrowed_at(snapshot, 1, "b"));
-            assert!(rt; is_copied(rt.alloc(), snapshot)?);
+            assert!(rt; is_borrowed(&snapshot));
+            assert!(rt; is_borrowed_at(&snapshot, 0, "a") && is_borrowed_at(&snapshot, 1, "b"));
+            assert!(rt; is_copied(rt.alloc(), &snapshot)?);
         }
         Err(_) => assert!(rt; false),
     }

@@ -59,8 +59,8 @@ fn query(alloc: Global, body: &[u8]) -> Result<QueryBody, QueryFault> {
 }
 
 fn is_empty(alloc: Global, body: &str) -> bool {
-    match &query(alloc, body.as_bytes()) {
-        Ok(query) => asks_nothing(query),
+    match query(alloc, body.as_bytes()) {
+        Ok(query) => asks_nothing(&query),
         Err(_) => false,
     }
 }
@@ -78,10 +78,10 @@ fn field_word(field: QueryField) -> &'static str {
 
 // The field of the body that is outside its grammar, or what else is wrong.
 fn fault_of(alloc: Global, body: &[u8]) -> &'static str {
-    match &query(alloc, body) {
+    match query(alloc, body) {
         Ok(_) => "a query",
         Err(QueryFault::BadBody) => "bad body",
-        Err(QueryFault::BadParameter(field)) => field_word(*field),
+        Err(QueryFault::BadParameter(field)) => field_word(field),
         Err(QueryFault::NoMemory) => "no memory",
     }
 }

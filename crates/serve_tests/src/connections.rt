@@ -1,5 +1,5 @@
 // The requests of one connection, and when it is closed.
-use crate::desk::place_of;
+use crate::desk::heard_over;
 use crate::requests::{
     HEAD_LINK, HEAD_QUERY, HEAD_ROOT, HEAD_SHARES, QUERY_CHUNKED, ROOT, ROOT_CLOSING,
     ROOT_CLOSING_BY_LIST, ROOT_OLD, ROOT_OLD_KEPT, SHARES, SHARES_BY_NOBODY, SHARES_OF_HOST,
@@ -113,7 +113,7 @@ fn is_repeated(bytes: &[u8], text: &str, count: usize, last: &str) -> bool {
 fn is_closed_at_last<R: Wait>(rt: &R, alloc: Global) -> Option<bool> {
     let source = MemSource::new(alloc, many(alloc, ROOT, 10_001)?);
     let sink = MemSink::new(alloc, 2_500_000, 30_000).ok()?;
-    let heard = place_of(alloc, World::Days)?.hear(rt, alloc, &[0], source, sink)?;
+    let heard = heard_over(rt, alloc, World::Days, &[0], source, sink)?;
     let told = is_repeated(heard.sink.bytes(), NOT_FOUND, 9_999, NOT_FOUND_CLOSING);
     Some(heard.ends(SessionEnd::Done { served: 10_000 }) && told)
 }

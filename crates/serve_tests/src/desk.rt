@@ -146,6 +146,26 @@ pub(crate) fn place_of(alloc: Global, world: World) -> Option<Place> {
     place_over(alloc, stocked(alloc, world)?)
 }
 
+/// A server over the records and some objects, and what someone else stores then.
+pub(crate) fn place_before(alloc: Global, world: World, later: World) -> Option<Place> {
+    let mut place = place_of(alloc, world)?;
+    place.stock_all(alloc, later)?;
+    Some(place)
+}
+
+/// A session at those moments with a server over the records and these objects.
+pub(crate) fn heard_over<R: Wait>(
+    rt: &R,
+    alloc: Global,
+    world: World,
+    moments: &[u64],
+    source: MemSource,
+    sink: MemSink,
+) -> Option<Heard> {
+    let mut place = place_of(alloc, world)?;
+    place.hear(rt, alloc, moments, source, sink)
+}
+
 /// Whether a server is opened where the call of the store of that number fails.
 pub(crate) fn opens_without(alloc: Global, world: World, call: Vec<u64>) -> Option<bool> {
     let store = stocked(alloc, world)?.with_fails(call, Vec::new(alloc));
@@ -165,8 +185,8 @@ impl Place {
         stock(alloc, &mut self.store, object, bytes)
     }
 
-    /// Someone else stores objects.
-    pub(crate) fn stock_all(&mut self, alloc: Global, world: World) -> Option<()> {
+    // Someone else stores objects.
+    fn stock_all(&mut self, alloc: Global, world: World) -> Option<()> {
         stock_all(alloc, &mut self.store, objects(world))
     }
 

@@ -1,5 +1,5 @@
 // Reads, writes and flushes that fail, each in turn.
-use crate::desk::{Heard, Place, place_of};
+use crate::desk::{Heard, Place, heard_over, place_of};
 use crate::requests::{COMMIT_F, GRANT_S2, NEW_S2, SHARES, VERSION};
 use crate::responses::{COMMITTED_5, RECORD_4, RECORD_5, SHARES_S1_S2, VERSION_5};
 use crate::rows::{are_texts, is_answered, joined, one, sink, sink_of, source, whole_within};
@@ -54,7 +54,8 @@ fn reads(session: &Session) -> usize {
 fn heard_to_read<R: Wait>(rt: &R, alloc: Global, session: &Session, number: u64) -> Option<Heard> {
     let fails = one(alloc, number)?;
     let source = source(alloc, session.asked, PIECE)?.with_fails(fails);
-    place_of(alloc, session.stored)?.hear(rt, alloc, &[0], source, sink(alloc)?)
+    let sink = sink(alloc)?;
+    heard_over(rt, alloc, session.stored, &[0], source, sink)
 }
 
 // Whether the session ends so where that read fails: what came before is answered, and no more.
@@ -96,7 +97,7 @@ fn heard_to_write<R: Wait>(
 ) -> Option<Heard> {
     let source = source(alloc, session.asked, 8_192)?;
     let sink = sink_of(alloc, PIECE)?.with_fails(fails);
-    place_of(alloc, session.stored)?.hear(rt, alloc, &[0], source, sink)
+    heard_over(rt, alloc, session.stored, &[0], source, sink)
 }
 
 // How many writes there are where none fails, and the session ends so.
@@ -172,7 +173,8 @@ fn flushed<R: Wait>(
     sink: &mut Gathering<MemSink>,
 ) -> Option<SessionEnd> {
     let mut source = source(alloc, session.asked, 8_192)?;
-    place_of(alloc, session.stored)?.serve(rt, alloc, &[0], &mut source, sink)
+    let mut place = place_of(alloc, session.stored)?;
+    place.serve(rt, alloc, &[0], &mut source, sink)
 }
 
 // Whether the session ends so where that flush fails. The sink keeps each response till it is flushed, so the responses before
@@ -183,12 +185,13 @@ fn is_flushed_until<R: Wait>(
     session: &Session,
     number: usize,
 ) -> Option<bool> {
-    let mut sink = gathering(alloc, number)?;
-    let end = flushed(rt, alloc, session, &mut sink)?;
+    let (told, kept) = (session.told.get(..number)?, session.told.get(number)?);
     let served = number as u64;
-    let kept = sink.kept() == session.told.get(number)?.as_bytes();
-    let told = are_texts(sink.into_inner().bytes(), session.told.get(..number)?);
-    Some(end == SessionEnd::WriteFault { served } && kept && told)
+    let mut sink = gathering(alloc, number)?;
+    let end = flushed(rt, alloc, session, &mut sink);
+    let is_kept = sink.kept() == kept.as_bytes();
+    let is_told = are_texts(sink.into_inner().bytes(), told);
+    Some(end == Some(SessionEnd::WriteFault { served }) && is_kept && is_told)
 }
 
 // The number of the first failing flush with which the session ends otherwise, none where there is none.
@@ -214,17 +217,24 @@ fn a_flush_that_fails_ends_the_session(rt: HostRuntime) {
 
 fn heard_of_none<R: Wait>(rt: &R, alloc: Global, place: &mut Place) -> Option<Heard> {
     let fails = one(alloc, 0)?;
+    let sink = sink(alloc)?.with_fails(fails);
     let source = source(alloc, &[COMMIT_F], 8_192)?;
-    place.hear(rt, alloc, &[0], source, sink(alloc)?.with_fails(fails))
+    place.hear(rt, alloc, &[0], source, sink)
+}
+
+// Whether the response to a commit is lost.
+fn is_lost<R: Wait>(rt: &R, alloc: Global, place: &mut Place) -> Option<bool> {
+    let lost = heard_of_none(rt, alloc, place)?;
+    Some(lost.is(&[], SessionEnd::WriteFault { served: 0 }))
 }
 
 // A commit whose response is lost stands: the next connection sees it.
 fn is_kept<R: Wait>(rt: &R, alloc: Global) -> Option<bool> {
     let mut place = place_of(alloc, World::Five)?;
-    let lost = heard_of_none(rt, alloc, &mut place)?;
+    let lost = is_lost(rt, alloc, &mut place);
     let end = SessionEnd::Done { served: 1 };
-    let seen = is_answered(rt, alloc, &mut place, &[0], &[VERSION], &[VERSION_5], end)?;
-    Some(lost.is(&[], SessionEnd::WriteFault { served: 0 }) && seen)
+    let seen = is_answered(rt, alloc, &mut place, &[0], &[VERSION], &[VERSION_5], end);
+    Some(lost == Some(true) && seen == Some(true))
 }
 
 #[test]

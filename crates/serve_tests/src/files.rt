@@ -7,9 +7,10 @@ use crate::responses::{
     FILE_A, FILE_A_AT_3599999, FILE_B, FILE_GONE, LARGE_HEAD, LINK_EXPIRED_AT_3600000,
     LINK_INVALID, LINK_REVOKED, NOT_FOUND, RECORD_4, RECORD_5, SHARES_S1,
 };
-use crate::rows::{Row, first_wrong, one, sink, source};
+use crate::rows::{Row, first_wrong, sink, source};
 use crate::store_faults::calls_to_open;
 use crate::worlds::World;
+use edge_core::{MemSink, MemSource};
 use share_serve::SessionEnd;
 use std::alloc::Global;
 use std::sync::Wait;
@@ -89,19 +90,32 @@ fn one_or_none(alloc: Global, number: Option<u64>) -> Option<Vec<u64>> {
 
 // A server over the object as well.
 fn place_large(alloc: Global) -> Option<Place> {
+    let bytes = large(alloc)?;
     let mut place = place_of(alloc, World::Days)?;
-    place.stock(alloc, "tables/t1/large", &large(alloc)?)?;
+    place.stock(alloc, "tables/t1/large", &bytes)?;
     Some(place)
 }
 
-/// The same where the call of the store of that number fails, counted behind those at opening, if any.
-pub(crate) fn place_failing(alloc: Global, call: Option<u64>) -> Option<Place> {
-    let place = place_large(alloc)?;
-    let Some(call) = call else {
-        return Some(place);
-    };
-    let call = calls_to_open(alloc, World::Days)?.saturating_add(call);
-    Some(place.with_fails(one(alloc, call)?, Vec::new(alloc)))
+// The number of that call among all of the store, where it is counted behind those at opening.
+fn number_of(alloc: Global, call: Option<u64>) -> Option<Option<u64>> {
+    match call {
+        Some(call) => Some(Some(calls_to_open(alloc, World::Days)?.saturating_add(call))),
+        None => Some(None),
+    }
+}
+
+/// A session with a server over the large object, where the call of its store of that number fails, counted behind those at opening,
+/// if any.
+pub(crate) fn heard_large<R: Wait>(
+    rt: &R,
+    alloc: Global,
+    call: Option<u64>,
+    source: MemSource,
+    sink: MemSink,
+) -> Option<Heard> {
+    let fails = one_or_none(alloc, number_of(alloc, call)?)?;
+    let mut place = place_large(alloc)?.with_fails(fails, Vec::new(alloc));
+    place.hear(rt, alloc, &[0], source, sink)
 }
 
 // What is written: the head, and so many of the object's bytes.
@@ -115,9 +129,9 @@ fn is_front(alloc: Global, bytes: &[u8], body: usize) -> Option<bool> {
 
 fn heard_by<R: Wait>(rt: &R, alloc: Global, row: &Followed) -> Option<Heard> {
     let fails = one_or_none(alloc, row.write)?;
-    let source = source(alloc, &[LINK_LARGE], 8_192)?;
     let sink = sink(alloc)?.with_fails(fails);
-    place_failing(alloc, row.call)?.hear(rt, alloc, &[0], source, sink)
+    let source = source(alloc, &[LINK_LARGE], 8_192)?;
+    heard_large(rt, alloc, row.call, source, sink)
 }
 
 fn is_followed<R: Wait>(rt: &R, alloc: Global, row: &Followed) -> Option<bool> {
@@ -186,7 +200,8 @@ fn an_object_is_written_piece_after_piece(rt: HostRuntime) {
 
 fn heard_in_pieces<R: Wait>(rt: &R, alloc: Global) -> Option<Heard> {
     let source = source(alloc, &[LINK_LARGE, ROOT], 8_192)?;
-    place_large(alloc)?.hear(rt, alloc, &[0], source, sink(alloc)?)
+    let sink = sink(alloc)?;
+    heard_large(rt, alloc, None, source, sink)
 }
 
 // The writes of an object: its head, and pieces of 65,536 bytes. A request behind it is answered.

@@ -1,5 +1,5 @@
 // What ends a session, and messages that are refused.
-use crate::desk::place_of;
+use crate::desk::heard_over;
 use crate::requests::ROOT;
 use crate::responses::{
     BAD_MESSAGE, BAD_MESSAGE_OF_9999, BODY_TOO_LARGE, HEAD_TOO_LARGE, NOT_FOUND, NOT_FOUND_OF_1994,
@@ -207,13 +207,8 @@ fn is_told_by<R: Wait>(
     answer: &Answer,
 ) -> Option<bool> {
     let source = source(alloc, asked, size)?;
-    let heard = place_of(alloc, World::Days)?.hear(
-        rt,
-        alloc,
-        answer.moments,
-        source,
-        sink(alloc)?,
-    )?;
+    let sink = sink(alloc)?;
+    let heard = heard_over(rt, alloc, World::Days, answer.moments, source, sink)?;
     Some(heard.is(answer.told, answer.end))
 }
 
@@ -266,7 +261,8 @@ fn are_letters<R: Wait>(
     end: SessionEnd,
 ) -> Option<bool> {
     let source = MemSource::new(alloc, vec![in alloc; b'a'; count].ok()?);
-    let heard = place_of(alloc, World::Days)?.hear(rt, alloc, &[0], source, sink(alloc)?)?;
+    let sink = sink(alloc)?;
+    let heard = heard_over(rt, alloc, World::Days, &[0], source, sink)?;
     Some(heard.is(told, end))
 }
 

@@ -1,6 +1,6 @@
 // What links are answered by HEAD and by ranges (RFC 9110, sections 9.3.2 and 14), with responses made by hand.
-use crate::desk::{Heard, place_of};
-use crate::files::{large, place_failing};
+use crate::desk::{Heard, heard_over};
+use crate::files::{heard_large, large};
 use crate::rows::{joined, sink, source};
 use crate::worlds::World;
 use share_serve::SessionEnd;
@@ -165,7 +165,8 @@ fn request(alloc: Global, method: &str, link: &str, fields: &str) -> Option<Vec<
 fn heard<R: Wait>(rt: &R, alloc: Global, request: &[u8]) -> Option<Heard> {
     let request = std::str::from_utf8(request).ok()?;
     let source = source(alloc, &[request], 8_192)?;
-    place_of(alloc, World::Days)?.hear(rt, alloc, &[0], source, sink(alloc)?)
+    let sink = sink(alloc)?;
+    heard_over(rt, alloc, World::Days, &[0], source, sink)
 }
 
 fn is_told<R: Wait>(rt: &R, alloc: Global, row: &Row) -> Option<bool> {
@@ -198,7 +199,8 @@ const LAST_70000_HEAD: &str = "HTTP/1.1 206 Partial Content\r\n\
 
 fn heard_part<R: Wait>(rt: &R, alloc: Global, call: u64) -> Option<Heard> {
     let source = source(alloc, &[LAST_70000], 8_192)?;
-    place_failing(alloc, Some(call))?.hear(rt, alloc, &[0], source, sink(alloc)?)
+    let sink = sink(alloc)?;
+    heard_large(rt, alloc, Some(call), source, sink)
 }
 
 // Whether what is written is the head and so many bytes of the part.

@@ -210,12 +210,16 @@ fn version_name(alloc: Global, version: u64) -> Option<String> {
 // A commit that doesn't change what is read.
 const TRANSACTION: &[u8] = b"{\"txn\":{\"appId\":\"a\",\"version\":1}}\n";
 
+fn stock_version(alloc: Global, place: &mut Place, version: u64) -> Option<()> {
+    let name = version_name(alloc, version)?;
+    place.stock(alloc, name.as_str(), TRANSACTION)
+}
+
 // A server behind which another made 64 commits.
 fn contended(alloc: Global) -> Option<Place> {
     let mut place = place_of(alloc, World::Five)?;
     for version in 5..69 {
-        let name = version_name(alloc, version)?;
-        place.stock(alloc, name.as_str(), TRANSACTION)?;
+        stock_version(alloc, &mut place, version)?;
     }
     Some(place)
 }
@@ -274,8 +278,9 @@ const WRITTEN: &[&str] = &[COMMITTED_5, RECORD_4];
 fn is_stored<R: Wait>(rt: &R, alloc: Global) -> Option<bool> {
     let mut place = place_of(alloc, World::Five)?;
     let end = SessionEnd::Done { served: 2 };
-    let answered = is_answered(rt, alloc, &mut place, &[0], WRITES, WRITTEN, end)?;
-    Some(answered && have_objects(alloc, &mut place.store)?)
+    let answered = is_answered(rt, alloc, &mut place, &[0], WRITES, WRITTEN, end);
+    let stored = have_objects(alloc, &mut place.store);
+    Some(answered == Some(true) && stored == Some(true))
 }
 
 #[test]

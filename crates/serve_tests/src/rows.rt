@@ -1,5 +1,5 @@
 // Sessions with what is answered.
-use crate::desk::{Place, place_of};
+use crate::desk::{Heard, Place, place_before};
 use crate::worlds::World;
 use edge_core::{MemSink, MemSource};
 use share_serve::SessionEnd;
@@ -95,6 +95,19 @@ pub(crate) fn one(alloc: Global, number: u64) -> Option<Vec<u64>> {
     Vec::from_slice(alloc, &[number]).ok()
 }
 
+// A session with these requests.
+fn heard<R: Wait>(
+    rt: &R,
+    alloc: Global,
+    place: &mut Place,
+    moments: &[u64],
+    asked: &[&str],
+) -> Option<Heard> {
+    let source = source(alloc, asked, 8_192)?;
+    let sink = sink(alloc)?;
+    place.hear(rt, alloc, moments, source, sink)
+}
+
 /// Whether a session is answered so, and ends so.
 pub(crate) fn is_answered<R: Wait>(
     rt: &R,
@@ -105,9 +118,7 @@ pub(crate) fn is_answered<R: Wait>(
     told: &[&str],
     end: SessionEnd,
 ) -> Option<bool> {
-    let source = source(alloc, asked, 8_192)?;
-    let heard = place.hear(rt, alloc, moments, source, sink(alloc)?)?;
-    Some(heard.is(told, end))
+    Some(heard(rt, alloc, place, moments, asked)?.is(told, end))
 }
 
 fn is_row<R: Wait>(rt: &R, alloc: Global, row: &Row, place: &mut Place) -> Option<bool> {
@@ -120,8 +131,7 @@ fn is_row<R: Wait>(rt: &R, alloc: Global, row: &Row, place: &mut Place) -> Optio
 
 /// Whether the row holds, none where memory is wanting.
 pub(crate) fn holds<R: Wait>(rt: &R, alloc: Global, row: &Row) -> Option<bool> {
-    let mut place = place_of(alloc, row.stored)?;
-    place.stock_all(alloc, row.later)?;
+    let mut place = place_before(alloc, row.stored, row.later)?;
     is_row(rt, alloc, row, &mut place)
 }
 

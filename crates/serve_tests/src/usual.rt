@@ -1,5 +1,5 @@
 // A usual session of a recipient.
-use crate::desk::place_of;
+use crate::desk::heard_over;
 use crate::requests::{
     ALL_TABLES, LINK_A, LINK_B, METADATA, PAGE_OF_2, QUERY_CUT, QUERY_USUAL, SHARES, VERSION,
 };
@@ -45,7 +45,7 @@ pub(crate) const END: SessionEnd = SessionEnd::Truncated {
 fn is_usual<R: Wait>(rt: &R, alloc: Global, read: usize, written: usize) -> Option<bool> {
     let source = source(alloc, ASKED, read)?;
     let sink = sink_of(alloc, written)?;
-    let heard = place_of(alloc, World::Days)?.hear(rt, alloc, &[0], source, sink)?;
+    let heard = heard_over(rt, alloc, World::Days, &[0], source, sink)?;
     Some(heard.is(TOLD, END))
 }
 
@@ -85,7 +85,8 @@ fn are_pieces(pieces: &[usize], texts: &[&str]) -> bool {
 // A page is written line by line.
 fn is_in_lines<R: Wait>(rt: &R, alloc: Global) -> Option<bool> {
     let source = source(alloc, &[PAGE_OF_2], 8_192)?;
-    let heard = place_of(alloc, World::Five)?.hear(rt, alloc, &[0], source, sink(alloc)?)?;
+    let sink = sink(alloc)?;
+    let heard = heard_over(rt, alloc, World::Five, &[0], source, sink)?;
     let whole = are_texts(heard.sink.bytes(), PARTS) && are_pieces(heard.sink.pieces(), PARTS);
     Some(heard.ends(SessionEnd::Done { served: 1 }) && whole)
 }

@@ -128,6 +128,14 @@ fn bound_at(catalog: &Catalog, alloc: Global, of: &str, at: &str) -> Option<u64>
     }
 }
 
+// Whether that many edits were made, and the share is there and was granted once.
+fn has_granted(catalog: &Catalog, edits: u64, share: &str) -> bool {
+    catalog.count() == edits
+        && catalog.has_share(share)
+        && catalog.has_recipient("r1")
+        && granted_at(catalog, "r1", share) == Some(1)
+}
+
 // How many tables are listed of the share, where the first and the last are these.
 fn listed_tables(catalog: &Catalog, alloc: Global, first: &str, last: &str) -> Option<usize> {
     let tables = catalog.bindings_of(alloc, "s1").ok()?;
@@ -138,6 +146,19 @@ fn listed_tables(catalog: &Catalog, alloc: Global, first: &str, last: &str) -> O
     } else {
         None
     }
+}
+
+// Whether the table was bound there once, and so many are listed from the first to the last.
+fn has_bound(
+    catalog: &Catalog,
+    alloc: Global,
+    of: &str,
+    at: &str,
+    listed: (&str, &str, usize),
+) -> bool {
+    let (first, last, count) = listed;
+    bound_at(catalog, alloc, of, at) == Some(1)
+        && listed_tables(catalog, alloc, first, last) == Some(count)
 }
 
 // How many shares are listed of the recipient, where the last is this one, granted once.
@@ -151,20 +172,19 @@ fn listed_shares(catalog: &Catalog, alloc: Global, end: &str) -> Option<usize> {
     }
 }
 
+// Whether nothing is listed of a recipient that isn't there.
+fn lists_nothing(catalog: &Catalog, alloc: Global, recipient: &str) -> Option<bool> {
+    Some(catalog.grants_of(alloc, recipient).ok()?.is_empty())
+}
+
 #[test]
 fn what_is_shared_is_told_and_listed(rt: HostRuntime) {
     let alloc = rt.alloc();
-    let mut catalog = catalog_of(alloc, &[]).expect(&rt, "a catalogue");
-    assert!(rt; catalog.count() == 4);
-    assert!(rt; catalog.has_share("s1") && catalog.has_recipient("r1"));
-    assert!(rt; granted_at(&catalog, "r1", "s1") == Some(1));
-    assert!(rt; has_credential(&catalog, "r1", 1) == Some(true));
-    assert!(rt; bound_at(&catalog, alloc, "t", "tables/t") == Some(1));
-    assert!(rt; make_all(&mut catalog, alloc, &[BIND_A]));
-    assert!(rt; listed_tables(&catalog, alloc, "a", "t") == Some(2));
+    let catalog = catalog_of(alloc, &[BIND_A]).expect(&rt, "a catalogue");
+    assert!(rt; has_granted(&catalog, 5, "s1") && has_credential(&catalog, "r1", 1) == Some(true));
+    assert!(rt; has_bound(&catalog, alloc, "t", "tables/t", ("a", "t", 2)));
     assert!(rt; listed_shares(&catalog, alloc, "s1") == Some(1));
-    let others = catalog.grants_of(alloc, "r").ok().expect(&rt, "memory");
-    assert!(rt; others.is_empty());
+    assert!(rt; lists_nothing(&catalog, alloc, "r") == Some(true));
 }
 
 // Whether an edit is answered so behind the first edits and a rotation to the second credential, and how many edits
@@ -196,17 +216,32 @@ fn each_refusal_comes_once(rt: HostRuntime) {
     }
 }
 
+// Whether someone has the digest of 32 such bytes.
+fn is_held(catalog: &Catalog, byte: u8) -> bool {
+    catalog.holder(&[byte; 32]).is_some()
+}
+
 #[test]
-fn what_is_rotated_or_dropped_is_gone(rt: HostRuntime) {
+fn what_is_rotated_is_gone(rt: HostRuntime) {
     let alloc = rt.alloc();
     let catalog = catalog_of(alloc, &[ROTATE_R1, ROTATE_R1_TO_2]).expect(&rt, "a catalogue");
-    assert!(rt; catalog.holder(&[1; 32]).is_none());
+    assert!(rt; !is_held(&catalog, 1));
     assert!(rt; has_credential(&catalog, "r1", 2) == Some(true));
     assert!(rt; granted_at(&catalog, "r1", "s1") == Some(1));
-    let mut catalog = catalog_of(alloc, &[DROP_S1, NEW_S1]).expect(&rt, "a catalogue");
-    assert!(rt; bound_at(&catalog, alloc, "t", "tables/t").is_none());
-    assert!(rt; granted_at(&catalog, "r1", "s1").is_none());
-    assert!(rt; make_all(&mut catalog, alloc, &[GRANT_S1]));
+}
+
+#[test]
+fn what_is_dropped_is_gone(rt: HostRuntime) {
+    let alloc = rt.alloc();
+    let catalog = catalog_of(alloc, &[DROP_S1, NEW_S1]).expect(&rt, "a catalogue");
+    assert!(rt; bound_at(&catalog, alloc, "t", "tables/t") == None);
+    assert!(rt; granted_at(&catalog, "r1", "s1") == None);
+}
+
+#[test]
+fn what_is_granted_again_has_another_edition(rt: HostRuntime) {
+    let alloc = rt.alloc();
+    let catalog = catalog_of(alloc, &[DROP_S1, NEW_S1, GRANT_S1]).expect(&rt, "a catalogue");
     assert!(rt; granted_at(&catalog, "r1", "s1") == Some(2));
 }
 
@@ -261,11 +296,8 @@ fn large(alloc: Global) -> Option<Catalog> {
 fn a_large_catalogue_answers(rt: HostRuntime) {
     let alloc = rt.alloc();
     let catalog = large(alloc).expect(&rt, "a catalogue");
-    assert!(rt; catalog.count() == 2001);
-    assert!(rt; catalog.has_share("s899") && catalog.has_recipient("r1"));
-    assert!(rt; granted_at(&catalog, "r1", "s649") == Some(1));
+    assert!(rt; catalog.has_share("s899") && has_granted(&catalog, 2_001, "s649"));
     assert!(rt; has_credential(&catalog, "r1", 1) == Some(true));
-    assert!(rt; bound_at(&catalog, alloc, "t649", "at") == Some(1));
-    assert!(rt; listed_tables(&catalog, alloc, "t100", "t649") == Some(550));
+    assert!(rt; has_bound(&catalog, alloc, "t649", "at", ("t100", "t649", 550)));
     assert!(rt; listed_shares(&catalog, alloc, "s649") == Some(550));
 }

@@ -18,8 +18,8 @@ pub(crate) fn planned(
     request: &Request,
     seen: &Option<Seen>,
 ) -> Option<u64> {
-    match &plan_of(alloc, keys, request, Millis::of(NOW)?, seen).ok()? {
-        Plan::Lines(_, lines) => Some(lines.count()),
+    match plan_of(alloc, keys, request, Millis::of(NOW)?, seen) {
+        Ok(Plan::Lines(_, lines)) => Some(lines.count()),
         _ => None,
     }
 }
@@ -47,8 +47,8 @@ pub(crate) fn printed(
     request: &Request,
     seen: &Option<Seen>,
 ) -> Option<u64> {
-    match &plan_of(alloc, keys, request, Millis::of(NOW)?, seen).ok()? {
-        Plan::Lines(_, lines) => print(alloc, lines),
+    match plan_of(alloc, keys, request, Millis::of(NOW)?, seen) {
+        Ok(Plan::Lines(_, lines)) => print(alloc, &lines),
         _ => None,
     }
 }
