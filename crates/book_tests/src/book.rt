@@ -8,6 +8,17 @@ use step_count::Steps;
 // The work of a replay.
 struct Work;
 
+// How many logs are kept, none where there is one at `t`.
+fn locations(alloc: Global, book: &Book) -> Option<usize> {
+    if book.has_log("t") || book.log_of("t").is_some() {
+        return None;
+    }
+    match book.locations(alloc) {
+        Ok(locations) => Some(locations.len()),
+        Err(_) => None,
+    }
+}
+
 // Whether it is begun, how many entries and edits it has, and how many logs.
 fn begun(alloc: Global) -> Option<(bool, u64, u64, usize)> {
     let mut book = Book::new(alloc).ok()?;
@@ -15,11 +26,8 @@ fn begun(alloc: Global) -> Option<(bool, u64, u64, usize)> {
         return None;
     }
     let begun = book.begin(3, 0);
-    if book.has_log("t") || book.log_of("t").is_some() {
-        return None;
-    }
-    let locations = book.locations(alloc).ok()?;
-    Some((begun, book.len(), book.edit_count(), locations.len()))
+    let locations = locations(alloc, &book)?;
+    Some((begun, book.len(), book.edit_count(), locations))
 }
 
 #[test]
@@ -39,6 +47,15 @@ fn a_log_without_commits_is_ready(rt: HostRuntime) {
     assert!(rt; is_ready(rt.alloc(), "t") == Some(true));
 }
 
+fn looked(alloc: Global, book: &Book, ask: &Ask) -> Option<(u64, bool)> {
+    let mut steps: Steps<Work> = Steps::new();
+    let pinned = book.pin(alloc, ask).ok()?;
+    match pinned.complete(alloc, &mut steps) {
+        Ok(look) => Some((look.at, look.seen.is_none())),
+        Err(_) => None,
+    }
+}
+
 // What is found of an empty book: how many entries it has, and whether nobody is seen.
 fn look(alloc: Global, want: Want) -> Option<(u64, bool)> {
     let book = Book::new(alloc).ok()?;
@@ -46,10 +63,7 @@ fn look(alloc: Global, want: Want) -> Option<(u64, bool)> {
         who: Who::Token([7; 32]),
         want,
     };
-    let pinned = book.pin(alloc, &ask).ok()?;
-    let mut steps: Steps<Work> = Steps::new();
-    let look = pinned.complete(alloc, &mut steps).ok()?;
-    Some((look.at, look.seen.is_none()))
+    looked(alloc, &book, &ask)
 }
 
 #[test]

@@ -466,8 +466,14 @@ fn answer_to(alloc: Global, row: &Row, offer: &Offer) -> Option<Answer> {
     offered(alloc, &log(alloc, row.log)?, offer)
 }
 
+fn is_answer_to(alloc: Global, row: &Row, offer: &Offer) -> Option<bool> {
+    let answer = answer_to(alloc, row, offer)?;
+    is_told(alloc, &answer, row)
+}
+
 fn is_answered_so(alloc: Global, row: &Row) -> Option<bool> {
-    is_told(alloc, &answer_to(alloc, row, &offer_of(alloc, row)?)?, row)
+    let offer = offer_of(alloc, row)?;
+    is_answer_to(alloc, row, &offer)
 }
 
 #[test]

@@ -120,9 +120,10 @@ fn seen<R: Wait>(rt: &R, alloc: Global, place: &mut Place) -> Option<(usize, usi
 
 fn whole<R: Wait>(rt: &R, alloc: Global) -> Option<bool> {
     let mut place = Place::open(alloc, stocked(alloc)?)?;
-    let full = is_full(rt, alloc, &mut place)?;
-    let seen = seen(rt, alloc, &mut place)?;
-    Some(full && seen == (32, 32) && place.logs(rt, alloc)? == 32)
+    let full = is_full(rt, alloc, &mut place);
+    let seen = seen(rt, alloc, &mut place);
+    let logs = place.logs(rt, alloc);
+    Some(full == Some(true) && seen == Some((32, 32)) && logs == Some(32))
 }
 
 #[test]

@@ -97,17 +97,23 @@ impl Place {
         Some(self.made(rt, alloc, &edit))
     }
 
-    fn seen<R: Wait>(&mut self, rt: &R, alloc: Global, ask: &Ask) -> Option<Look> {
+    fn seen<R: Wait>(&mut self, rt: &R, alloc: Global, ask: &Ask) -> Option<Found> {
         let mut steps: Steps<Work> = Steps::new();
-        self.hub
-            .look(rt, alloc, &mut self.pass, ask, &mut steps)
-            .ok()
+        match self.hub.look(rt, alloc, &mut self.pass, ask, &mut steps) {
+            Ok(
+                Look {
+                    seen: Some(seen),
+                    ..
+                },
+            ) => Some(seen.found),
+            _ => None,
+        }
     }
 
     /// What the recipient `r` is shown.
     pub(crate) fn look<R: Wait>(&mut self, rt: &R, alloc: Global, want: Want) -> Option<Found> {
         let who = Who::Named(Text::of(String::from_str(alloc, "r").ok()?));
-        Some(self.seen(rt, alloc, &Ask { who, want })?.seen?.found)
+        self.seen(rt, alloc, &Ask { who, want })
     }
 
     /// How many logs are loaded.

@@ -71,12 +71,14 @@ fn edit(alloc: Global, text: &str) -> Option<Event> {
 
 fn query(alloc: Global, body: &str) -> Option<Event> {
     let target = "/delta-sharing/shares/s1/schemas/sc/tables/t1/query";
-    Some(Event::Ask(request(alloc, "POST", target, body)?, Millis::of(0)?))
+    let now = Millis::of(0)?;
+    Some(Event::Ask(request(alloc, "POST", target, body)?, now))
 }
 
 fn version(alloc: Global) -> Option<Event> {
     let target = "/delta-sharing/shares/s1/schemas/sc/tables/t1/version";
-    Some(Event::Ask(request(alloc, "GET", target, "")?, Millis::of(0)?))
+    let now = Millis::of(0)?;
+    Some(Event::Ask(request(alloc, "GET", target, "")?, now))
 }
 
 /// The event of a step.

@@ -143,8 +143,8 @@ fn joined(alloc: Global, replies: &[Reply]) -> Option<Option<Lines>> {
 
 // The statuses and versions of the replies, and the files of its chain.
 fn is_told(alloc: Global, replies: &[Reply]) -> Option<bool> {
-    let chain = joined(alloc, replies.get(1..4)?)??;
     let none = joined(alloc, replies)?.is_none();
+    let chain = joined(alloc, replies.get(1..4)?)??;
     Some(none && are_told(replies) && are_files(chain.items()))
 }
 

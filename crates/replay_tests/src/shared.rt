@@ -89,7 +89,10 @@ fn begun(alloc: Global) -> Option<Snapshot> {
         return None;
     }
     let mut steps: Steps<Work> = Steps::new();
-    replay(alloc, &log, &mut steps).ok()
+    match replay(alloc, &log, &mut steps) {
+        Ok(state) => Some(state),
+        Err(_) => None,
+    }
 }
 
 fn next(alloc: Global, base: &Snapshot, commit: &Commit) -> Option<Snapshot> {
@@ -97,18 +100,21 @@ fn next(alloc: Global, base: &Snapshot, commit: &Commit) -> Option<Snapshot> {
         return None;
     }
     let mut steps: Steps<Work> = Steps::new();
-    advance(alloc, base, commit, &mut steps).ok()
+    match advance(alloc, base, commit, &mut steps) {
+        Ok(state) => Some(state),
+        Err(_) => None,
+    }
 }
 
-// The states of the versions, each made of the one before.
-fn states(alloc: Global) -> Option<Vec<Snapshot>> {
-    let mut states = Vec::new(alloc);
+// Adds the states of the versions, each made of the one before.
+fn push_states(alloc: Global, states: &mut Vec<Snapshot>) -> Option<()> {
     states.push(begun(alloc)?).ok()?;
     for version in 1..=VERSIONS {
-        let state = next(alloc, states.last()?, &*later(alloc, version)?)?;
+        let commit = later(alloc, version)?;
+        let state = next(alloc, states.last()?, &commit)?;
         states.push(state).ok()?;
     }
-    Some(states)
+    Some(())
 }
 
 fn is_file(file: Option<&AddFile>, path: &str, size: u64) -> bool {
@@ -156,9 +162,8 @@ fn is_state(alloc: Global, state: &Snapshot, version: u64) -> Option<bool>
     Some(files.next().is_none() && place == state.len() && state.version() == version)
 }
 
-// Whether each version has its own files, also after later ones were made of it.
-fn are_states(alloc: Global) -> Option<bool> {
-    let states = states(alloc)?;
+// Whether each version has its own files.
+fn are_states(alloc: Global, states: &[Snapshot]) -> Option<bool> {
     for version in 0..=VERSIONS {
         if !is_state(alloc, states.get(version as usize)?, version)? {
             return Some(false);
@@ -167,7 +172,14 @@ fn are_states(alloc: Global) -> Option<bool> {
     Some(true)
 }
 
+// Whether it has, also after later ones were made of it.
+fn keep_files(alloc: Global) -> Option<bool> {
+    let mut states = Vec::new(alloc);
+    push_states(alloc, &mut states)?;
+    are_states(alloc, &states)
+}
+
 #[test]
 fn each_version_keeps_its_own_files(rt: HostRuntime) {
-    assert!(rt; are_states(rt.alloc()) == Some(true));
+    assert!(rt; keep_files(rt.alloc()) == Some(true));
 }
