@@ -9,20 +9,15 @@ ghost use Rattle.catalog_log.specs.Printing.{Kept, KeptCredential, KeptLocation,
 ghost use Rattle.catalog_log.specs.Records.{record_in};
 
 use json::Writer;
-use json_print::{begin_object, count_field, end_object, flag_field, new_writer, printed};
+use json_print::{
+    begin_object, count_field, end_object, flag_field, new_writer, printed, string_field,
+};
 use json_tree::Millis;
 use share_catalog::{Binding, CatalogName, Credential, Edit, Location, TableName};
 use std::alloc::{AllocError, Global};
 
 // Room for most records.
 const ROOM: usize = 512;
-
-fn string_field(line: &mut Writer, field: &str, text: &str) -> Result<(), AllocError>
-    ensures { OnOk result (Adds line.old line.new (field_tokens (field.now, Some (string text.now)))) }
-{
-    line.key(field)?;
-    line.string(text)
-}
 
 fn name_field(line: &mut Writer, field: &str, name: &CatalogName) -> Result<(), AllocError>
     ensures written { OnOk result (Adds line.old line.new (field_tokens (field.now, Some (string name.now)))) }

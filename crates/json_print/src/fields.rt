@@ -14,11 +14,18 @@ use json_tree::{Pair, Pairs, Text, Texts};
 ///
 /// This and each other function here fails where memory is wanting, and then the writer is of no
 /// more use.
-pub fn text_field<W: Tokens>(writer: &mut W, name: &str, text: &Text) -> Result<(), W::Error>
+pub fn string_field<W: Tokens>(writer: &mut W, name: &str, text: &str) -> Result<(), W::Error>
     ensures { OnOk result (W.adds writer.old writer.new (field_tokens (name.now, Some (string text.now)))) }
 {
     writer.key(name)?;
-    writer.string(text.as_str())
+    writer.string(text)
+}
+
+/// Writes a field with a text that is held as one.
+pub fn text_field<W: Tokens>(writer: &mut W, name: &str, text: &Text) -> Result<(), W::Error>
+    ensures { OnOk result (W.adds writer.old writer.new (field_tokens (name.now, Some (string text.now)))) }
+{
+    string_field(writer, name, text.as_str())
 }
 
 /// Writes a field with a text, nothing where there is none.

@@ -10,8 +10,8 @@ mod tokens;
 
 pub use fields::{
     count_field, flag_field, nonempty_pairs_field, optional_count_field, optional_pairs_field,
-    optional_text_field, optional_texts_field, optional_whole_field, pairs_field, text_field,
-    texts_field, whole_field,
+    optional_text_field, optional_texts_field, optional_whole_field, pairs_field, string_field,
+    text_field, texts_field, whole_field,
 };
 pub use lengths::Length;
 pub use text::{begin_object, end_object, new_writer, printed};

@@ -1,5 +1,6 @@
 // Texts, and lists of them.
 ghost use Rattle.std.specs.Prelude.{◌≡◌, List, ℕ, IfOk, Option, string_bytes};
+ghost use Rattle.json_tree.specs.Options.{unless_empty};
 
 use std::alloc::{AllocError, Global};
 use std::marker::Model;
@@ -48,6 +49,16 @@ pub fn copy_text_or_none(alloc: Global, text: &Option<Text>) -> Result<Option<Te
     match text {
         Some(text) => Ok(Some(text.copy(alloc)?)),
         None => Ok(None),
+    }
+}
+
+/// The text, `None` where there is none and where it is empty.
+pub fn unless_empty(text: Option<Text>) -> Option<Text>
+    ensures { result ≡ unless_empty text }
+{
+    match text {
+        Some(text) if text.as_str().is_empty() => None,
+        text => text,
     }
 }
 

@@ -17,5 +17,5 @@ pub use commits::{advance, replay, replay_ref};
 pub use files::Files;
 pub use refusal::{Cause, NoState, ReplayRefusal};
 pub use snapshot::{Snapshot, SnapshotRef};
-pub use standing::{Support, refusal_after};
+pub use standing::{Support, meta_in, refusal_after};
 pub use times::{Bound, Mark, Unresolved, mark_of, marks_of, resolve};

@@ -13,5 +13,5 @@ pub use kept::{Kept, MOST_LOG_BYTES};
 pub use loaded::{Block, BlockCause, Commits, Loaded};
 pub use log::load;
 pub use probing::{Probed, probe};
-pub use reading::{Fetched, fetch};
+pub use reading::{Fetched, fetch, version_name};
 pub use refusal::{LoadRefusal, Stop};

@@ -67,7 +67,8 @@ pub fn fetch<W: Store>(
     Ok(Fetched::TooLong)
 }
 
-pub(crate) fn version_name(alloc: Global, location: &Name, version: u64) -> Result<Name, AllocError>
+/// The name of a version's commit (Delta Lake PROTOCOL.md, "Delta Log Entries"). The error is want of memory.
+pub fn version_name(alloc: Global, location: &Name, version: u64) -> Result<Name, AllocError>
     requires short { length location.now ≤ 256 }
     requires small { version < 2 ^ 63 }
     ensures { IfOk result (λ n. n ≡ commit_name location.now version) }

@@ -7,4 +7,5 @@ mod reading;
 mod token;
 
 pub use cursor::{Asked, Cursor, FeedCursor, FilesCursor, ListCursor, ListKind, TableAccess};
+pub use payload::kind_text;
 pub use token::{cursor_of, cursors_are_spelt, one_cursor, spell};

@@ -9,8 +9,8 @@ use crate::cursor::{Asked, Cursor, FeedCursor, FilesCursor, ListCursor, ListKind
 use json_tree::{Edition, Place, Text, Version};
 use std::alloc::{AllocError, Global};
 
-// The first field of a listing.
-fn kind_text(kind: ListKind) -> &'static str
+/// The letter of a kind of listing, which is the first field of its token.
+pub fn kind_text(kind: ListKind) -> &'static str
     ensures { result.now ≡ kind_field kind }
 {
     match kind {

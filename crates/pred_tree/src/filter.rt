@@ -1,9 +1,10 @@
 // Which files of a table a query is answered.
 ghost use Rattle.std.specs.Prelude.{◌≡◌, IfOk, option_map};
-ghost use Rattle.pred_tree.specs.Listing.{IsFilter, passes};
+ghost use Rattle.pred_tree.specs.Listing.{IsFilter, passes, pred_by};
 ghost use Rattle.pred_tree.specs.Tree.{tree};
 
-use crate::{BoundPred, Pred, bind};
+use crate::{BoundPred, Pred, bind, pred_of};
+use json_tree::Text;
 use log_actions::{AddFile, MetaData};
 use part_values::columns_of;
 use std::alloc::{AllocError, Global};
@@ -29,6 +30,22 @@ impl Filter {
         Ok(Filter {
             pred: Some(bind(alloc, pred, &columns)?),
         })
+    }
+
+    /// The filter of the text that a query gives as its predicate: all files pass where there is none, and where it is no predicate.
+    /// The error is want of memory.
+    pub fn of_hint(
+        alloc: Global,
+        hint: &Option<Text>,
+        meta: &MetaData,
+    ) -> Result<Filter, AllocError>
+        ensures { IfOk result (IsFilter (pred_by hint.now) meta.now) }
+    {
+        let pred = match hint {
+            Some(text) => pred_of(alloc, text.as_str())?,
+            None => None,
+        };
+        Filter::of(alloc, &pred, meta)
     }
 
     /// Whether the file is listed. Takes no memory.

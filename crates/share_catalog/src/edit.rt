@@ -1,5 +1,6 @@
 // The edits of a catalogue.
-ghost use Rattle.std.specs.Prelude.{◌≡◌, IfOk};
+ghost use Rattle.std.specs.Prelude.{◌≡◌, IfOk, option_map};
+ghost use Rattle.share_catalog.specs.Catalogue.{bound_location};
 
 use crate::credential::Credential;
 use crate::location::Location;
@@ -75,6 +76,16 @@ pub enum Edit {
 }
 
 impl Edit {
+    /// The location that the edit binds, none where it binds none.
+    pub fn bound_location(&self) -> Option<&Location>
+        ensures { option_map (λ l. l.now) result ≡ bound_location self.now }
+    {
+        match self {
+            Edit::Bind { binding, .. } => Some(&binding.location),
+            _ => None,
+        }
+    }
+
     /// The same edit again. The error is want of memory.
     pub fn copy(&self, alloc: Global) -> Result<Edit, AllocError>
         ensures { IfOk result (λ e. e ≡ self.now) }

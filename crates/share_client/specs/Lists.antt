@@ -1,10 +1,10 @@
 -- Lists of a server (Delta Sharing PROTOCOL.md, "List Shares" and "List All Tables in a Share"): an object with `items`, which may be
 -- absent, and `nextPageToken`, which may be absent or empty where no page is left. Other members are passed over.
-use Rattle.std.specs.Prelude.{ℕ, List, [], ◌∷◌, Option, Some, None, Result, Ok, Err, length, nat_eq, option_map, if◌then◌else◌, codes}
+use Rattle.std.specs.Prelude.{ℕ, List, [], ◌∷◌, Option, Some, None, Result, Ok, Err, option_map, codes}
 use Rattle.serde_json.specs.Data.{Data, Items, no_items, item}
 use Rattle.serde_json.specs.Find.{as_array, as_object, as_str}
 use Rattle.json_tree.specs.Fields.{field, present}
-use Rattle.json_tree.specs.Options.{◌>>=◌}
+use Rattle.json_tree.specs.Options.{◌>>=◌, unless_empty}
 use Rattle.json_tree.specs.Tree.{tree_in}
 use Rattle.json_tree.specs.declared.tree.TreeFault.{TreeFault}
 use Rattle.json_tree.specs.declared.fields.FieldFault.{FieldFault}
@@ -29,11 +29,6 @@ table_in d = do
   schema ← name_in (codes "schema") d
   table ← name_in (codes "name") d
   Some (record { share = share; schema = schema; table = table })
-
--- an empty text is as good as none
-abbrev pub unless_empty : Option (List ℕ) → Option (List ℕ)
-unless_empty None = None
-unless_empty (Some text) = if nat_eq (length text) 0 then None else Some text
 
 abbrev pub or_other_kind : Result (Option (List ℕ)) FieldFault → Option (Option (List ℕ))
 or_other_kind (Ok text) = Some (unless_empty text)

@@ -1,7 +1,7 @@
 -- A page of a table's files or of its changes (Delta Sharing PROTOCOL.md, "Read Data from a Table" and "Read Change Data Feed from a
 -- Table"): the protocol, the metadata, the files or changes in order, and perhaps an end with the token of the next page.
 use Rattle.std.specs.Prelude.{ℕ, ◌==◌, Bool, List, [], ◌∷◌, length, bytes_eq, Option, Some, None, Result, Ok, Err, option_map, decimal, if◌then◌else◌}
-use Rattle.json_tree.specs.Options.{◌>>=◌}
+use Rattle.json_tree.specs.Options.{◌>>=◌, unless_empty}
 use Rattle.share_lines.specs.Bodies.{lines_in}
 use Rattle.share_lines.specs.Printing.{line_text}
 use Rattle.share_lines.specs.declared.faults.LinesFault.{LinesFault}
@@ -11,7 +11,7 @@ use Rattle.share_lines.specs.declared.kinds.Line.{Line}
 use Rattle.share_lines.specs.declared.kinds.Line.TheVariants as line
 use Rattle.share_lines.specs.declared.kinds.MetaLine.{MetaLine}
 use Rattle.share_client.specs.Listings.{or_start}
-use Rattle.share_client.specs.Lists.{Listing, unless_empty}
+use Rattle.share_client.specs.Lists.{Listing}
 use Rattle.share_client.specs.TableVersions.{version_in}
 use Rattle.share_client.specs.declared.exchange.Response.{Response}
 use Rattle.share_client.specs.declared.page_head.PageHead.{PageHead}

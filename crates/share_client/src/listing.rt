@@ -2,12 +2,12 @@
 ghost use Rattle.std.specs.Prelude.{◌≡◌, ◌++◌, List, Option, IfOk, Some, codes, option_map};
 ghost use Rattle.serde_json.specs.Data.{Data};
 ghost use Rattle.serde_json.specs.View.{view, items_view};
-ghost use Rattle.share_client.specs.Lists.{list_in, name_in, page_in, table_in, token_in, unless_empty};
+ghost use Rattle.share_client.specs.Lists.{list_in, name_in, page_in, table_in, token_in};
 ghost use Rattle.share_client.specs.Reads.{GivesText, ReadsItems, ReadsPage};
 
 use crate::ClientFault;
 use crate::target::text_of;
-use json_tree::{FieldFault, Text, TreeFault, member_at, text_at, tree_of};
+use json_tree::{FieldFault, Text, TreeFault, member_at, text_at, tree_of, unless_empty};
 use serde_json::Value;
 use std::alloc::{AllocError, Global};
 
@@ -99,15 +99,6 @@ fn read_items<T: Listed>(
         }
     }
     Ok(())
-}
-
-pub(crate) fn unless_empty(token: Option<Text>) -> Option<Text>
-    ensures { result ≡ unless_empty token }
-{
-    match token {
-        Some(text) if text.as_str().is_empty() => None,
-        token => token,
-    }
 }
 
 // The token of the next page.

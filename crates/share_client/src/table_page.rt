@@ -8,10 +8,9 @@ ghost use Rattle.share_client.specs.TableSteps.{ReadsParts, ReadsTablePage};
 
 use crate::ClientFault;
 use crate::exchange::Response;
-use crate::listing::unless_empty;
 use crate::page_head::PageHead;
 use crate::table_version::version_in;
-use json_tree::Text;
+use json_tree::{Text, unless_empty};
 use share_lines::{FileLine, Line, LinesFault, MetaLine, line_text, lines_of};
 use std::alloc::{AllocError, Global};
 use std::collections::VecDeque;

@@ -19,14 +19,15 @@ use Rattle.log_store.specs.Refusals.{failed_load}
 use Rattle.log_store.specs.declared.refusal.LoadRefusal.{LoadRefusal}
 use Rattle.log_store.specs.declared.refusal.LoadRefusal.TheVariants as refusal
 use Rattle.share_commands.specs.ClientSteps.{CallOf, if_found, unread, IsBody, IsInputBody, IsProfile, LooksAndReads, NotesNothing, ReadsOnly}
-use Rattle.share_commands.specs.Outside.{Outside}
-use Rattle.share_commands.specs.Query.{IsReadToEnd, input_limit}
+use Rattle.query_command.specs.Outside.{Outside}
+use Rattle.query_command.specs.Query.{IsReadToEnd, input_limit}
 use Rattle.share_commands.specs.StdioSteps.{LooksOnly}
-use Rattle.share_commands.specs.Steps.{LeavesRest, Runs, Tells}
+use Rattle.query_command.specs.Writing.{LeavesRest, Tells}
+use Rattle.share_commands.specs.Steps.{Runs}
 use Rattle.share_commands.specs.declared.client.NoCall.{NoCall}
 use Rattle.share_commands.specs.declared.client.NoCall.TheVariants as no_call
-use Rattle.share_commands.specs.declared.ends.End.{End}
-use Rattle.share_commands.specs.declared.ends.End.TheVariants as ends
+use Rattle.query_command.specs.declared.ends.End.{End}
+use Rattle.query_command.specs.declared.ends.End.TheVariants as ends
 use Rattle.share_commands.specs.declared.words.Command.{Command}
 use Rattle.share_commands.specs.declared.words.Command.TheVariants as command
 use Rattle.share_commands.specs.declared.words.CallWords.{CallWords}

@@ -19,13 +19,14 @@ use Rattle.share_pool.specs.declared.desk.ServeEnd.TheVariants as serve_end
 use Rattle.share_serve.specs.Callers.{server_of}
 use Rattle.share_serve.specs.declared.server.Server.{Server}
 use Rattle.turn_cell.specs.Passes.{AllFresh, fresh}
-use Rattle.share_commands.specs.Outside.{Outside}
+use Rattle.query_command.specs.Outside.{Outside}
 use Rattle.share_commands.specs.Serve.{AllWait, DoorFails, IsServing, OpensServer, Serves, ServesAt, UsesDesks, Waits, WorkersServe, WorksAt, end_of}
 use Rattle.share_commands.specs.Stdio.{Configures}
 use Rattle.share_commands.specs.StdioSteps.{LooksOnly, OpensFor}
-use Rattle.share_commands.specs.Steps.{Runs, Tells}
-use Rattle.share_commands.specs.declared.ends.End.{End}
-use Rattle.share_commands.specs.declared.ends.End.TheVariants as ends
+use Rattle.query_command.specs.Writing.{Tells}
+use Rattle.share_commands.specs.Steps.{Runs}
+use Rattle.query_command.specs.declared.ends.End.{End}
+use Rattle.query_command.specs.declared.ends.End.TheVariants as ends
 use Rattle.share_commands.specs.declared.opening.NoServer.TheVariants as no_server
 use Rattle.share_commands.specs.declared.words.Command.{Command}
 use Rattle.share_commands.specs.declared.words.Command.TheVariants as command

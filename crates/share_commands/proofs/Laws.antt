@@ -19,18 +19,20 @@ use Rattle.share_commands.specs.declared.client.NoCall.TheVariants as no_call
 use Rattle.share_commands.specs.declared.words.CallWords.{CallWords}
 use Rattle.share_commands.specs.declared.words.CallWords.TheVariants as worded
 use Rattle.share_commands.specs.Configuration.{config_at}
-use Rattle.share_commands.specs.declared.ends.TableRefusal.{TableRefusal}
+use Rattle.query_command.specs.declared.ends.TableRefusal.{TableRefusal}
 use Rattle.share_commands.specs.Words.{command_in}
-use Rattle.share_commands.specs.Ends.{status, note}
-use Rattle.share_commands.specs.Table.{lines_in}
-use Rattle.share_commands.specs.Outside.{Outside}
-use Rattle.share_commands.specs.Query.{asked_in}
-use Rattle.share_commands.specs.Run.{Because, IsQuery, Answers, Means, Notes, IsRun}
+use Rattle.query_command.specs.Ends.{status, note}
+use Rattle.query_command.specs.Table.{lines_in}
+use Rattle.query_command.specs.Answer.{IsAnswer, QueryEnds}
+use Rattle.query_command.specs.Outside.{Outside}
+use Rattle.query_command.specs.Query.{asked_in}
+use Rattle.query_command.specs.Writing.{Notes}
+use Rattle.share_commands.specs.Run.{Because, IsText, TextEnds, IsRun}
 use Rattle.share_commands.specs.Serve.{IsServe}
 use Rattle.share_commands.specs.Stdio.{Configures, IsServed, IsStdio, IsUnserved, end_after, end_without}
 use Rattle.share_commands.specs.Expected.{Deed, Wanted, deed, serve, host, printed, answered, asked_of, configured, refused, queried, done, IsCalm, Fulfils, IsExact, IsExactAlone}
-use Rattle.share_commands.specs.declared.ends.End.{End}
-use Rattle.share_commands.specs.declared.ends.End.TheVariants as ends
+use Rattle.query_command.specs.declared.ends.End.{End}
+use Rattle.query_command.specs.declared.ends.End.TheVariants as ends
 use Rattle.share_commands.specs.declared.opening.NoServer.{NoServer}
 use Rattle.share_commands.specs.declared.opening.NoServer.TheVariants as no_server
 use Rattle.share_commands.specs.declared.words.Command.{Command}
@@ -60,60 +62,58 @@ listed_at : (objects : Objects) (new : Option Objects) (P : Objects → Type 0) 
 listed_at objects new P (None, begun, ended, p) = absurd (true≢false begun)
 listed_at objects new P (Some listed, begun, ended, p) = (listed, begun, ended, p)
 
--- ---- commands that are answered one text
+-- ---- commands that print one text
 
--- what is asked is answered so: the deed of that answer is the expected one
-by_answer : (asked : Option Command) (old new : Outside) (input : List ℕ) (objects : Objects) (held noted : List ℕ) (result : ℕ) (answer : Result (List ℕ) TableRefusal) → IsCalm old new input objects held noted → Grows old.objects new.objects
-    → Answers asked old new answer → result ≡ (answered answer).status → Notes old new (answered answer).notes → new.held ≡ Some (held ++ (answered answer).output) → DoesAt asked old new input objects held noted result
-by_answer None old new input objects held noted result answer calm grows a st n o = absurd a
-by_answer (Some command.Stdio) old new input objects held noted result answer calm grows a st n o = absurd a
-by_answer (Some (command.Rehearse number)) old new input objects held noted result answer calm grows (text, is, summary) st n o =
+by_text : (asked : Option Command) (old new : Outside) (input : List ℕ) (objects : Objects) (held noted : List ℕ) (result : ℕ) (text : List ℕ) → IsCalm old new input objects held noted → Grows old.objects new.objects
+    → IsText asked text → result ≡ 0 → Notes old new [] → new.held ≡ Some (held ++ text) → DoesAt asked old new input objects held noted result
+by_text None old new input objects held noted result text calm grows is st n o = absurd is
+by_text (Some command.Stdio) old new input objects held noted result text calm grows is st n o = absurd is
+by_text (Some (command.Query location)) old new input objects held noted result text calm grows is st n o = absurd is
+by_text (Some (command.Serve port workers)) old new input objects held noted result text calm grows is st n o = absurd is
+by_text (Some (command.Client name call_words)) old new input objects held noted result text calm grows is st n o = absurd is
+by_text (Some (command.Rehearse number)) old new input objects held noted result text calm grows is st n o =
     at_beginning (Some (command.Rehearse number)) old new input objects held noted result calm grows
-    (text, summary, deed_then old new input objects held noted result (answered answer) (deed (printed text)) calm st n o (ap (λ r. deed (answered r)) is))
-by_answer (Some (command.Serve port workers)) old new input objects held noted result answer calm grows a st n o = absurd a
-by_answer (Some (command.Client name call_words)) old new input objects held noted result answer calm grows a st n o = absurd a
-by_answer (Some command.Help) old new input objects held noted result answer calm grows a st n o =
-    at_beginning (Some command.Help) old new input objects held noted result calm grows (deed_then old new input objects held noted result (answered answer) _ calm st n o (ap (λ r. deed (answered r)) a))
-by_answer (Some command.Version) old new input objects held noted result answer calm grows a st n o =
-    at_beginning (Some command.Version) old new input objects held noted result calm grows (deed_then old new input objects held noted result (answered answer) _ calm st n o (ap (λ r. deed (answered r)) a))
-by_answer (Some (command.Query location)) old new input objects held noted result answer calm grows (query, asks, end, between) st n o =
+    (text, is, deed_then old new input objects held noted result (printed text) (deed (printed text)) calm st n o refl)
+by_text (Some command.Help) old new input objects held noted result text calm grows is st n o =
+    at_beginning (Some command.Help) old new input objects held noted result calm grows (deed_then old new input objects held noted result (printed text) _ calm st n o (ap (λ t. deed (printed t)) is))
+by_text (Some command.Version) old new input objects held noted result text calm grows is st n o =
+    at_beginning (Some command.Version) old new input objects held noted result calm grows (deed_then old new input objects held noted result (printed text) _ calm st n o (ap (λ t. deed (printed t)) is))
+
+text_law : (asked : Option Command) (old new : Outside) (end : End) (result : ℕ) (input : List ℕ) (objects : Objects) (held noted : List ℕ) → result ≡ status end → TextEnds asked old new end → Notes old new (note end) → Grows old.objects new.objects
+    → IsCalm old new input objects held noted → (result ≡ 6) ⊎ DoesAt asked old new input objects held noted result
+text_law asked old new ends.Words result input objects held noted st m n g calm =
+    inr (at_beginning asked old new input objects held noted result calm g (deed_then old new input objects held noted result (refused ends.Words) _ calm st n (kept_then old new held calm.tells_held m.1) (sym (ap (λ a. done a input objects) m.0))))
+text_law asked old new ends.WriteFault result input objects held noted st m n g calm = absurd (calm.writes m.0)
+text_law asked old new ends.NoMemory result input objects held noted st m n g calm = inl st
+text_law asked old new ends.Done result input objects held noted st (text, is, written) n g calm =
+    inr (by_text asked old new input objects held noted result text calm g is st n (written ∙ ap (λ known. append_known known text) calm.tells_held))
+text_law asked old new other result input objects held noted st m n g calm = absurd m
+
+-- ---- queries
+
+-- the deed of the answer is the expected one
+by_answer : (location : List ℕ) (old new : Outside) (input : List ℕ) (objects : Objects) (held noted : List ℕ) (result : ℕ) (answer : Result (List ℕ) TableRefusal) → IsCalm old new input objects held noted
+    → IsAnswer location old new answer → result ≡ (answered answer).status → Notes old new (answered answer).notes → new.held ≡ Some (held ++ (answered answer).output) → DoesAt (Some (command.Query location)) old new input objects held noted result
+by_answer location old new input objects held noted result answer calm (query, asks, end, between) st n o =
     let (listed, begun, ended, lines) = listed_at objects new.objects (λ os. lines_in location query os ≡ answer) (subst (λ o. Between o new.objects (λ os. lines_in location query os ≡ answer)) calm.tells_objects between) in
     let asked : asked_in input ≡ Some query = subst (λ l. IfSome l (λ bytes. asked_in bytes ≡ Some query)) calm.tells_left asks in
     (listed, begun, ended, deed_then old new input objects held noted result (answered answer) _ calm st n o (ap (λ r. deed (answered r)) (sym lines) ∙ sym (ap (λ q. deed (queried location q listed)) asked)))
 
-nothing_asked : (asked : Option Command) (input : List ℕ) (objects : Objects) → IsQuery asked → asked_in input ≡ None → deed (refused ends.Input) ≡ done asked input objects
-nothing_asked None input objects query none = absurd query
-nothing_asked (Some command.Help) input objects query none = absurd query
-nothing_asked (Some command.Version) input objects query none = absurd query
-nothing_asked (Some command.Stdio) input objects query none = absurd query
-nothing_asked (Some (command.Rehearse number)) input objects query none = absurd query
-nothing_asked (Some (command.Serve port workers)) input objects query none = absurd query
-nothing_asked (Some (command.Client name call_words)) input objects query none = absurd query
-nothing_asked (Some (command.Query location)) input objects query none = sym (ap (λ q. deed (queried location q objects)) none)
-
-text_law : (asked : Option Command) (old new : Outside) (end : End) (result : ℕ) (input : List ℕ) (objects : Objects) (held noted : List ℕ) → result ≡ status end → Means asked old new end → Notes old new (note end) → Grows old.objects new.objects
-    → IsCalm old new input objects held noted → (result ≡ 6) ⊎ DoesAt asked old new input objects held noted result
-text_law asked old new ends.Words result input objects held noted st m n g calm =
-    inr (at_beginning asked old new input objects held noted result calm g (deed_then old new input objects held noted result (refused ends.Words) _ calm st n (kept_then old new held calm.tells_held m.1) (sym (ap (λ a. done a input objects) m.0))))
-text_law asked old new ends.Input result input objects held noted st m n g calm =
-    inr (at_beginning asked old new input objects held noted result calm g
-    (deed_then old new input objects held noted result (refused ends.Input) _ calm st n (kept_then old new held calm.tells_held m.2) (nothing_asked asked input objects m.0 (subst (λ l. IfSome l (λ bytes. asked_in bytes ≡ None)) calm.tells_left m.1))))
-text_law asked old new ends.Configuration result input objects held noted st m n g calm = absurd m
-text_law asked old new ends.Profile result input objects held noted st m n g calm = absurd m
-text_law asked old new ends.Url result input objects held noted st m n g calm = absurd m
-text_law asked old new (ends.Record number) result input objects held noted st m n g calm = absurd m
-text_law asked old new (ends.Peer why) result input objects held noted st m n g calm = absurd m
-text_law asked old new ends.PeerFault result input objects held noted st m n g calm = absurd m
-text_law asked old new ends.ReadFault result input objects held noted st m n g calm = absurd (calm.reads m.1)
-text_law asked old new ends.StoreFault result input objects held noted st m n g calm = absurd (calm.stores m.2)
-text_law asked old new ends.WriteFault result input objects held noted st m n g calm = absurd (calm.writes m.0)
-text_law asked old new ends.ListenerFault result input objects held noted st m n g calm = absurd m
-text_law asked old new ends.BodyCut result input objects held noted st m n g calm = absurd m
-text_law asked old new ends.NoMemory result input objects held noted st m n g calm = inl st
-text_law asked old new (ends.Table why) result input objects held noted st m n g calm =
-    inr (by_answer asked old new input objects held noted result (Err why) calm g m.0 st n (kept_then old new held calm.tells_held m.1))
-text_law asked old new ends.Done result input objects held noted st (text, answers, written) n g calm =
-    inr (by_answer asked old new input objects held noted result (Ok text) calm g answers st n (written ∙ ap (λ known. append_known known text) calm.tells_held))
+query_law : (location : List ℕ) (old new : Outside) (end : End) (result : ℕ) (input : List ℕ) (objects : Objects) (held noted : List ℕ) → result ≡ status end → QueryEnds location old new end → Notes old new (note end) → Grows old.objects new.objects
+    → IsCalm old new input objects held noted → (result ≡ 6) ⊎ DoesAt (Some (command.Query location)) old new input objects held noted result
+query_law location old new ends.Input result input objects held noted st m n g calm =
+    inr (at_beginning (Some (command.Query location)) old new input objects held noted result calm g
+    (deed_then old new input objects held noted result (refused ends.Input) _ calm st n (kept_then old new held calm.tells_held m.1)
+    (sym (ap (λ q. deed (queried location q objects)) (subst (λ l. IfSome l (λ bytes. asked_in bytes ≡ None)) calm.tells_left m.0)))))
+query_law location old new ends.ReadFault result input objects held noted st m n g calm = absurd (calm.reads m.0)
+query_law location old new ends.StoreFault result input objects held noted st m n g calm = absurd (calm.stores m.1)
+query_law location old new ends.WriteFault result input objects held noted st m n g calm = absurd (calm.writes m.0)
+query_law location old new ends.NoMemory result input objects held noted st m n g calm = inl st
+query_law location old new (ends.Table why) result input objects held noted st m n g calm =
+    inr (by_answer location old new input objects held noted result (Err why) calm m.0 st n (kept_then old new held calm.tells_held m.1))
+query_law location old new ends.Done result input objects held noted st (text, answer, written) n g calm =
+    inr (by_answer location old new input objects held noted result (Ok text) calm answer st n (written ∙ ap (λ known. append_known known text) calm.tells_held))
+query_law location old new other result input objects held noted st m n g calm = absurd m
 
 -- ---- servers
 
@@ -243,7 +243,7 @@ law_at : (asked : Option Command) (old new : Outside) (end : End) (result : ℕ)
 law_at None old new end result input objects held noted st m n g calm = text_law None old new end result input objects held noted st m n g calm
 law_at (Some command.Help) old new end result input objects held noted st m n g calm = text_law (Some command.Help) old new end result input objects held noted st m n g calm
 law_at (Some command.Version) old new end result input objects held noted st m n g calm = text_law (Some command.Version) old new end result input objects held noted st m n g calm
-law_at (Some (command.Query location)) old new end result input objects held noted st m n g calm = text_law (Some (command.Query location)) old new end result input objects held noted st m n g calm
+law_at (Some (command.Query location)) old new end result input objects held noted st m n g calm = query_law location old new end result input objects held noted st m n g calm
 law_at (Some (command.Rehearse number)) old new end result input objects held noted st m n g calm = text_law (Some (command.Rehearse number)) old new end result input objects held noted st m n g calm
 law_at (Some command.Stdio) old new end result input objects held noted st m n g calm = stdio_law old new end result input objects held noted st m n calm
 law_at (Some (command.Client name call_words)) old new end result input objects held noted st m n g calm = client_law name call_words old new end result input objects held noted st m n calm

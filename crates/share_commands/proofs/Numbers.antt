@@ -1,39 +1,15 @@
 -- Numbers of the command line.
-use Rattle.std.proofs.Common.{◌≡◌, ℕ, ◌^◌, ◌<◌, ◌≤◌, ◌==◌, ◌&&◌, List, [], ◌∷◌, length, Bool, true, false, not, nat_lt, Option, Some, None, Result, Err, String, Global, leb-true, refl, sym, ap, ◌∙◌, subst, arith, eqb-true, lt-ltb, true≢false, if◌then◌else◌}
+use Rattle.std.proofs.Common.{◌≡◌, ℕ, ◌^◌, ◌-◌, ◌≤◌, ◌&&◌, List, [], ◌∷◌, Bool, true, false, Option, Some, None, String, Global, leb-true, refl, sym, ap, ◌∙◌, subst, if◌then◌else◌}
 use Rattle.std.specs.Prelude.{IfSome, bytes_eq, codes, nat_le, option_and_then, option_map, string_bytes}
-use Rattle.std.specs.Char.{is_ascii_digit}
-use Rattle.std.specs.List.{list_all}
-use Rattle.std.specs.Str.Parse.{digits_value, ParsesUnsigned}
-use Rattle.std.proofs.lemmas.Bool.{and_from, and_parts}
+use Rattle.std.specs.Str.Parse.{digits_value}
+use Rattle.std.proofs.lemmas.Bool.{and_from, and_parts, le-leb}
 use Rattle.text_forms.specs.Numbers.{is_digits}
-use Rattle.text_forms.proofs.Digits as digits
-use Rattle.share_commands.specs.Words.{below_in, command_in, call_words_in, is_plain, location_in, name_in, number_in, serve_or_none}
+use Rattle.text_forms.specs.Numbers as numbers
+use Rattle.query_command.specs.Answer.{location_in}
+use Rattle.share_commands.specs.Words.{begins_with_zero, command_in, call_words_in, name_in, number_in, serve_or_none}
 use Rattle.share_commands.specs.declared.words.CallWords.{CallWords}
 use Rattle.share_commands.specs.declared.words.Command.{Command}
 use Rattle.share_commands.specs.declared.words.Command.TheVariants as command
-
-plain_some : (text : List ℕ) → is_plain text ≡ true → 0 < length text
-plain_some [] plain = absurd (true≢false (sym plain))
-plain_some (d ∷ ds) plain = omega arith
-
-zero_digits : (d : ℕ) (ds : List ℕ) → d ≡ 48 → not (nat_lt 0 (length ds)) ≡ true → list_all is_ascii_digit (d ∷ ds) ≡ true
-zero_digits d [] is none = subst (λ (x : ℕ). list_all is_ascii_digit (x ∷ []) ≡ true) (sym is) refl
-zero_digits d (x ∷ xs) is none = absurd (true≢false (sym (sym (ap not (lt-ltb 0 (length (x ∷ xs)) (omega arith))) ∙ none)))
-
-digits_by : (d : ℕ) (ds : List ℕ) (test : Bool) → (d == 48) ≡ test → (if test then not (nat_lt 0 (length ds)) else is_ascii_digit d && list_all is_ascii_digit ds) ≡ true → list_all is_ascii_digit (d ∷ ds) ≡ true
-digits_by d ds true is plain = zero_digits d ds (eqb-true d 48 is) plain
-digits_by d ds false is plain = plain
-
-plain_digits : (text : List ℕ) → is_plain text ≡ true → list_all is_ascii_digit text ≡ true
-plain_digits [] plain = refl
-plain_digits (d ∷ ds) plain = digits_by d ds (d == 48) refl plain
-
-plain_is_digits : (text : List ℕ) → is_plain text ≡ true → is_digits text ≡ true
-plain_is_digits text plain = and_from _ _ (lt-ltb 0 (length text) (plain_some text plain)) (plain_digits text plain)
-
--- digits that aren't read write a number of more than 64 bits
-pub too_large : {E : Type 0} (text : List ℕ) (r : Result ℕ E) (e : E) → ParsesUnsigned 64 10 text r → r ≡ Err e → is_plain text ≡ true → 2 ^ 64 ≤ digits_value 10 text
-too_large text r e h is plain = digits.too_large text r e h is (plain_is_digits text plain)
 
 -- ---- the words of `serve`
 
@@ -60,15 +36,26 @@ serve_bounded None workers within = tt
 serve_bounded (Some port) None within = tt
 serve_bounded (Some port) (Some n) within = within
 
-within_if : (value most : ℕ) (plain test : Bool) → (plain && (nat_le 1 value && nat_le value most)) ≡ test → IfSome (if test then Some value else None) (λ n. (1 ≤ n) × (n ≤ most))
-within_if value most plain true is =
-    let parts = and_parts plain (nat_le 1 value && nat_le value most) is in
-    let both = and_parts (nat_le 1 value) (nat_le value most) parts.1 in
-    (leb-true 1 value both.0, leb-true value most both.1)
-within_if value most plain false is = tt
+within_if : (low high value : ℕ) (digits test : Bool) → (digits && (nat_le low value && nat_le value high)) ≡ test → IfSome (if test then Some value else None) (λ n. (low ≤ n) × (n ≤ high))
+within_if low high value digits true is =
+    let parts = and_parts digits (nat_le low value && nat_le value high) is in
+    let both = and_parts (nat_le low value) (nat_le value high) parts.1 in
+    (leb-true low value both.0, leb-true value high both.1)
+within_if low high value digits false is = tt
 
-number_within : (most : ℕ) (word : List ℕ) → IfSome (number_in most word) (λ n. (1 ≤ n) × (n ≤ most))
-number_within most word = within_if (digits_value 10 word) most (is_plain word) _ refl
+unless : (zero : Bool) (found : Option ℕ) (P : ℕ → Type 0) → IfSome found P → IfSome (if zero then None else found) P
+unless true found P p = tt
+unless false found P p = p
+
+-- a number that is read lies within its bounds
+pub number_within : (low high : ℕ) (word : List ℕ) → IfSome (number_in low high word) (λ n. (low ≤ n) × (n ≤ high))
+number_within low high word = unless (begins_with_zero word) (numbers.number_in low high word) (λ n. (low ≤ n) × (n ≤ high)) (within_if low high (digits_value 10 word) (is_digits word) _ refl)
+
+-- a number of these bounds is the size of a piece
+pub piece_within : (word : List ℕ) (n : ℕ) (piece : Option ℕ) → Some n ≡ number_in 1 134217728 word → piece ≡ (if nat_le 1 n && nat_le n 134217728 then Some n else None) → piece ≡ number_in 1 134217728 word
+piece_within word n piece read made =
+    let within = subst (λ o. IfSome o (λ m. (1 ≤ m) × (m ≤ 134217728))) (sym read) (number_within 1 134217728 word) in
+    made ∙ ap (λ (b : Bool). if b then Some n else None) (and_from (nat_le 1 n) (nat_le n 134217728) (le-leb 1 n within.0) (le-leb n 134217728 within.1)) ∙ read
 
 rehearse_bounded : (number : Option ℕ) → Bounded (option_map command.Rehearse number)
 rehearse_bounded None = tt
@@ -80,7 +67,7 @@ client_bounded (Some profile) None = tt
 client_bounded (Some profile) (Some e) = tt
 
 three_bounded : (word port workers : List ℕ) (words : List (String Global)) → Bounded (serve_or_none word port workers words)
-three_bounded word port workers [] = bounded_if (bytes_eq word (codes "serve")) _ None (serve_bounded (number_in 65535 port) (number_in 64 workers) (number_within 64 workers)) tt
+three_bounded word port workers [] = bounded_if (bytes_eq word (codes "serve")) _ None (serve_bounded (number_in 1 65535 port) (number_in 1 64 workers) (number_within 1 64 workers)) tt
 three_bounded word port workers (more ∷ words) = tt
 
 all_bounded : (words : List (String Global)) → Bounded (command_in words)
@@ -90,7 +77,7 @@ all_bounded (word ∷ []) =
     (bounded_if (bytes_eq (string_bytes word) (codes "--help")) (Some command.Help) _ tt (bounded_if (bytes_eq (string_bytes word) (codes "--version")) (Some command.Version) None tt tt))
 all_bounded (word ∷ second ∷ []) =
     bounded_if (bytes_eq (string_bytes word) (codes "query")) _ _ (query_bounded (location_in (string_bytes second)))
-    (bounded_if (bytes_eq (string_bytes word) (codes "rehearse")) _ None (rehearse_bounded (below_in (2 ^ 32) (string_bytes second))) tt)
+    (bounded_if (bytes_eq (string_bytes word) (codes "rehearse")) _ None (rehearse_bounded (number_in 0 (2 ^ 32 - 1) (string_bytes second))) tt)
 all_bounded (word ∷ second ∷ third ∷ words) =
     bounded_if (bytes_eq (string_bytes word) (codes "client")) _ _ (client_bounded (name_in (string_bytes third)) (call_words_in (string_bytes second) words)) (three_bounded (string_bytes word) (string_bytes second) (string_bytes third) words)
 

@@ -32,7 +32,7 @@ use Rattle.share_serve.specs.declared.serve.SessionEnd.{SessionEnd}
 use Rattle.share_serve.specs.declared.serve.SessionEnd.TheVariants as session_end
 use Rattle.turn_cell.specs.Passes.{AllFresh, fresh}
 use Rattle.share_commands.specs.Configuration.{config_at, config_name, config_of, if_config}
-use Rattle.share_commands.specs.Outside.{Outside}
+use Rattle.query_command.specs.Outside.{Outside}
 use Rattle.share_commands.specs.Steps.{Runs}
 use Rattle.share_commands.specs.Stdio.{Configures, HasReason, Opens, RefusesRecord, end_after, end_without, record_in, shelf_of}
 use Rattle.share_commands.specs.StdioSteps.{LooksOnly, OpensFor, ServesOne, without_hub, without_load}

@@ -11,8 +11,8 @@ use Rattle.client_calls.specs.Bodies.{body_in}
 use Rattle.client_calls.specs.declared.call.Call.{Call}
 use Rattle.share_client.specs.declared.fault.ClientFault.{ClientFault}
 use Rattle.share_commands.specs.Clients.{HasNoCall, HasProfile, IsRead, NamesCall, input_body}
-use Rattle.share_commands.specs.Outside.{Outside}
-use Rattle.share_commands.specs.Query.{IsReadToEnd}
+use Rattle.query_command.specs.Outside.{Outside}
+use Rattle.query_command.specs.Query.{IsReadToEnd}
 use Rattle.share_commands.specs.declared.client.NoCall.{NoCall}
 use Rattle.share_commands.specs.declared.client.NoCall.TheVariants as no_call
 use Rattle.share_commands.specs.declared.words.CallWords.{CallWords}

@@ -13,13 +13,13 @@ use Rattle.client_calls.specs.Calls.{CallCause, Performs, TellsBadUrl}
 use Rattle.client_calls.specs.ProfileObjects.{profile_at}
 use Rattle.client_calls.specs.declared.call.Call.{Call}
 use Rattle.client_calls.specs.declared.call.Call.TheVariants as calls
-use Rattle.share_commands.specs.Outside.{Outside}
-use Rattle.share_commands.specs.Query.{IsReadToEnd, input_limit}
+use Rattle.query_command.specs.Outside.{Outside}
+use Rattle.query_command.specs.Query.{IsReadToEnd, input_limit}
 use Rattle.share_commands.specs.declared.client.NoCall.{NoCall}
 use Rattle.share_commands.specs.declared.client.NoCall.TheVariants as no_call
-use Rattle.share_commands.specs.declared.ends.End.{End}
-use Rattle.share_commands.specs.declared.ends.End.TheVariants as ends
-use Rattle.share_commands.specs.declared.ends.PeerRefusal.TheVariants as peer
+use Rattle.query_command.specs.declared.ends.End.{End}
+use Rattle.query_command.specs.declared.ends.End.TheVariants as ends
+use Rattle.query_command.specs.declared.ends.PeerRefusal.TheVariants as peer
 use Rattle.share_commands.specs.declared.words.Command.{Command}
 use Rattle.share_commands.specs.declared.words.Command.TheVariants as command
 use Rattle.share_commands.specs.declared.words.CallWords.{CallWords}

@@ -4,7 +4,7 @@ use Rattle.std.specs.declared.alloc.Global.{Global}
 use Rattle.edge_core.specs.Faults.{Rose}
 use Rattle.edge_core.specs.Objects.{Objects, Grows}
 use Rattle.share_config.specs.declared.config.Config.{Config}
-use Rattle.share_commands.specs.declared.ends.TableRefusal.{TableRefusal}
+use Rattle.query_command.specs.declared.ends.TableRefusal.{TableRefusal}
 use Rattle.share_client.specs.declared.fault.ClientFault.{ClientFault}
 use Rattle.share_config.specs.declared.profile.Profile.{Profile}
 use Rattle.client_calls.specs.ProfileObjects.{profile_at}
@@ -13,18 +13,18 @@ use Rattle.share_loop.specs.Summaries.{IsSummary}
 use Rattle.share_commands.specs.Clients.{call_in, end_called}
 use Rattle.share_commands.specs.Configuration.{config_at}
 use Rattle.share_commands.specs.Words.{command_in}
-use Rattle.share_commands.specs.Ends.{status, note}
-use Rattle.share_commands.specs.Query.{asked_in}
+use Rattle.query_command.specs.Ends.{status, note}
+use Rattle.query_command.specs.Query.{asked_in}
 use Rattle.share_hub.specs.CatalogCalls.{Step}
 use Rattle.share_commands.specs.Serve.{OpensServer, end_of}
 use Rattle.share_commands.specs.Stdio.{IsServed, IsUnserved, end_after}
 use Rattle.share_pool.specs.declared.desk.ServeEnd.{ServeEnd}
-use Rattle.share_commands.specs.Table.{lines_in}
+use Rattle.query_command.specs.Table.{lines_in}
 use Rattle.share_request.specs.declared.query.QueryBody.{QueryBody}
 use Rattle.share_serve.specs.declared.serve.SessionEnd.{SessionEnd}
-use Rattle.share_commands.specs.Outside.{Outside}
-use Rattle.share_commands.specs.declared.ends.End.{End}
-use Rattle.share_commands.specs.declared.ends.End.TheVariants as ends
+use Rattle.query_command.specs.Outside.{Outside}
+use Rattle.query_command.specs.declared.ends.End.{End}
+use Rattle.query_command.specs.declared.ends.End.TheVariants as ends
 use Rattle.share_commands.specs.declared.opening.NoServer.TheVariants as no_server
 use Rattle.share_commands.specs.declared.words.Command.{Command}
 use Rattle.share_commands.specs.declared.words.Command.TheVariants as command

@@ -1,9 +1,4 @@
 pub mod Words
-pub mod Ends
-pub mod Query
-pub mod Table
-pub mod TableSteps
-pub mod Outside
 pub mod Configuration
 pub mod Stdio
 pub mod StdioSteps

@@ -16,10 +16,10 @@ use Rattle.share_pool.specs.declared.desk.ServeEnd.{ServeEnd}
 use Rattle.share_pool.specs.declared.desk.ServeEnd.TheVariants as serve_end
 use Rattle.share_serve.specs.Callers.{server_of}
 use Rattle.turn_cell.specs.Passes.{fresh}
-use Rattle.share_commands.specs.Outside.{Outside}
+use Rattle.query_command.specs.Outside.{Outside}
 use Rattle.share_commands.specs.Stdio.{Configures, IsUnserved, end_without}
-use Rattle.share_commands.specs.declared.ends.End.{End}
-use Rattle.share_commands.specs.declared.ends.End.TheVariants as ends
+use Rattle.query_command.specs.declared.ends.End.{End}
+use Rattle.query_command.specs.declared.ends.End.TheVariants as ends
 use Rattle.share_commands.specs.declared.opening.NoServer.{NoServer}
 use Rattle.share_commands.specs.declared.words.Command.{Command}
 use Rattle.share_commands.specs.declared.words.Command.TheVariants as command

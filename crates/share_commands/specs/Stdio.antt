@@ -20,9 +20,9 @@ use Rattle.share_serve.specs.declared.serve.SessionEnd.{SessionEnd}
 use Rattle.share_serve.specs.declared.serve.SessionEnd.TheVariants as session_end
 use Rattle.turn_cell.specs.Passes.{fresh}
 use Rattle.share_commands.specs.Configuration.{config_at}
-use Rattle.share_commands.specs.Outside.{Outside}
-use Rattle.share_commands.specs.declared.ends.End.{End}
-use Rattle.share_commands.specs.declared.ends.End.TheVariants as ends
+use Rattle.query_command.specs.Outside.{Outside}
+use Rattle.query_command.specs.declared.ends.End.{End}
+use Rattle.query_command.specs.declared.ends.End.TheVariants as ends
 use Rattle.share_commands.specs.declared.opening.NoServer.{NoServer}
 use Rattle.share_commands.specs.declared.opening.NoServer.TheVariants as no_server
 

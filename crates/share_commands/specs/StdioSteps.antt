@@ -20,7 +20,7 @@ use Rattle.share_serve.specs.Turns.{Grew}
 use Rattle.share_serve.specs.declared.serve.SessionEnd.{SessionEnd}
 use Rattle.share_serve.specs.declared.server.Server.{Server}
 use Rattle.turn_cell.specs.Passes.{AllFresh}
-use Rattle.share_commands.specs.Outside.{Outside}
+use Rattle.query_command.specs.Outside.{Outside}
 use Rattle.share_commands.specs.Stdio.{Configures, HasReason, shelf_of}
 use Rattle.share_commands.specs.declared.opening.NoServer.{NoServer}
 use Rattle.share_commands.specs.declared.opening.NoServer.TheVariants as no_server

@@ -1,20 +1,14 @@
 -- What the words of the command line ask for.
-use Rattle.std.specs.Prelude.{ℕ, ◌^◌, ◌&&◌, ◌==◌, Bool, false, not, length, nat_lt, List, [], ◌∷◌, Option, Some, None, option_map, option_and_then, String, string_bytes, bytes_eq, codes, nat_le, if◌then◌else◌}
-use Rattle.std.specs.Char.{is_ascii_digit}
-use Rattle.std.specs.List.{list_all}
-use Rattle.std.specs.Str.Parse.{digits_value}
+use Rattle.std.specs.Prelude.{ℕ, ◌^◌, ◌-◌, ◌==◌, Bool, false, List, [], ◌∷◌, Option, Some, None, option_map, option_and_then, String, string_bytes, bytes_eq, codes, if◌then◌else◌}
 use Rattle.std.specs.declared.alloc.Global.{Global}
 use Rattle.edge_core.specs.Names.{is_name}
-use Rattle.share_catalog.specs.Locations.{is_location}
+use Rattle.text_forms.specs.Numbers as numbers
+use Rattle.query_command.specs.Answer.{location_in}
 use Rattle.share_client.specs.declared.listing.SharedTable.{SharedTable}
 use Rattle.share_commands.specs.declared.words.CallWords.{CallWords}
 use Rattle.share_commands.specs.declared.words.CallWords.TheVariants as worded
 use Rattle.share_commands.specs.declared.words.Command.{Command}
 use Rattle.share_commands.specs.declared.words.Command.TheVariants as command
-
--- the place of a table: a name that isn't the server's own
-abbrev pub location_in : List ℕ → Option (List ℕ)
-location_in text = if is_name text && is_location text then Some text else None
 
 -- a command of one word
 abbrev pub single_in : List ℕ → Option Command
@@ -24,34 +18,30 @@ single_in word = if bytes_eq word (codes "stdio") then Some command.Stdio else i
 abbrev pub query_in : List ℕ → Option Command
 query_in location = option_map command.Query (location_in location)
 
--- a number in decimal without a zero before it
-abbrev pub is_plain : List ℕ → Bool
-is_plain [] = false
-is_plain (d ∷ ds) = if d == 48 then not (nat_lt 0 (length ds)) else is_ascii_digit d && list_all is_ascii_digit ds
+-- a zero stands before another byte
+abbrev pub begins_with_zero : List ℕ → Bool
+begins_with_zero [] = false
+begins_with_zero (d ∷ []) = false
+begins_with_zero (d ∷ e ∷ ds) = d == 48
 
--- the number from 1 up to this one that a word writes
-abbrev pub number_in : ℕ → List ℕ → Option ℕ
-number_in most word =
-    if is_plain word && (nat_le 1 (digits_value 10 word) && nat_le (digits_value 10 word) most) then Some (digits_value 10 word) else None
+-- the number from one to another, both included, that a word writes in decimal without a zero before it
+abbrev pub number_in : (low high : ℕ) → List ℕ → Option ℕ
+number_in low high word = if begins_with_zero word then None else numbers.number_in low high word
 
 -- `serve PORT WORKERS`
 abbrev pub serve_in : List ℕ → List ℕ → List ℕ → Option Command
 serve_in word port workers =
     if bytes_eq word (codes "serve")
-    then option_and_then (λ p. option_map (λ n. command.Serve p n) (number_in 64 workers)) (number_in 65535 port)
+    then option_and_then (λ p. option_map (λ n. command.Serve p n) (number_in 1 64 workers)) (number_in 1 65535 port)
     else None
-
--- the number below a limit that a word writes
-abbrev pub below_in : ℕ → List ℕ → Option ℕ
-below_in limit word = if is_plain word then (if nat_lt (digits_value 10 word) limit then Some (digits_value 10 word) else None) else None
 
 -- the version that a word writes, 0 to 2^63 - 1
 abbrev pub version_in : List ℕ → Option ℕ
-version_in word = below_in (2 ^ 63) word
+version_in word = number_in 0 (2 ^ 63 - 1) word
 
 -- `rehearse NUMBER`
 abbrev pub rehearse_in : List ℕ → Option Command
-rehearse_in number = option_map command.Rehearse (below_in (2 ^ 32) number)
+rehearse_in number = option_map command.Rehearse (number_in 0 (2 ^ 32 - 1) number)
 
 -- a command of two words
 abbrev pub pair_in : (word second : List ℕ) → Option Command
@@ -73,7 +63,7 @@ fetch_in word url = if bytes_eq word (codes "fetch") then Some (worded.Fetch url
 
 -- `fetch .. URL PIECE`, with 1 to 134217728 bytes a piece, 2^27
 abbrev pub pieces_in : (word url piece : List ℕ) → Option CallWords
-pieces_in word url piece = if bytes_eq word (codes "fetch") then option_map (worded.FetchPieces url) (number_in 134217728 piece) else None
+pieces_in word url piece = if bytes_eq word (codes "fetch") then option_map (worded.FetchPieces url) (number_in 1 134217728 piece) else None
 
 -- `read .. SHARE SCHEMA TABLE`
 abbrev pub read_in : (word share schema table : List ℕ) → Option CallWords

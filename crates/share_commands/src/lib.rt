@@ -4,16 +4,11 @@
 
 mod client;
 mod commands;
-mod edge;
-mod ends;
-mod input;
 mod opening;
 mod serve;
 mod stdio;
-mod table;
 mod words;
 
-pub use commands::{query, run, tell, tell_memory};
-pub use edge::Edge;
-pub use ends::End;
-pub use words::{HELP, MOST_WORKERS, VERSION, location_of};
+pub use commands::run;
+pub use query_command::{Edge, End, tell_memory};
+pub use words::{HELP, MOST_WORKERS, VERSION};

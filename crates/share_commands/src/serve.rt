@@ -12,11 +12,10 @@ ghost use Rattle.share_commands.specs.Serve.{AllWait, DoorFails, Serves, Waits, 
 ghost use Rattle.share_commands.specs.Steps.{Runs};
 ghost use Rattle.share_commands.specs.declared.words.Command.TheVariants.{Serve};
 
-use crate::edge::Edge;
-use crate::ends::End;
 use crate::opening::Opened;
 use crate::stdio::{end_without, open_over};
 use edge_core::{Clock, Gate, Listener, Listening, Sink, Source, Store};
+use query_command::{Edge, End};
 use share_hub::HubPass;
 use share_pool::{Desk, ServeEnd, serve_all};
 use std::alloc::Global;

@@ -8,10 +8,9 @@ ghost use Rattle.share_commands.specs.Stdio.{end_after as end_is, end_without as
 ghost use Rattle.share_commands.specs.StdioSteps.{IsOpened, LooksOnly, ServesOne};
 ghost use Rattle.share_commands.specs.declared.words.Command.TheVariants.{Stdio};
 
-use crate::edge::Edge;
-use crate::ends::End;
 use crate::opening::{NoServer, Opened, open_server};
 use edge_core::{Clock, Gate, Sink, Source, Store};
+use query_command::{Edge, End};
 use share_hub::HubPass;
 use share_serve::{SessionEnd, serve_conn};
 use std::alloc::Global;

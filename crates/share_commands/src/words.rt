@@ -1,16 +1,15 @@
 // The words of the command line.
-ghost use Rattle.std.specs.Prelude.{◌≡◌, ◌≤◌, ◌^◌, IfOk, MatchOption, true};
-ghost use Rattle.share_commands.specs.Words.{changes_in, client_in, command_in, call_words_in, fetch_in, pieces_in, is_plain, location_in, below_in, long_in, name_in, number_in, pair_in, query_in, read_in, rehearse_in, serve_in, single_in, tables_in, version_in};
-ghost use Rattle.std.specs.Char.{is_ascii_digit};
-ghost use Rattle.std.specs.List.{list_all};
-ghost use Rattle.std.specs.Str.Parse.{digits_value};
+ghost use Rattle.std.specs.Prelude.{◌≡◌, IfOk};
+ghost use Rattle.share_commands.specs.Words.{begins_with_zero, changes_in, client_in, command_in, call_words_in, fetch_in, pieces_in, long_in, name_in, number_in, pair_in, query_in, read_in, rehearse_in, serve_in, single_in, tables_in, version_in};
 
 use client_calls::PieceSize;
 use edge_core::Name;
 use json_tree::Text;
+use query_command::location_of;
 use share_catalog::Location;
 use share_client::SharedTable;
 use std::alloc::{AllocError, Global};
+use text_forms::number_in;
 
 /// What `--help` prints: each command with its input, its output, its statuses and an example.
 pub const HELP: &str = "\
@@ -66,11 +65,11 @@ const MOST_PORT: u64 = 65_535;
 /// The most workers of a server.
 pub const MOST_WORKERS: u64 = 64;
 
-// Versions are below this.
-const NO_VERSION: u64 = 1 << 63;
+// The greatest version.
+const MOST_VERSION: u64 = (1 << 63) - 1;
 
-// The numbers of rehearsals are below this.
-const NO_REHEARSAL: u64 = 1 << 32;
+// The greatest number of a rehearsal.
+const MOST_REHEARSAL: u64 = (1 << 32) - 1;
 
 /// The call that the words of `client` name.
 #[derive(Drop)]
@@ -131,16 +130,6 @@ fn text_of(alloc: Global, text: &str) -> Result<Text, AllocError>
     Ok(Text::of(String::from_str(alloc, text)?))
 }
 
-/// The location that a word names, none where it names none. The error is want of memory.
-pub fn location_of(alloc: Global, text: &str) -> Result<Option<Location>, AllocError>
-    ensures { IfOk result (λ location. location ≡ location_in text.now) }
-{
-    match Name::of(String::from_str(alloc, text)?) {
-        Some(name) => Ok(Location::of(name)),
-        None => Ok(None),
-    }
-}
-
 fn single_of(word: &str) -> Option<Command>
     ensures { result ≡ single_in word.now }
 {
@@ -161,50 +150,24 @@ fn query_of(alloc: Global, location: &str) -> Result<Option<Command>, AllocError
     }
 }
 
-fn are_digits(bytes: &[u8]) -> bool
-    ensures { result ≡ list_all is_ascii_digit bytes.now }
-{
-    bytes.iter().all(|byte| byte.is_ascii_digit())
-}
-
-// Whether a word is a number in decimal without a zero before it.
-fn is_plain(word: &str) -> bool
-    ensures { result ≡ is_plain word.now }
+// Whether a zero stands before another byte.
+fn begins_with_zero(word: &str) -> bool
+    ensures { result ≡ begins_with_zero word.now }
 {
     match word.as_bytes() {
-        [] => false,
-        [b'0', rest @ ..] => rest.is_empty(),
-        [first, rest @ ..] => first.is_ascii_digit() && are_digits(rest),
+        [first, _, ..] => *first == b'0',
+        _ => false,
     }
 }
 
-// The number that such a word writes; none where it has more than 64 bits.
-fn value_of(word: &str) -> Option<u64>
-    requires { is_plain word.now ≡ true }
-    ensures { MatchOption result (2 ^ 64 ≤ digits_value 10 word.now) (λ n. n ≡ digits_value 10 word.now) }
+// The number from `low` to `high`, both included, that a word writes in decimal, without a zero before it.
+fn number_of(low: u64, high: u64, word: &str) -> Option<u64>
+    ensures { result ≡ number_in low high word.now }
 {
-    match word.parse::<u64>() {
-        Ok(number) => Some(number),
-        Err(_) => None,
-    }
-}
-
-// The number from 1 up to a limit that a word writes.
-fn number_of(most: u64, word: &str) -> Option<u64>
-    ensures { result ≡ number_in most word.now }
-{
-    if !is_plain(word) {
-        return None;
-    }
-    match value_of(word) {
-        Some(number) => {
-            if 1 <= number && number <= most {
-                Some(number)
-            } else {
-                None
-            }
-        }
-        None => None,
+    if begins_with_zero(word) {
+        None
+    } else {
+        number_in(low, high, word.as_bytes())
     }
 }
 
@@ -214,38 +177,25 @@ fn serve_of(word: &str, port: &str, workers: &str) -> Option<Command>
     if word != "serve" {
         return None;
     }
-    let port = number_of(MOST_PORT, port)?;
-    let workers = number_of(MOST_WORKERS, workers)?;
+    let port = number_of(1, MOST_PORT, port)?;
+    let workers = number_of(1, MOST_WORKERS, workers)?;
     Some(Command::Serve {
         port: port as u16,
         workers: workers as u32,
     })
 }
 
-// The number below a limit that a word writes.
-fn below_of(limit: u64, word: &str) -> Option<u64>
-    ensures { result ≡ below_in limit word.now }
-{
-    if !is_plain(word) {
-        return None;
-    }
-    match value_of(word) {
-        Some(number) => { if number < limit { Some(number) } else { None } }
-        None => None,
-    }
-}
-
 // The version that a word writes.
 fn version_of(word: &str) -> Option<u64>
     ensures { result ≡ version_in word.now }
 {
-    below_of(NO_VERSION, word)
+    number_of(0, MOST_VERSION, word)
 }
 
 fn rehearse_of(number: &str) -> Option<Command>
     ensures { result ≡ rehearse_in number.now }
 {
-    let number = below_of(NO_REHEARSAL, number)?;
+    let number = number_of(0, MOST_REHEARSAL, number)?;
     Some(Command::Rehearse(number as u32))
 }
 
@@ -296,12 +246,9 @@ fn fetch_of(alloc: Global, call: &str, url: &str) -> Result<Option<CallWords>, A
 
 // How many bytes a piece has, by a word.
 fn piece_of(word: &str) -> Option<PieceSize>
-    ensures { result ≡ number_in 134_217_728 word.now }
+    ensures { result ≡ number_in 1 134_217_728 word.now }
 {
-    if !is_plain(word) {
-        return None;
-    }
-    match value_of(word) {
+    match number_of(1, PieceSize::MOST, word) {
         Some(bytes) => PieceSize::of(bytes),
         None => None,
     }

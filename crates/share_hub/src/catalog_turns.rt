@@ -1,13 +1,13 @@
 // What is done of the catalogue within one turn.
-ghost use Rattle.std.specs.Prelude.{◌≡◌, ◌++◌, ◌∷◌, [], None, Some, length, slice_index, option_map, ◌≤◌, ◌<◌, true};
-ghost use Rattle.share_catalog.specs.Catalogue.{bound_location, refusal_of};
+ghost use Rattle.std.specs.Prelude.{◌≡◌, ◌++◌, ◌∷◌, [], None, Some, length, slice_index, ◌≤◌, ◌<◌, true};
+ghost use Rattle.share_catalog.specs.Catalogue.{refusal_of};
 ghost use Rattle.share_book.specs.Books.{OthersRest, rests};
 ghost use Rattle.share_book.specs.History.{entry, edits, open_on, pending};
 ghost use Rattle.share_book.specs.declared.entry.Act.TheVariants as act;
 ghost use Rattle.share_hub.specs.CatalogTurns.{ChecksIn, GoesOn, IsReadyFor, LoadFits, Opens, Publishes, is_located, loading};
 
 use share_book::{Book, ReadyLog, SharedEdit};
-use share_catalog::{Edit, EditRefusal, Location};
+use share_catalog::{Edit, EditRefusal};
 use std::alloc::Global;
 
 // Whether a Begin was added, and then how many edits there are.
@@ -31,16 +31,6 @@ pub enum Checked {
     Located,
     Unlocated,
     Refused(EditRefusal),
-}
-
-// The location that an edit binds.
-pub fn bound_location(edit: &Edit) -> Option<&Location>
-    ensures { option_map (λ l. l.now) result ≡ bound_location edit.now }
-{
-    match edit {
-        Edit::Bind { binding, .. } => Some(&binding.location),
-        _ => None,
-    }
 }
 
 // Whether a table that an edit binds has a log.

@@ -15,7 +15,7 @@ ghost use Rattle.share_hub.specs.Edits.{Edits, Leaves, failed_edit};
 ghost use Rattle.share_hub.specs.Rounds.{OwnRounds, RoundStore, Rounds, RunsOn, TriedStore, Tries, end_by, failed_round, failed_tried, refusal_by};
 ghost use Rattle.share_hub.specs.declared.edit.Round.TheVariants as round;
 
-use crate::found::{CatalogRefusal, Next, shared};
+use crate::found::{CatalogRefusal, Next};
 use crate::hub::{Hub, HubPass};
 use crate::new_log::Allowed;
 use catalog_log::{bytes_of_edit, record_name};
@@ -76,7 +76,7 @@ fn prepare(alloc: Global, edit: &Edit, number: u64) -> Result<Own, AllocError>
 {
     Ok(Own {
         edit: edit.copy(alloc)?,
-        shared: shared(alloc, edit)?,
+        shared: SharedEdit::copied(alloc, edit)?,
         bytes: bytes_of_edit(alloc, edit)?,
         name: record_name(alloc, number)?,
     })

@@ -1,5 +1,5 @@
 // Records that the store has, published one by one.
-ghost use Rattle.std.specs.Prelude.{◌≡◌, [], None, Some, false, IfOk};
+ghost use Rattle.std.specs.Prelude.{◌≡◌, [], None, Some, false};
 ghost use Rattle.edge_core.specs.Faults.{Cause};
 ghost use Rattle.log_store.specs.Loads.{Looked};
 ghost use Rattle.share_catalog.specs.Catalogue.{refusal_of};
@@ -21,8 +21,8 @@ use edge_core::Store;
 use log_store::LoadRefusal;
 use share_book::{ReadyLog, SharedEdit};
 use share_catalog::Edit;
-use std::alloc::{AllocError, Global};
-use std::sync::{Arc, Wait};
+use std::alloc::Global;
+use std::sync::Wait;
 
 /// Why found records weren't published to the last.
 #[derive(Clone, Copy, Debug, PartialEq, Eq)]
@@ -54,16 +54,6 @@ pub fn refused(refusal: LoadRefusal) -> CatalogRefusal
         LoadRefusal::StoreFault => CatalogRefusal::StoreFault,
         LoadRefusal::NoMemory => CatalogRefusal::NoMemory,
     }
-}
-
-// The same edit, to be held by several. The error is want of memory.
-pub fn shared(alloc: Global, edit: &Edit) -> Result<SharedEdit, AllocError>
-    ensures { IfOk result (λ s. s ≡ edit.now) }
-{
-    let Ok(held) = Arc::new(alloc, edit.copy(alloc)?) else {
-        return Err(AllocError);
-    };
-    Ok(SharedEdit::of(held))
 }
 
 impl Hub {
@@ -115,7 +105,7 @@ impl Hub {
         ensures same { IsIdle pass.old pass.new }
         ensures published { PublishesNext result (record { load = load; edit = edit }) pass.old pass.new }
     {
-        let Ok(held) = shared(alloc, &edit) else {
+        let Ok(held) = SharedEdit::copied(alloc, &edit) else {
             return self.end(rt, pass, CatalogRefusal::NoMemory);
         };
         match self.publish_found(rt, alloc, pass, edit, held, load) {

@@ -8,7 +8,7 @@ ghost use Rattle.share_book.specs.declared.entry.Entry.{Entry};
 ghost use Rattle.share_hub.specs.CatalogTurns.{AllowsIn, ChecksIn, start_of_loaded};
 ghost use Rattle.share_hub.specs.NewLogs.{IsNewLog, failed_allowed};
 
-use crate::catalog_turns::{Checked, bound_location};
+use crate::catalog_turns::Checked;
 use edge_core::Store;
 use log_store::{Block, LoadRefusal, Loaded, load};
 use share_book::{ReadyLog, ready};
@@ -70,7 +70,7 @@ pub fn allow<W: Store>(alloc: Global, store: &mut W, edit: &Edit, checked: Check
     match checked {
         Checked::Refused(refusal) => Allowed::Refused(refusal),
         Checked::Located => Allowed::Fits(None),
-        Checked::Unlocated => match bound_location(edit) {
+        Checked::Unlocated => match edit.bound_location() {
             Some(location) => match new_log(alloc, store, location) {
                 Ok(log) => Allowed::Fits(Some(log)),
                 Err(refusal) => Allowed::Failed(refusal),

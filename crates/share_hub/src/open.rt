@@ -11,14 +11,13 @@ ghost use Rattle.share_hub.specs.Opens.{AddsIn, RestsAfter, failed_added, OpensA
 ghost use Rattle.share_hub.specs.Records.{HasRecord};
 
 use crate::catalog_turns::{Opened, Published, abort_in, begin_in, check_in, publish_in};
-use crate::found::shared;
 use crate::hub::{Hub, HubPass};
 use crate::new_log::{Allowed, allow};
 use crate::record::{Read, read_record};
 use catalog_log::RecordFault;
 use edge_core::Store;
 use log_store::LoadRefusal;
-use share_book::{Book, ReadyLog};
+use share_book::{Book, ReadyLog, SharedEdit};
 use share_catalog::{Edit, EditRefusal};
 use std::alloc::{AllocError, Global};
 use turn_cell::TurnCell;
@@ -73,7 +72,7 @@ fn publish(alloc: Global, book: &mut Book, edit: Edit, load: Option<ReadyLog>) -
     ensures added { PublishesIn result (record { load = load; edit = edit }) book.old.past.history book.new.past.history }
     ensures no_store { failed_added result ≡ false }
 {
-    let Ok(held) = shared(alloc, &edit) else {
+    let Ok(held) = SharedEdit::copied(alloc, &edit) else {
         return Added::Failed(OpenRefusal::NoMemory);
     };
     match publish_in(alloc, book, 0, edit, held, load) {

@@ -3,7 +3,6 @@ ghost use Rattle.std.specs.Prelude.{◌≡◌, ◌<◌, ◌≤◌, ◌^◌, List
 ghost use Rattle.std.specs.Arc.{arc_value};
 ghost use Rattle.edge_core.specs.Faults.{Cause};
 ghost use Rattle.log_actions.specs.declared.actions.Action.{Action};
-ghost use Rattle.log_commit.specs.Names.{commit_name};
 ghost use Rattle.log_replay.specs.Standing.{IsSupported, standing_of};
 ghost use Rattle.log_store.specs.Loads.{IsCounted, IsProbed, Looked};
 ghost use Rattle.log_store.specs.Log.{text_at};
@@ -16,11 +15,10 @@ use crate::hub::{Hub, HubPass};
 use crate::table_turns::CommitPublished;
 use edge_core::{Measured, Name, Store};
 use log_actions::Commit;
-use log_commit::name_of;
 use log_replay::{NoState, Support};
-use log_store::{LoadRefusal, MOST_LOG_BYTES, Probed, probe};
+use log_store::{LoadRefusal, MOST_LOG_BYTES, Probed, probe, version_name};
 use share_book::SharedCommit;
-use std::alloc::{AllocError, Global};
+use std::alloc::Global;
 use std::sync::{Arc, Wait};
 
 // What is known of a log for its next version: the protocol and the metaData that hold, and the bytes of its printed texts.
@@ -84,18 +82,6 @@ fn take_next(alloc: Global, head: &mut LogHead, commit: Commit, bytes: u64) -> T
         }
         Err(NoState::Refusal(_)) => Taken::Unkept,
         Err(NoState::NoMemory) => Taken::NoMemory,
-    }
-}
-
-// The name of a version's commit.
-pub fn version_name(alloc: Global, location: &Name, version: u64) -> Result<Name, AllocError>
-    requires short { length location.now ≤ 256 }
-    requires small { version < 2 ^ 63 }
-    ensures { IfOk result (λ n. n ≡ commit_name location.now version) }
-{
-    match name_of(alloc, location, version)? {
-        Some(name) => Ok(name),
-        None => unreachable!(),
     }
 }
 

@@ -1,28 +1,20 @@
 // The bodies of refusals.
 ghost use Rattle.std.specs.Prelude.{◌≡◌, ◌==◌, ◌||◌, ◌++◌, List, ℕ, IfOk, IfSome, IsTrue, IsUtf8, OnOk, Some, length, option_map, string_bytes};
-ghost use Rattle.serde_json.specs.Data.{string};
 ghost use Rattle.serde_json.specs.View.{view};
 ghost use Rattle.serde_json.specs.Written.{compact_text};
-ghost use Rattle.json_print.specs.Tokens.{Adds, field_tokens, value_tokens};
+ghost use Rattle.json_print.specs.Tokens.{Adds, value_tokens};
 ghost use Rattle.share_lines.specs.ErrorReading.{as_text as text_of_bytes, behind as behind_front, detail_in as detail_behind, guess_in, guessed, is_spelt, refusal_by_word, text_in};
 ghost use Rattle.share_lines.specs.Errors.{IsErrorBody, error_body, error_data, takes_detail};
 
 use case_table::Refusal;
 use json::Writer;
-use json_print::{begin_object, end_object, new_writer, printed};
+use json_print::{begin_object, end_object, new_writer, printed, string_field};
 use json_tree::{Text, TreeFault, member_at, tree_of};
 use serde_json::Value;
 use std::alloc::{AllocError, Global};
 
 // Room for most bodies.
 const ROOM: usize = 128;
-
-fn string_field(body: &mut Writer, name: &str, text: &str) -> Result<(), AllocError>
-    ensures { OnOk result (Adds body.old body.new (field_tokens (name.now, Some (string text.now)))) }
-{
-    body.key(name)?;
-    body.string(text)
-}
 
 fn error_object(body: &mut Writer, word: &str, message: &str) -> Result<(), AllocError>
     ensures { OnOk result (Adds body.old body.new (value_tokens (error_data word.now message.now))) }

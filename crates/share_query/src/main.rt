@@ -1,10 +1,10 @@
 //! A query of a table in a folder, as `share_main query LOCATION` answers it: the word is the LOCATION. It is a program of its own since
-//! it is built without proofs in half the time of the whole program, for a first look (`demo/query`).
+//! it is built without proofs in little more than half the time of the whole program, for a first look (`demo/query`).
 #![tactic(auto)]
 
 use edge_core::{Gathering, OpenGate};
 use edge_std::{FileStore, StdClock, StdSink, StdSource};
-use share_commands::{Edge, End, location_of, query, tell, tell_memory};
+use query_command::{Edge, End, location_of, query, tell, tell_memory};
 use std::process::ExitCode;
 use std::{env, io};
 use step_count::Steps;

@@ -9,7 +9,7 @@ use Rattle.log_actions.specs.declared.actions.AddFile.{AddFile}
 use Rattle.log_actions.specs.declared.actions.MetaData.{MetaData}
 use Rattle.log_replay.specs.State.{State}
 use Rattle.page_token.specs.declared.cursor.TableAccess.{TableAccess}
-use Rattle.pred_tree.specs.Listing.{IsFilter, passes}
+use Rattle.pred_tree.specs.Listing.{IsFilter, passes, pred_by}
 use Rattle.pred_tree.specs.declared.filter.Filter.{Filter}
 use Rattle.share_lines.specs.Lines.{meta_of}
 use Rattle.share_lines.specs.declared.kinds.EndLine.{EndLine}
@@ -20,7 +20,7 @@ use Rattle.share_reply.specs.Access.{expiry}
 use Rattle.share_reply.specs.Answer.{Ending, Page, ends_with}
 use Rattle.share_reply.specs.Bodies.{end_line, page_lines}
 use Rattle.share_reply.specs.Feeds.{ChangesQuery, FeedStart, change_line, feed_cursor, feed_ending, feed_page, lists_all}
-use Rattle.share_reply.specs.Files.{FilesStart, file_line, files_cursor, files_ending, files_page, is_paged, lists, pred_by}
+use Rattle.share_reply.specs.Files.{FilesStart, file_line, files_cursor, files_ending, files_page, is_paged, lists}
 use Rattle.share_reply.specs.Pages.{given, next_place}
 use Rattle.share_reply.specs.Planned.{content_lines, lines_of}
 use Rattle.share_reply.specs.Starts.{end_of, paged}

@@ -12,8 +12,7 @@ use Rattle.page_token.specs.declared.cursor.Cursor.TheVariants as cursor
 use Rattle.page_token.specs.declared.cursor.FilesCursor.{FilesCursor}
 use Rattle.page_token.specs.declared.cursor.TableAccess.{TableAccess}
 use Rattle.pred_tree.specs.Grammar.{predicate_in}
-use Rattle.pred_tree.specs.Listing.{lists as lists_file}
-use Rattle.pred_tree.specs.Tree.{Tree}
+use Rattle.pred_tree.specs.Listing.{lists as lists_file, pred_by}
 use Rattle.share_book.specs.declared.look.PartFound.{PartFound}
 use Rattle.share_book.specs.declared.look.PartFound.TheVariants as part_found
 use Rattle.share_book.specs.declared.look.TableRefusal.{TableRefusal}
@@ -49,10 +48,6 @@ unlike = Err (plain NotFound)
 abbrev pub used_hint : Option (List ℕ) → Option (List ℕ)
 used_hint None = None
 used_hint (Some text) = if is_some (predicate_in text) then Some text else None
-
-abbrev pub pred_by : Option (List ℕ) → Option Tree
-pred_by None = None
-pred_by (Some text) = predicate_in text
 
 -- the predicate doesn't make the file False
 abbrev pub lists : Option (List ℕ) → State → AddFile → Bool

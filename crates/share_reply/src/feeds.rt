@@ -1,6 +1,5 @@
 // Pages of a table's changes.
 ghost use Rattle.std.specs.Prelude.{◌≡◌, ◌+◌, ◌≤◌, ◌^◌, IfOk, length, map, option_map, vec_len};
-ghost use Rattle.log_replay.specs.Reconciliation.{as_meta, last_meta};
 ghost use Rattle.page_token.specs.Token.{token_text};
 ghost use Rattle.share_reply.specs.Answer.{ends_with};
 ghost use Rattle.share_reply.specs.Asking.{asked_at};
@@ -25,7 +24,7 @@ use case_table::Refusal;
 use change_feed::{Change, FeedRefusal, changes};
 use json_tree::{Millis, Place, Text, Version};
 use log_actions::{Action, Commit, MetaData};
-use log_replay::Mark;
+use log_replay::{Mark, meta_in};
 use page_token::{Asked, Cursor, FeedCursor, cursor_of, spell};
 use share_book::{FeedPart, PartFound};
 use share_lines::EndLine;
@@ -170,26 +169,6 @@ fn changes_in<'a>(alloc: Global, feed: &'a FeedPart) -> Result<Vec<Change<'a>>, 
         Some(end) if end <= 1 << 63 => changes_from(alloc, commits, marks, feed.from),
         _ => Err(Stop::NoMemory),
     }
-}
-
-fn meta_of(action: &Action) -> Option<&MetaData>
-    ensures { option_map (λ m. m.now) result ≡ as_meta action.now }
-{
-    match action {
-        Action::MetaData(meta) => Some(meta),
-        _ => None,
-    }
-}
-
-// The last metaData of a commit.
-fn meta_in(actions: &[Action]) -> Option<&MetaData>
-    ensures { option_map (λ m. m.now) result ≡ last_meta actions.now }
-{
-    let mut last = None;
-    for action in actions {
-        last = meta_of(action).or(last);
-    }
-    last
 }
 
 // ---- the page

@@ -1,7 +1,6 @@
 // Pages of a table's files.
 ghost use Rattle.std.specs.Prelude.{◌≡◌, [], Some, None, Ok, if◌then◌else◌, IfOk, map, option_map, length};
 ghost use Rattle.page_token.specs.Token.{token_text};
-ghost use Rattle.pred_tree.specs.Listing.{IsFilter};
 ghost use Rattle.share_reply.specs.Answer.{ends_with};
 ghost use Rattle.share_reply.specs.Asking.{asked_by};
 ghost use Rattle.share_reply.specs.Files as spec;
@@ -20,7 +19,6 @@ use crate::refusing::refuse;
 use crate::stop::Stop;
 use case_table::Refusal;
 use json_tree::{Millis, Place, Text, Version};
-use log_actions::MetaData;
 use log_replay::Snapshot;
 use page_token::{Asked, Cursor, FilesCursor, cursor_of, spell};
 use pred_tree::{Filter, pred_of};
@@ -172,17 +170,6 @@ fn agrees(alloc: Global, query: &QueryBody, cursor: &FilesCursor) -> Result<bool
 
 // ---- the page
 
-// The filter of a hint: all files pass where there is none, and where it is no predicate.
-fn filter_by(alloc: Global, hint: &Option<Text>, meta: &MetaData) -> Result<Filter, AllocError>
-    ensures { IfOk result (IsFilter (spec.pred_by hint.now) meta.now) }
-{
-    let pred = match hint {
-        Some(text) => pred_of(alloc, text.as_str())?,
-        None => None,
-    };
-    Filter::of(alloc, &pred, meta)
-}
-
 pub(crate) fn is_paged(max: Option<u64>, token: &Option<Text>) -> bool
     ensures { result ≡ spec.is_paged max token.now }
 {
@@ -254,7 +241,7 @@ fn files_page<'a>(
 {
     let expires = expiry(keys, now)?;
     let meta = snapshot.meta();
-    let listing = filter_by(alloc, &begin.hint, meta)?;
+    let listing = Filter::of_hint(alloc, &begin.hint, meta)?;
     let version = begin.version.get();
     let cut = files_cut(alloc, snapshot, &listing, query.max, begin.place.get())?;
     let end = page_end(alloc, keys, &access, expires, query, begin, &cut)?;

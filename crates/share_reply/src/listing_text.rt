@@ -1,9 +1,9 @@
 // The JSON texts of listings.
-ghost use Rattle.std.specs.Prelude.{◌≡◌, ◌∷◌, [], IfOk, OnOk, Some};
+ghost use Rattle.std.specs.Prelude.{◌≡◌, ◌∷◌, [], IfOk, OnOk};
 ghost use Rattle.json.specs.Token as token_is;
 ghost use Rattle.json_print.specs.Fields.{object_of};
-ghost use Rattle.json_print.specs.Tokens.{Adds, field_tokens, value_tokens};
-ghost use Rattle.serde_json.specs.Data.{array, string};
+ghost use Rattle.json_print.specs.Tokens.{Adds, value_tokens};
+ghost use Rattle.serde_json.specs.Data.{array};
 ghost use Rattle.serde_json.specs.Written.{compact_text};
 ghost use Rattle.share_reply.specs.Bodies.{name_fields, name_items, share_data, share_fields};
 ghost use Rattle.share_reply.specs.Listings.{page_data, schema_fields, table_fields};
@@ -11,7 +11,9 @@ ghost use Rattle.share_reply.specs.Walks.{texts, texts_of};
 
 use crate::walk::Listed;
 use json::Writer;
-use json_print::{begin_object, end_object, new_writer, optional_text_field, printed};
+use json_print::{
+    begin_object, end_object, new_writer, optional_text_field, printed, string_field,
+};
 use json_tree::Text;
 use page_token::ListKind;
 use std::alloc::{AllocError, Global};
@@ -35,13 +37,6 @@ fn end_array(body: &mut Writer) -> Result<(), AllocError>
     ensures { OnOk result (Adds body.old body.new (token_is.end_array ∷ [])) }
 {
     body.end_array()
-}
-
-fn string_field(body: &mut Writer, name: &str, text: &str) -> Result<(), AllocError>
-    ensures { OnOk result (Adds body.old body.new (field_tokens (name.now, Some (string text.now)))) }
-{
-    body.key(name)?;
-    body.string(text)
 }
 
 fn empty_object(body: &mut Writer) -> Result<(), AllocError>

@@ -1,6 +1,5 @@
 // The listings of shares, schemas and tables.
 ghost use Rattle.std.specs.Prelude.{◌≡◌, ◌&&◌, IfOk, List, ℕ, bytes_eq, filter};
-ghost use Rattle.page_token.specs.Payload.{kind_field};
 ghost use Rattle.serde_json.specs.Written.{compact_text};
 ghost use Rattle.share_reply.specs.Bodies.{names_data};
 ghost use Rattle.share_reply.specs.Listings.{as_names, as_share, page_data, token_behind};
@@ -17,7 +16,7 @@ use crate::stop::Stop;
 use crate::walk::{Gathered, Listed, Range, gather_shares, gather_tables};
 use case_table::Refusal;
 use json_tree::Text;
-use page_token::{Cursor, ListCursor, ListKind, cursor_of, spell};
+use page_token::{Cursor, ListCursor, ListKind, cursor_of, kind_text, spell};
 use share_book::Names;
 use share_catalog::CatalogName;
 use share_request::ListPage;
@@ -249,21 +248,10 @@ fn page_behind(
 
 // ---- of a token
 
-fn kind_letter(kind: ListKind) -> &'static str
-    ensures { result.now ≡ kind_field kind }
-{
-    match kind {
-        ListKind::Shares => "s",
-        ListKind::Schemas => "c",
-        ListKind::Tables => "t",
-        ListKind::AllTables => "a",
-    }
-}
-
 fn is_same_listing(recipient: &Text, listing: &Listing, cursor: &ListCursor) -> bool
     ensures { result ≡ lists.is_same_listing recipient.now listing.now cursor.now }
 {
-    kind_letter(cursor.kind) == kind_letter(listing.kind())
+    kind_text(cursor.kind) == kind_text(listing.kind())
         && cursor.recipient.as_str() == recipient.as_str()
         && cursor.share.as_str() == listing.share()
         && cursor.schema.as_str() == listing.schema()

@@ -25,7 +25,8 @@ use Rattle.share_request.specs.InForm.{IsAsked, IsBound, IsInForm, IsMax, IsPage
 use Rattle.share_request.specs.Laws.{RequestsAreInForm}
 use Rattle.share_request.specs.Parameters.{at_in, first_value, from_in, max_files_in, moment_at, most_in, number_at, one_bound, page_in, read_value, start_in, start_or_token, to_in, token_in, version_at}
 use Rattle.share_request.specs.Paths.{admin_route, name_at, provider_route, route_of, segments_in, share_route, table_at, table_route}
-use Rattle.share_request.specs.Query.{absent, between, fields_in, moment_beside, query_in, query_of_fields, query_of_tree, unless_empty}
+use Rattle.share_request.specs.Query.{absent, between, fields_in, moment_beside, query_in, query_of_fields, query_of_tree}
+use Rattle.json_tree.specs.Options.{unless_empty}
 use Rattle.share_request.specs.Requests.{at_path, below_in, by_route, has_method, is_head, link_or, link_request, pairs_or_none, turned_away, with_bearer}
 use Rattle.share_request.specs.Targets.{below_endpoint, link_target, split_query}
 use Rattle.share_request.specs.declared.asked.Bound.{Bound}

@@ -2,10 +2,11 @@
 use Rattle.std.specs.Prelude.{ℕ, ◌-◌, ◌^◌, ℤ, List, [], ◌∷◌, Option, Some, None, Result, Ok, Err, is_some, map, min, unwrap_or, bytes_eq, if◌then◌else◌, codes}
 use Rattle.std.specs.Str.Lossy.{utf8_lossy}
 use Rattle.form_urlencoded.specs.Form.{decode, raw_pairs}
+use Rattle.json_tree.specs.Options.{unless_empty}
 use Rattle.json_tree.specs.Results.{◌>>=◌}
 use Rattle.text_forms.specs.Numbers.{number_in}
 use Rattle.share_request.specs.Faults.{or_bad, parameter_word}
-use Rattle.share_request.specs.Query.{moment_of, unless_empty}
+use Rattle.share_request.specs.Query.{moment_of}
 use Rattle.share_request.specs.declared.asked.Bound.{Bound}
 use Rattle.share_request.specs.declared.asked.Bound.TheVariants as bound
 use Rattle.share_request.specs.declared.asked.ListPage.{ListPage}

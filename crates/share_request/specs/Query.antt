@@ -5,6 +5,7 @@ use Rattle.serde_json.specs.Data.{Data}
 use Rattle.serde_json.specs.Find.{as_str, as_object}
 use Rattle.json_tree.specs.Fields.{field, present, whole}
 use Rattle.json_tree.specs.Gives.{Answers}
+use Rattle.json_tree.specs.Options.{unless_empty}
 use Rattle.json_tree.specs.Results.{◌>>=◌}
 use Rattle.json_tree.specs.Tree.{tree_in}
 use Rattle.json_tree.specs.declared.fields.FieldFault.{FieldFault}
@@ -57,13 +58,7 @@ moment_beside (Some v) (Some text) = Err (fault.BadParameter name.Timestamp)
 abbrev pub absent : QueryField → List ℕ → Data → Result (Unit {0}) QueryFault
 absent field word d = if is_none (present word d) then Ok tt else Err (fault.BadParameter field)
 
--- an empty page token counts as none
-abbrev pub unless_empty : Option (List ℕ) → Option (List ℕ)
-unless_empty None = None
-unless_empty (Some []) = None
-unless_empty (Some (b ∷ bs)) = Some (b ∷ bs)
-
--- the query of an object: the kinds of its fields first, then each field's own grammar
+-- the query of an object: the kinds of its fields first, then each field's own grammar; an empty page token counts as none
 unfoldable pub query_of_fields : Data → Fields → Result QueryBody QueryFault
 query_of_fields d f = do
   max ← between name.MaxFiles 1 (2 ^ 31 - 1) f.max

@@ -6,8 +6,8 @@ ghost use Rattle.share_request.specs.Stops.{Gives};
 
 use crate::asked::{Bound, ListPage};
 use crate::fault::{Parameter, RequestFault, Stop};
-use crate::query::{moment_of, unless_empty};
-use json_tree::{Text, Version};
+use crate::query::moment_of;
+use json_tree::{Text, Version, unless_empty};
 use std::alloc::{AllocError, Global};
 use text_forms::number_in;
 

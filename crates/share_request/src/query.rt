@@ -8,7 +8,7 @@ ghost use Rattle.share_request.specs.Query.{Gives};
 ghost use Rattle.share_request.specs.declared.query.QueryFault.TheVariants as fault;
 
 use jiff::Timestamp;
-use json_tree::{FieldFault, Text, TreeFault, member_at, text_at, tree_of, whole_at};
+use json_tree::{FieldFault, Text, TreeFault, member_at, text_at, tree_of, unless_empty, whole_at};
 use serde_json::Value;
 use std::alloc::{AllocError, Global};
 
@@ -165,15 +165,6 @@ fn absent(field: QueryField, object: &Value, name: &str) -> Result<(), QueryFaul
     match member_at(object, name) {
         None => Ok(()),
         Some(_) => Err(QueryFault::BadParameter(field)),
-    }
-}
-
-pub(crate) fn unless_empty(token: Option<Text>) -> Option<Text>
-    ensures { result ≡ spec.unless_empty token }
-{
-    match token {
-        Some(text) if text.as_str().is_empty() => None,
-        token => token,
     }
 }
 

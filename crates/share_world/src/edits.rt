@@ -1,5 +1,5 @@
 // An edit of the book's catalogue.
-ghost use Rattle.std.specs.Prelude.{◌≡◌, ◌<◌, ◌++◌, ◌∷◌, [], IfOk, IfSome, None, OnOk, Some, is_none, option_map, slice_index};
+ghost use Rattle.std.specs.Prelude.{◌≡◌, ◌<◌, ◌++◌, ◌∷◌, [], IfOk, IfSome, None, OnOk, Some, is_none, slice_index};
 ghost use Rattle.share_book.specs.History as history;
 ghost use Rattle.share_book.specs.History.{open_on, pending};
 ghost use Rattle.share_book.specs.Legal.{TakesLog};
@@ -10,29 +10,8 @@ ghost use Rattle.share_world.specs.declared.event.Event.TheVariants as event_is;
 use crate::event::Event;
 use crate::kept::log_before;
 use share_book::{Book, ReadyLog, SharedEdit};
-use share_catalog::{Edit, Location};
+use share_catalog::Edit;
 use std::alloc::{AllocError, Global};
-use std::sync::Arc;
-
-// The same edit, to be held by several.
-fn shared(alloc: Global, edit: &Edit) -> Result<SharedEdit, AllocError>
-    ensures { IfOk result (λ s. s ≡ edit.now) }
-{
-    let Ok(held) = Arc::new(alloc, edit.copy(alloc)?) else {
-        return Err(AllocError);
-    };
-    Ok(SharedEdit::of(held))
-}
-
-// The location that an edit binds.
-fn bound_location(edit: &Edit) -> Option<&Location>
-    ensures { option_map (λ l. l.now) result ≡ bound_location edit.now }
-{
-    match edit {
-        Edit::Bind { binding, .. } => Some(&binding.location),
-        _ => None,
-    }
-}
 
 // The log that an edit needs which binds a location of which the book has none.
 fn load_for(
@@ -44,7 +23,7 @@ fn load_for(
     ensures fits { IfOk result (LoadFits book.now.past.history (bound_location edit.now)) }
     ensures log { IfOk result (λ load. IfSome load (λ s. s ≡ start_of before.now s.location)) }
 {
-    let Some(location) = bound_location(edit) else {
+    let Some(location) = edit.bound_location() else {
         return Ok(None);
     };
     if book.has_log(location.as_str()) {
@@ -80,7 +59,7 @@ fn edit_on(
     ensures { OnOk result (book.new.past.history ≡ edited_history book.old.past.history load edit.now) }
 {
     let own = edit.copy(alloc)?;
-    let shared = shared(alloc, edit)?;
+    let shared = SharedEdit::copied(alloc, edit)?;
     book.len();
     book.reserve_catalog(alloc)?;
     if book.begin(0, 0) {

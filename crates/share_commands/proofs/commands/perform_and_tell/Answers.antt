@@ -1,4 +1,4 @@
-use Rattle.share_commands.specs.Ends.{note}
+use Rattle.query_command.specs.Ends.{note}
 use Rattle.share_commands.specs.Words.{command_in}
 use Rattle.share_commands.proofs.Calling.{way_told}
 use Rattle.share_commands.proofs.Hosting.{desks_told}

@@ -1,0 +1,4 @@
+mod Files
+mod Flows
+mod Tables
+pub mod Queries

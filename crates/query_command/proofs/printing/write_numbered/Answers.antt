@@ -1,0 +1,17 @@
+use Rattle.std.proofs.Common.{◌++◌, codes, refl}
+use Rattle.std.specs.Prelude.{decimal}
+use Rattle.query_command.proofs.Flows.{Wrote-on, whole, short}
+use Rattle.query_command.proofs.printing.write_numbered.Goals as goal
+
+pub returns-then-not-write_text : goal.returns-then-not-write_text
+returns-then-not-write_text g c =
+    short (g.K.Sink.holds c.args.sink.now) (g.K.Sink.holds c.write_text.new.sink) (g.K.Sink.faults c.args.sink.now) (g.K.Sink.faults c.write_text.new.sink)
+    c.args.text.now c.args.text.now (decimal c.args.number ++ codes "\n") c.write_text.result refl c.if-not-write_text.true c.write_text.ensures
+
+pub returns : goal.returns
+returns g c =
+    Wrote-on (g.K.Sink.holds c.args.sink.now) (g.K.Sink.holds c.write_text.new.sink) (g.K.Sink.holds c.write_last.new.sink) (g.K.Sink.faults c.args.sink.now) (g.K.Sink.faults c.write_text.new.sink) (g.K.Sink.faults c.write_last.new.sink)
+    c.args.text.now (decimal c.args.number ++ codes "\n") c.write_last.result
+    (whole (g.K.Sink.holds c.args.sink.now) (g.K.Sink.holds c.write_text.new.sink) (g.K.Sink.faults c.args.sink.now) (g.K.Sink.faults c.write_text.new.sink)
+    c.args.text.now c.args.text.now c.write_text.result refl c.if-not-write_text.false c.write_text.ensures)
+    c.write_last.ensures

@@ -1,0 +1,10 @@
+pub mod Outside
+pub mod Ends
+pub mod Query
+pub mod QuerySteps
+pub mod Table
+pub mod TableSteps
+pub mod Writing
+pub mod WritingSteps
+pub mod Answer
+pub mod AnswerSteps
