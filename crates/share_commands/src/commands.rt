@@ -140,7 +140,7 @@ fn perform_and_tell<
 
 /// Does what the words ask, and answers the program's status.
 ///
-/// The answer comes by one of the ends in `ends.rt`, each with its status, its line on the notes and its cause.
+/// The answer comes by one of the ends of [`End`], each with its status, its line on the notes and its cause.
 ///
 /// `query`, `--help` and `--version`: the words are tested first, then the input, then the table. On every status but 0 and a write
 /// fault the output is as it was. Nothing is stored.
