@@ -75,14 +75,21 @@ fn hold<R: Wait>(rt: &R, alloc: Global, place: &mut Place, rows: &[Row]) -> bool
     true
 }
 
-// A server over versions 0 to 4.
-fn stocked(alloc: Global) -> Option<Place> {
-    let mut place = Place::open(alloc)?;
+fn stock(alloc: Global, place: &mut Place) -> Option<()> {
     place.stock_version(alloc, 0, COMMIT_0)?;
     for (before, text) in COMMITS.iter().enumerate() {
         place.stock_version(alloc, before as u64 + 1, text)?;
     }
-    Some(place)
+    Some(())
+}
+
+// A server over versions 0 to 4.
+fn stocked(alloc: Global) -> Option<Place> {
+    let mut place = Place::open(alloc)?;
+    match stock(alloc, &mut place) {
+        Some(()) => Some(place),
+        None => None,
+    }
 }
 
 fn opened<R: Wait>(rt: &R, alloc: Global, mut place: Place) -> Option<Place> {
@@ -92,12 +99,16 @@ fn opened<R: Wait>(rt: &R, alloc: Global, mut place: Place) -> Option<Place> {
     }
 }
 
-fn begins_with_what_is_kept<R: Wait>(rt: &R, alloc: Global) -> Option<bool> {
-    let mut place = opened(rt, alloc, stocked(alloc)?)?;
-    let first = hold(rt, alloc, &mut place, &[FIRST]);
+fn hold_over_a_refresh<R: Wait>(rt: &R, alloc: Global, place: &mut Place) -> Option<bool> {
+    let first = hold(rt, alloc, place, &[FIRST]);
     place.stock_version(alloc, 5, COMMIT_5)?;
     place.refresh(rt, alloc)?;
-    Some(first && hold(rt, alloc, &mut place, &ROWS))
+    Some(first && hold(rt, alloc, place, &ROWS))
+}
+
+fn begins_with_what_is_kept<R: Wait>(rt: &R, alloc: Global) -> Option<bool> {
+    let mut place = opened(rt, alloc, stocked(alloc)?)?;
+    hold_over_a_refresh(rt, alloc, &mut place)
 }
 
 #[test]
@@ -118,11 +129,15 @@ static RACED: [Row; 2] = [(Some(4), Some(4), 0, 5), (None, Some(4), 6, 6)];
 
 // A caller pins version 4, and before it looks another finds version 5. What that one kept is found then, and version 5 is shown to a
 // caller that was never told of it.
+fn races_at<R: Wait>(rt: &R, alloc: Global, place: &mut Place) -> Option<bool> {
+    let left = place.left(rt, alloc, Some(4))?;
+    found(rt, alloc, place)?;
+    Some(left == (None, 8) && hold(rt, alloc, place, &RACED))
+}
+
 fn races<R: Wait>(rt: &R, alloc: Global) -> Option<bool> {
     let mut place = opened(rt, alloc, stocked(alloc)?)?;
-    let left = place.left(rt, alloc, Some(4))?;
-    found(rt, alloc, &mut place)?;
-    Some(left == (None, 8) && hold(rt, alloc, &mut place, &RACED))
+    races_at(rt, alloc, &mut place)
 }
 
 #[test]
@@ -133,14 +148,21 @@ fn a_look_finds_what_another_caller_kept(rt: HostRuntime) {
 // How many states are kept.
 const KEPT: u64 = 64;
 
-// A server over versions 0 to 64.
-fn stocked_many(alloc: Global) -> Option<Place> {
-    let mut place = Place::open(alloc)?;
+fn stock_many(alloc: Global, place: &mut Place) -> Option<()> {
     place.stock_version(alloc, 0, COMMIT_0)?;
     for version in 1..KEPT + 1 {
         place.stock_version(alloc, version, COMMITS[3])?;
     }
-    Some(place)
+    Some(())
+}
+
+// A server over versions 0 to 64.
+fn stocked_many(alloc: Global) -> Option<Place> {
+    let mut place = Place::open(alloc)?;
+    match stock_many(alloc, &mut place) {
+        Some(()) => Some(place),
+        None => None,
+    }
 }
 
 // Each but the first is begun with the one before.

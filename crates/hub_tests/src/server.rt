@@ -146,6 +146,14 @@ fn left_of(pinned: &Pinned) -> Option<(Option<u64>, usize)> {
     }
 }
 
+fn edit_told(made: Result<u64, EditEnd>) -> Option<Told> {
+    match made {
+        Ok(number) => Some(("record", number, 0)),
+        Err(EditEnd::Refused(_)) => Some(("refused", 0, 0)),
+        Err(_) => None,
+    }
+}
+
 impl Server {
     pub(crate) fn open(alloc: Global, store: &mut MemStore) -> Option<Server> {
         let (hub, mut passes) = Hub::open(alloc, store, 2).ok()?;
@@ -183,11 +191,7 @@ impl Server {
         text: &str,
     ) -> Option<Told> {
         let edit = edit_of(alloc, text)?;
-        match self.made(rt, alloc, store, &edit) {
-            Ok(number) => Some(("record", number, 0)),
-            Err(EditEnd::Refused(_)) => Some(("refused", 0, 0)),
-            Err(_) => None,
-        }
+        edit_told(self.made(rt, alloc, store, &edit))
     }
 
     fn committed<R: Wait>(
@@ -297,8 +301,12 @@ impl Server {
         }
     }
 
-    fn pinned<R: Wait>(&mut self, rt: &R, alloc: Global, ask: &Ask) -> Option<Pinned> {
-        self.hub.pin(rt, alloc, &mut self.pass, ask).ok()
+    // The version that the recipient is shown.
+    fn pinned<R: Wait>(&mut self, rt: &R, alloc: Global, want: Want) -> Option<Pinned> {
+        let who = recipient(alloc)?;
+        self.hub
+            .pin(rt, alloc, &mut self.pass, &Ask { who, want })
+            .ok()
     }
 
     /// The version of the state with which a look at the files of a version, or of the latest, would begin, and how many actions are
@@ -309,8 +317,7 @@ impl Server {
         alloc: Global,
         version: Option<u64>,
     ) -> Option<(Option<u64>, usize)> {
-        let who = recipient(alloc)?;
         let want = files_of(alloc, version)?;
-        left_of(&self.pinned(rt, alloc, &Ask { who, want })?)
+        left_of(&self.pinned(rt, alloc, want)?)
     }
 }

@@ -1,5 +1,5 @@
 -- What a command writes, to the output and to the notes.
-use Rattle.std.specs.Prelude.{◌≡◌, ℕ, ◌⊎◌, List, take}
+use Rattle.std.specs.Prelude.{◌≡◌, ℕ, ◌⊎◌, List, Option, take}
 use Rattle.std.specs.Io.KnownBytes.{append_known}
 use Rattle.edge_core.specs.Faults.{Rose}
 use Rattle.query_command.specs.Outside.{Outside}
@@ -13,9 +13,12 @@ Writes old new text = new.held ≡ append_known old.held text
 abbrev pub WritesNothing : Outside → Outside → Type 0
 WritesNothing old new = new.held ≡ old.held
 
--- the text was written to the notes, or a front of it where a write to them failed
+-- the text was written to notes that held this, or a front of it where a write to them failed
+abbrev pub IsNoted : (old new : Option (List ℕ)) → (before now : ℕ) → List ℕ → Type 0
+IsNoted old new before now text = (new ≡ append_known old text) ⊎ (Rose before now × ((n : ℕ) × (new ≡ append_known old (take n text))))
+
 abbrev pub Notes : Outside → Outside → List ℕ → Type 0
-Notes old new text = (new.noted ≡ append_known old.noted text) ⊎ (Rose old.note_faults new.note_faults × ((n : ℕ) × (new.noted ≡ append_known old.noted (take n text))))
+Notes old new text = IsNoted old.noted new.noted old.note_faults new.note_faults text
 
 -- nothing but the output changed
 abbrev pub LeavesRest : Outside → Outside → Type 0

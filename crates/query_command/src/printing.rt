@@ -1,7 +1,7 @@
 // What a command writes, to the output and to the notes.
 ghost use Rattle.std.specs.Prelude.{◌≡◌, ◌++◌, codes, decimal};
 ghost use Rattle.query_command.specs.Ends.{note, note_line, status};
-ghost use Rattle.query_command.specs.Writing.{Prints, Tells};
+ghost use Rattle.query_command.specs.Writing.{IsNoted, Prints, Tells};
 ghost use Rattle.query_command.specs.WritingSteps.{Wrote};
 ghost use Rattle.query_command.specs.declared.ends.End.TheVariants as ends;
 
@@ -155,9 +155,10 @@ pub fn tell<S: Source, K: Sink, M: Sink, W: Store, C: Clock, G: Gate, L>(
     }
 }
 
-/// Writes the line for want of memory to the notes, and answers its status.
+/// Writes the line for want of memory to the notes, and answers its status, which a fault in writing it doesn't change.
 pub fn tell_memory<M: Sink>(notes: &mut M) -> u8
-    ensures { result ≡ status ends.NoMemory }
+    ensures status { result ≡ status ends.NoMemory }
+    ensures noted { IsNoted (M.holds notes.old) (M.holds notes.new) (M.faults notes.old) (M.faults notes.new) (note ends.NoMemory) }
 {
     if let Some(note) = End::NoMemory.note() {
         write_note(notes, &note);

@@ -5,6 +5,7 @@ use Rattle.std.proofs.lemmas.List.{flat_map_more}
 use Rattle.std.proofs.lemmas.List.Elements.{All-append, All-cons, All-nil}
 use Rattle.share_lines.specs.declared.kinds.FileLine.{FileLine}
 use Rattle.share_lines.specs.declared.kinds.Line.{Line}
+use Rattle.share_lines.specs.declared.kinds.Line.TheVariants as line
 use Rattle.share_client.specs.Asking.{Answers, Asks}
 use Rattle.share_client.specs.Chains.{Agree, Begun, Chain, Changed, Ends, Paging, Turn}
 use Rattle.share_client.specs.Sides.{Side}
@@ -177,14 +178,14 @@ module _ {X : Type 0} (reads : Line → Option X) (server : Server) (text : Opti
     too_many_pages first token now old new (pages, r) = (pages, token, new, r.begun, inl (refl, r.many, refl))
 
 -- what is answered of files that stand behind none
-is_read : (pages : List (TablePage FileLine)) (found : PageHead × ℕ) (read : TableRead) → read.version ≡ found.0.version → read.meta ≡ found.0.meta
+is_read : (pages : List (TablePage FileLine)) (found : PageHead × ℕ) (read : TableRead) → read.version ≡ found.0.version → read.meta ≡ line.MetaData found.0.meta
     → read.files.items ≡ joined pages → read.pages ≡ found.1 → first_head pages ≡ Some found.0 → found.1 ≡ length pages → IsRead pages read
 is_read [] found read version meta held many head count = absurd cc
 is_read (first ∷ pages) found read version meta held many head count =
-    let same : found.0 ≡ head_of first = cc in (version ∙ ap (λ h. h.version) same, meta ∙ ap (λ h. h.meta) same, held, many ∙ count)
+    let same : found.0 ≡ head_of first = cc in (version ∙ ap (λ h. h.version) same, meta ∙ ap (λ h. line.MetaData h.meta) same, held, many ∙ count)
 
 pub table_read : (g : Paging (TablePage FileLine)) (was now : List FileLine) (found : PageHead × ℕ) (read : TableRead) (old new : Side) → was ≡ []
-    → read.version ≡ found.0.version → read.meta ≡ found.0.meta → read.files.items ≡ now → read.pages ≡ found.1
+    → read.version ≡ found.0.version → read.meta ≡ line.MetaData found.0.meta → read.files.items ≡ now → read.pages ≡ found.1
     → PagesOnto g was now (Ok found) old new → ReadsTable g (Ok read) old new
 table_read g was now found read old new none version meta held many (pages, whole, onto, head, count) =
     (pages, whole, is_read pages found read version meta (held ∙ onto ∙ ap (λ xs. xs ++ joined pages) none) many head count)

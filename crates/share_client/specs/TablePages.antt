@@ -103,9 +103,9 @@ module _ {X : Type 0} (reads : Line → Option X) where
 
 -- ---- what all pages have alike
 
--- the version, and the metadata's line with its text
+-- the version, and the metadata with the text of its line
 abbrev pub head_with : ℕ → MetaLine → PageHead
-head_with version meta = record { version = version; meta = line.MetaData meta; text = line_text (line.MetaData meta) }
+head_with version meta = record { version = version; meta = meta; text = line_text (line.MetaData meta) }
 
 abbrev pub head_of : {X : Type 0} → TablePage X → PageHead
 head_of page = head_with page.version page.meta

@@ -6,7 +6,7 @@ ghost use Rattle.share_client.specs.TableSteps.{Compares, Keeps};
 use crate::ClientFault;
 use crate::target::text_of;
 use json_tree::Text;
-use share_lines::Line;
+use share_lines::MetaLine;
 use std::alloc::Global;
 
 // What a page must have as the first page has it.
@@ -14,9 +14,9 @@ use std::alloc::Global;
 pub(crate) struct PageHead {
     // The version, below 2^63.
     pub(crate) version: u64,
-    // The metadata's line.
-    pub(crate) meta: Line,
-    // The text of that line.
+    // The metadata.
+    pub(crate) meta: MetaLine,
+    // The text of its line.
     pub(crate) text: Text,
 }
 

@@ -11,7 +11,7 @@ use crate::exchange::Response;
 use crate::page_head::PageHead;
 use crate::table_version::version_in;
 use json_tree::{Text, unless_empty};
-use share_lines::{FileLine, Line, LinesFault, MetaLine, line_text, lines_of};
+use share_lines::{FileLine, Line, LinesFault, MetaLine, lines_of, meta_text};
 use std::alloc::{AllocError, Global};
 use std::collections::VecDeque;
 
@@ -138,8 +138,7 @@ fn read_parts<T: Content>(
 fn head_of(alloc: Global, version: u64, meta: MetaLine) -> Result<PageHead, AllocError>
     ensures { IfOk result (λ head. head ≡ head_with version meta) }
 {
-    let meta = Line::MetaData(meta);
-    let text = line_text(alloc, &meta)?;
+    let text = meta_text(alloc, &meta)?;
     Ok(PageHead {
         version,
         meta,

@@ -92,7 +92,7 @@ pub(crate) fn read_table<L: Link>(
     match read_pages(alloc, link, server, &request, &mut files) {
         Ok((head, pages)) => Ok(TableRead {
             version: head.version,
-            meta: head.meta,
+            meta: Line::MetaData(head.meta),
             files,
             pages,
         }),

@@ -170,15 +170,9 @@ impl Hub {
             self.abort_log(rt, pass, log);
             return PlaceEnd::NoMemory;
         };
-        let OwnCommit {
-            held,
-            shared,
-            bytes,
-            name,
-        } = own;
-        match store.put_absent(&name, &bytes) {
+        match store.put_absent(&own.name, &own.bytes) {
             Put::Stored => {
-                self.own_commit(rt, pass, log, held, shared, len);
+                self.own_commit(rt, pass, log, own.held, own.shared, len);
                 PlaceEnd::Done
             }
             Put::Exists => PlaceEnd::Exists,
@@ -334,18 +328,18 @@ impl Hub {
         now: CommitTime,
         offer: &Offer,
         log: u32,
-        mut head: LogHead,
+        head: &mut LogHead,
     ) -> Result<u64, CommitRefusal>
         requires cell { (pass.old.cell ≡ self.now) × (pass.old.holds ≡ false) }
         requires short { length offer.now.location ≤ 256 }
-        requires begun { HoldsHead pass.old log head }
+        requires begun { HoldsHead pass.old log head.old }
         ensures same { IsIdle pass.old pass.new }
         ensures runs { CommitRuns result now offer.now (W.objects store.old) (W.objects store.new) pass.old pass.new log }
         ensures store { CommitLeft result now offer.now log (W.objects store.old) (W.objects store.new) (W.alone store.old) (W.alone store.new) pass.new }
         ensures cause { Cause (W.faults store.old) (W.faults store.new) (failed_commit result) }
     {
         for found in 0..64u32 {
-            match self.commit_round(rt, alloc, pass, store, now, offer, log, &mut head) {
+            match self.commit_round(rt, alloc, pass, store, now, offer, log, head) {
                 None => {}
                 Some(end) => return end,
             }
@@ -380,7 +374,9 @@ impl Hub {
                 Err(CommitRefusal::Blocked { version })
             }
             None => match self.log_head(rt, alloc, pass, log, state) {
-                Ok(head) => { self.commit_rounds(rt, alloc, pass, store, now, offer, log, head) }
+                Ok(mut head) => {
+                    self.commit_rounds(rt, alloc, pass, store, now, offer, log, &mut head)
+                }
                 Err(_) => {
                     self.abort_log(rt, pass, log);
                     Err(CommitRefusal::NoMemory)

@@ -74,11 +74,14 @@ fn prepare(alloc: Global, edit: &Edit, number: u64) -> Result<Own, AllocError>
     ensures same { IfOk result (λ o. (o.edit ≡ edit.now) × (o.shared ≡ edit.now)) }
     ensures stored { IfOk result (λ o. (o.name ≡ record_name_of number) × (o.bytes.items ≡ record_text edit.now)) }
 {
+    let name = record_name(alloc, number)?;
+    let bytes = bytes_of_edit(alloc, edit)?;
+    let shared = SharedEdit::copied(alloc, edit)?;
     Ok(Own {
         edit: edit.copy(alloc)?,
-        shared: SharedEdit::copied(alloc, edit)?,
-        bytes: bytes_of_edit(alloc, edit)?,
-        name: record_name(alloc, number)?,
+        shared,
+        bytes,
+        name,
     })
 }
 
@@ -113,7 +116,8 @@ impl Hub {
         Round::End(end)
     }
 
-    // Puts the record of an edit that may be added, and publishes the edit.
+    // Puts the record of an edit that may be added, and publishes the edit after the log that it needs. That log is lent, and taken
+    // where the record was stored.
     fn put_own<R: Wait, W: Store>(
         &self,
         rt: &R,
@@ -121,15 +125,15 @@ impl Hub {
         pass: &mut HubPass,
         store: &mut W,
         edit: &Edit,
-        load: Option<ReadyLog>,
+        load: &mut Option<ReadyLog>,
         number: u64,
     ) -> Tried
         requires cell { (pass.old.cell ≡ self.now) × (pass.old.holds ≡ false) }
         requires begun { HasBegun pass.old number }
         requires admitted { refusal_of (edits pass.old.seen) edit.now ≡ None }
-        requires fits { LoadFits pass.old.seen edit.now load }
+        requires fits { LoadFits pass.old.seen edit.now load.old }
         ensures same { IsIdle pass.old pass.new }
-        ensures tried { Tries result edit.now load pass.old pass.new }
+        ensures tried { Tries result edit.now load.old pass.old pass.new }
         ensures store { TriedStore result edit.now number (W.objects store.old) (W.objects store.new) (W.alone store.old) (W.alone store.new) pass.new }
         ensures cause { Cause (W.faults store.old) (W.faults store.new) (failed_tried result) }
     {
@@ -137,15 +141,9 @@ impl Hub {
             self.abort(rt, pass);
             return Tried::NoMemory;
         };
-        let Own {
-            edit: mine,
-            shared,
-            bytes,
-            name,
-        } = own;
-        match store.put_absent(&name, &bytes) {
+        match store.put_absent(&own.name, &own.bytes) {
             Put::Stored => {
-                self.publish_own(rt, pass, mine, shared, load);
+                self.publish_own(rt, pass, own.edit, own.shared, load.take());
                 Tried::Done
             }
             Put::Exists => Tried::Exists,
@@ -189,15 +187,15 @@ impl Hub {
         pass: &mut HubPass,
         store: &mut W,
         edit: &Edit,
-        load: Option<ReadyLog>,
+        load: &mut Option<ReadyLog>,
         number: u64,
     ) -> Round
         requires cell { (pass.old.cell ≡ self.now) × (pass.old.holds ≡ false) }
         requires begun { HasBegun pass.old number }
         requires admitted { refusal_of (edits pass.old.seen) edit.now ≡ None }
-        requires fits { LoadFits pass.old.seen edit.now load }
+        requires fits { LoadFits pass.old.seen edit.now load.old }
         ensures same { IsIdle pass.old pass.new }
-        ensures round { OwnRounds result edit.now load number (W.objects store.old) (W.objects store.new) pass.old pass.new }
+        ensures round { OwnRounds result edit.now load.old number (W.objects store.old) (W.objects store.new) pass.old pass.new }
         ensures store { RoundStore result edit.now number (W.objects store.old) (W.objects store.new) (W.alone store.old) (W.alone store.new) pass.new }
         ensures cause { Cause (W.faults store.old) (W.faults store.new) (failed_round result) }
     {
@@ -228,7 +226,7 @@ impl Hub {
         ensures cause { Cause (W.faults store.old) (W.faults store.new) (failed_round result) }
     {
         match self.allow(rt, alloc, pass, store, edit) {
-            Allowed::Fits(load) => self.own(rt, alloc, pass, store, edit, load, number),
+            Allowed::Fits(mut load) => { self.own(rt, alloc, pass, store, edit, &mut load, number) }
             Allowed::Refused(refusal) => self.end_edit(rt, pass, EditEnd::Refused(refusal)),
             Allowed::Failed(refusal) => self.end_edit(rt, pass, failed(refusal)),
         }

@@ -110,7 +110,7 @@ impl Hub {
         })
     }
 
-    // Up to 64 found commits.
+    // Up to 64 found commits. The head is lent: one that is owned here would be dropped where each round may end.
     fn refresh_rounds<R: Wait, W: Store>(
         &self,
         rt: &R,
@@ -119,11 +119,11 @@ impl Hub {
         store: &mut W,
         location: &Name,
         log: u32,
-        mut head: LogHead,
+        head: &mut LogHead,
     ) -> Result<Refreshed, RefreshRefusal>
         requires cell { (pass.old.cell ≡ self.now) × (pass.old.holds ≡ false) }
         requires short { length location.now ≤ 256 }
-        requires begun { HoldsHead pass.old log head }
+        requires begun { HoldsHead pass.old log head.old }
         ensures same { IsIdle pass.old pass.new }
         ensures runs { RefreshRuns result location.now log (W.objects store.old) (W.objects store.new) pass.old pass.new }
         ensures looked { Looked (W.objects store.old) (W.objects store.new) (W.alone store.old) (W.alone store.new) }
@@ -131,7 +131,7 @@ impl Hub {
     {
         for found in 0..64u32 {
             let kept = head.support.versions();
-            match self.next_commit(rt, alloc, pass, store, location, log, &mut head) {
+            match self.next_commit(rt, alloc, pass, store, location, log, head) {
                 NextCommit::Found => {}
                 NextCommit::Absent => {
                     self.abort_log(rt, pass, log);
@@ -177,7 +177,9 @@ impl Hub {
                 Ok(known(state))
             }
             None => match self.log_head(rt, alloc, pass, log, state) {
-                Ok(head) => self.refresh_rounds(rt, alloc, pass, store, location, log, head),
+                Ok(mut head) => {
+                    self.refresh_rounds(rt, alloc, pass, store, location, log, &mut head)
+                }
                 Err(_) => {
                     self.abort_log(rt, pass, log);
                     Err(RefreshRefusal::NoMemory)

@@ -11,17 +11,6 @@ use Rattle.json_print.specs.Tokens.{value_tokens}
 use Rattle.serde_json.specs.Written.{compact_text}
 use Rattle.share_lines.specs.Lines.{protocol_line}
 
--- an object of one name, and a line feed
-abbrev pub line : List ℕ → Data → List ℕ
-line name value = compact_text (object_of ((name, Some value) ∷ [])) ++ 10 ∷ []
-
--- what is written for a line is its text
-pub line_written : (name : List ℕ) (d : Data) (before tokens : List Token) (text : List ℕ) → before ≡ begin_object ∷ key name ∷ [] → tokens ≡ before ++ value_tokens d
-    → text ≡ print (tokens ++ end_object ∷ []) ++ 10 ∷ [] → text ≡ line name d
-line_written name d before tokens text begins goes_on ends =
-    ends ∙ ap (λ ts. print (ts ++ end_object ∷ []) ++ 10 ∷ []) (goes_on ∙ ap (λ ts. ts ++ value_tokens d) begins)
-    ∙ ap (λ ts. ts ++ 10 ∷ []) (print-outline (object_of ((name, Some d) ∷ [])))
-
 -- a text that is put on after another
 pub put_on : {E : Type 0} (r : Result (Unit {0}) E) (new old text wanted : List ℕ) → new ≡ cond (is_ok r) (old ++ text) old → text ≡ wanted → OnOk r (new ≡ old ++ wanted)
 put_on (Ok x) new old text wanted is same = is ∙ ap (λ t. old ++ t) same

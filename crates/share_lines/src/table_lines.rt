@@ -1,42 +1,23 @@
 // Lines of a table's version, and of borrowed parts.
 ghost use Rattle.std.specs.Prelude.{◌≡◌, ◌++◌, [], ◌∷◌, OnOk, OnErr, IfOk, length};
 ghost use Rattle.json.specs.Print.{print};
-ghost use Rattle.json.specs.Token as token;
 ghost use Rattle.json_print.specs.Lengths.{capped};
 ghost use Rattle.json_print.specs.Tokens.{value_tokens};
 ghost use Rattle.share_lines.specs.Lines.{file_line, meta_line, meta_of, protocol_line};
-ghost use Rattle.share_lines.specs.Parts.{file_data, file_in, line_of};
+ghost use Rattle.share_lines.specs.Parts.{file_data, file_in, line_of, meta_in};
 ghost use Rattle.share_lines.specs.Printing.{line_data, line_text};
 ghost use Rattle.share_lines.specs.declared.kinds.Line.TheVariants as line;
 
 use crate::printing::{end_line_object, file_object, meta_object};
-use crate::{EndLine, FileKind, FileParts, MetaParts};
+use crate::{EndLine, FileKind, FileParts, MetaLine, MetaParts};
 use json::Writer;
-use json_print::{Length, Tokens, new_writer};
+use json_print::{Length, Tokens, new_writer, printed};
+use json_tree::Text;
 use log_actions::{AddFile, MetaData};
 use std::alloc::{AllocError, Global};
 
 // Room for most lines.
 const ROOM: usize = 512;
-
-// A line's beginning: an object whose one name this is.
-fn begin(alloc: Global, name: &str) -> Result<Writer, AllocError>
-    ensures { IfOk result (λ line. (line.before ≡ []) × (line.tokens ≡ token.begin_object ∷ token.key name.now ∷ [])) }
-{
-    let mut line = new_writer(alloc, ROOM)?;
-    line.begin_object()?;
-    line.key(name)?;
-    Ok(line)
-}
-
-// The line that was written, with its end and a line feed.
-fn ended(mut line: Writer) -> Result<Vec<u8>, AllocError>
-    requires { line.before ≡ [] }
-    ensures { IfOk result (λ v. v.items ≡ print (line.tokens ++ token.end_object ∷ []) ++ 10 ∷ []) }
-{
-    line.end_object()?;
-    with_line_feed(line)
-}
 
 /// Appends the protocol line. On `Err`, which is want of memory, nothing is appended, here and in the
 /// functions below.
@@ -45,17 +26,6 @@ pub fn push_protocol(out: &mut Vec<u8>) -> Result<(), AllocError>
     ensures kept { OnErr result (out.new.items ≡ out.old.items) }
 {
     out.extend_from_slice(b"{\"protocol\":{\"minReaderVersion\":1}}\n")
-}
-
-/// Appends a metaData's line.
-pub fn push_meta(alloc: Global, out: &mut Vec<u8>, meta: &MetaData) -> Result<(), AllocError>
-    ensures line { OnOk result (out.new.items ≡ out.old.items ++ meta_line meta.now) }
-    ensures kept { OnErr result (out.new.items ≡ out.old.items) }
-{
-    let mut line = begin(alloc, "metaData")?;
-    meta_object(&mut line, &MetaParts::of_action(meta))?;
-    let text = ended(line)?;
-    out.extend_from_slice(&text)
 }
 
 // What was written, and a line feed.
@@ -117,16 +87,37 @@ pub fn push_file(alloc: Global, out: &mut Vec<u8>, file: &AddFile) -> Result<(),
     push_file_parts(alloc, out, FileKind::File, &FileParts::of_add(file))
 }
 
-// ---- how long the other lines are
-
-fn meta_line_object<W: Tokens>(writer: &mut W, meta: &MetaData) -> Result<(), W::Error>
-    ensures { OnOk result (W.adds writer.old writer.new (value_tokens (line_data (line.MetaData (meta_of meta.now))))) }
+// The object of a metaData's line.
+fn meta_line_object<W: Tokens>(writer: &mut W, meta: &MetaParts<'_>) -> Result<(), W::Error>
+    ensures { OnOk result (W.adds writer.old writer.new (value_tokens (line_data (line.MetaData (meta_in meta.now))))) }
 {
     writer.begin_object()?;
     writer.key("metaData")?;
-    meta_object(writer, &MetaParts::of_action(meta))?;
+    meta_object(writer, meta)?;
     writer.end_object()
 }
+
+/// Appends a metaData's line.
+pub fn push_meta(alloc: Global, out: &mut Vec<u8>, meta: &MetaData) -> Result<(), AllocError>
+    ensures line { OnOk result (out.new.items ≡ out.old.items ++ meta_line meta.now) }
+    ensures kept { OnErr result (out.new.items ≡ out.old.items) }
+{
+    let mut writer = new_writer(alloc, ROOM)?;
+    meta_line_object(&mut writer, &MetaParts::of_action(meta))?;
+    let text = with_line_feed(writer)?;
+    out.extend_from_slice(&text)
+}
+
+/// The text of a metaData's line, without a line feed. The error is want of memory.
+pub fn meta_text(alloc: Global, meta: &MetaLine) -> Result<Text, AllocError>
+    ensures { IfOk result (λ t. t ≡ line_text (line.MetaData meta.now)) }
+{
+    let mut writer = new_writer(alloc, ROOM)?;
+    meta_line_object(&mut writer, &MetaParts::of_line(meta))?;
+    Ok(Text::of(printed(writer)))
+}
+
+// ---- how long the other lines are
 
 /// How many bytes `push_meta` appends, but for the line feed: 2^64 - 1 where they are more. It takes no
 /// memory.
@@ -134,7 +125,7 @@ pub fn meta_len(meta: &MetaData) -> u64
     ensures { result ≡ capped (length (line_text (line.MetaData (meta_of meta.now)))) }
 {
     let mut length = Length::new();
-    let Ok(()) = meta_line_object(&mut length, meta);
+    let Ok(()) = meta_line_object(&mut length, &MetaParts::of_action(meta));
     length.bytes
 }
 

@@ -155,16 +155,13 @@ impl<R: Wait + Copy, W: Store + Drop, C: Clock + Drop, G: Gate + Drop> Link
     ghost write_faults = { λ l. fault_count l.write_faults };
 
     fn open(&mut self, _host: &str, _port: u16) -> Opened<LoopSource<R, W, C, G>, LoopSink<R>> {
-        match open_next(self.rt, self.alloc, &self.peer, &mut self.plan, &self.heard) {
-            Ok((input, output)) => {
-                self.out = true;
-                Opened::Line(input, output)
-            }
-            Err(_) => {
-                self.faults.note(true);
-                Opened::Failed
-            }
-        }
+        let opened = open_next(self.rt, self.alloc, &self.peer, &mut self.plan, &self.heard);
+        let Ok((input, output)) = opened else {
+            self.faults.note(true);
+            return Opened::Failed;
+        };
+        self.out = true;
+        Opened::Line(input, output)
     }
 
     fn close(&mut self, input: LoopSource<R, W, C, G>, output: LoopSink<R>) {

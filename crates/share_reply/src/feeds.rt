@@ -25,7 +25,7 @@ use change_feed::{Change, FeedRefusal, changes};
 use json_tree::{Millis, Place, Text, Version};
 use log_actions::{Action, Commit, MetaData};
 use log_replay::{Mark, meta_in};
-use page_token::{Asked, Cursor, FeedCursor, cursor_of, spell};
+use page_token::{Asked, Cursor, FeedCursor, cursor_of};
 use share_book::{FeedPart, PartFound};
 use share_lines::EndLine;
 use share_request::Bound;
@@ -214,15 +214,15 @@ fn next_token(
     let Some(place) = next else {
         return Ok(None);
     };
-    let cursor = Cursor::Feed(FeedCursor {
+    let cursor = FeedCursor {
         access: access.for_token(alloc)?,
         asked_from: begin.asked_from,
         asked_to: begin.asked_to,
         from: begin.from,
         to: begin.to,
         place: place_of(place)?,
-    });
-    Ok(Some(spell(alloc, &keys.token, &cursor)?))
+    };
+    Ok(Some(keys.token_of(alloc, Cursor::Feed(cursor))?))
 }
 
 // The end of a page, where pages are asked for.

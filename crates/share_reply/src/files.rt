@@ -20,7 +20,7 @@ use crate::stop::Stop;
 use case_table::Refusal;
 use json_tree::{Millis, Place, Text, Version};
 use log_replay::Snapshot;
-use page_token::{Asked, Cursor, FilesCursor, cursor_of, spell};
+use page_token::{Asked, Cursor, FilesCursor, cursor_of};
 use pred_tree::{Filter, pred_of};
 use share_book::{PartFound, TableRefusal};
 use share_lines::EndLine;
@@ -189,14 +189,14 @@ fn next_token(
     let Some(place) = next else {
         return Ok(None);
     };
-    let cursor = Cursor::Files(FilesCursor {
+    let cursor = FilesCursor {
         access: access.for_token(alloc)?,
         asked: begin.asked,
         version: begin.version,
         hint: begin.hint,
         place: place_of(place)?,
-    });
-    Ok(Some(spell(alloc, &keys.token, &cursor)?))
+    };
+    Ok(Some(keys.token_of(alloc, Cursor::Files(cursor))?))
 }
 
 // When the links of a page end, where it has any.

@@ -1,6 +1,12 @@
 // What tokens and links are made with.
+ghost use Rattle.std.specs.Prelude.{◌≡◌, IfOk};
+ghost use Rattle.page_token.specs.Token.{token_text};
+
 use hmac_core::HmacKey;
+use json_tree::Text;
+use page_token::{Cursor, spell};
 use share_config::{Endpoint, LinkTtl};
+use std::alloc::{AllocError, Global};
 
 /// What page tokens and links are signed with, prepared once, and how links begin and end.
 #[derive(Drop)]
@@ -13,4 +19,13 @@ pub struct ReplyKeys {
     pub ttl: LinkTtl,
     /// The address that links begin with.
     pub endpoint: Endpoint,
+}
+
+impl ReplyKeys {
+    /// The page token of a cursor.
+    pub(crate) fn token_of(&self, alloc: Global, cursor: Cursor) -> Result<Text, AllocError>
+        ensures { IfOk result (λ t. t ≡ token_text self.now.token cursor) }
+    {
+        spell(alloc, &self.token, &cursor)
+    }
 }

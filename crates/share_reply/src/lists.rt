@@ -16,7 +16,7 @@ use crate::stop::Stop;
 use crate::walk::{Gathered, Listed, Range, gather_shares, gather_tables};
 use case_table::Refusal;
 use json_tree::Text;
-use page_token::{Cursor, ListCursor, ListKind, cursor_of, kind_text, spell};
+use page_token::{Cursor, ListCursor, ListKind, cursor_of, kind_text};
 use share_book::Names;
 use share_catalog::CatalogName;
 use share_request::ListPage;
@@ -220,7 +220,7 @@ fn next_token(
     }
     let last = last_given(alloc, &page.names, after)?;
     let cursor = cursor_behind(alloc, recipient, listing, last)?;
-    Ok(Some(spell(alloc, &keys.token, &cursor)?))
+    Ok(Some(keys.token_of(alloc, cursor)?))
 }
 
 // The page behind a name.

@@ -3,7 +3,7 @@ ghost use Rattle.std.specs.Prelude.{◌≡◌};
 ghost use Rattle.share_reply.specs.declared.stop.Stop.TheVariants as stop;
 
 use crate::refused::Refused;
-use std::alloc::{AllocError, AllocFailed};
+use std::alloc::AllocError;
 
 // Why there is no answer.
 #[derive(Drop)]
@@ -16,14 +16,6 @@ impl From<AllocError> for Stop {
     ghost from_gives = { λ _ e. e ≡ stop.NoMemory };
 
     fn from(_: AllocError) -> Self {
-        Stop::NoMemory
-    }
-}
-
-impl<T: Drop> From<AllocFailed<T>> for Stop {
-    ghost from_gives = { λ _ e. e ≡ stop.NoMemory };
-
-    fn from(_: AllocFailed<T>) -> Self {
         Stop::NoMemory
     }
 }

@@ -165,16 +165,10 @@ fn send_all<W: Store, K: Sink>(
     ensures cause { DeliveryCause result (W.objects store.old) (W.faults store.old) (W.faults store.new) (K.faults sink.old) (K.faults sink.new) }
 {
     match ByteRange::of(0, size.saturating_sub(1), size) {
-        Some(range) => send_range(
-            alloc,
-            store,
-            name,
-            sink,
-            delivery,
-            piece,
-            Status::Ok(None),
-            range,
-        ),
+        Some(range) => {
+            let whole = Status::Ok(None);
+            send_range(alloc, store, name, sink, delivery, piece, whole, range)
+        }
         None => of_sent(send_response(alloc, sink, delivery, &empty_response(alloc))),
     }
 }
@@ -201,16 +195,10 @@ fn send_found<W: Store, K: Sink>(
 {
     match pick(span, size) {
         Picked::Whole => send_all(alloc, store, name, sink, delivery, piece, size),
-        Picked::Part(range) => send_range(
-            alloc,
-            store,
-            name,
-            sink,
-            delivery,
-            piece,
-            Status::PartialContent(range),
-            range,
-        ),
+        Picked::Part(range) => {
+            let part = Status::PartialContent(range);
+            send_range(alloc, store, name, sink, delivery, piece, part, range)
+        }
         Picked::Out => send_out(alloc, sink, delivery, size),
     }
 }

@@ -1,4 +1,5 @@
 use Rattle.std.proofs.Common.{Ok, refl}
+use Rattle.share_lines.specs.declared.kinds.Line.TheVariants as line
 use Rattle.share_client.specs.TableSteps.{PagesOnto}
 use Rattle.share_client.specs.Tables.{files, ReadsTable}
 use Rattle.share_client.specs.declared.table_read.TableRead.{TableRead}
@@ -12,7 +13,7 @@ returns-in-Ok-clause-told g c =
     let was = c.new-files.result.items in
     let found = c.read_pages.new.found in
     let head = c.in-Ok.head in
-    let read : TableRead = record { version = head.version; meta = head.meta; files = found; pages = c.in-Ok.pages } in
+    let read : TableRead = record { version = head.version; meta = line.MetaData head.meta; files = found; pages = c.in-Ok.pages } in
     known_as g.L.Link.coming g.L.Link.closed c.args.link.now c.read_pages.new.link
     (PagesOnto paging was found.items (Ok (head, c.in-Ok.pages)))
     (ReadsTable paging (Ok read))

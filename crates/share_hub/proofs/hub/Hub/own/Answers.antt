@@ -5,7 +5,7 @@ use Rattle.share_hub.proofs.hub.Hub.own.Goals as goal
 
 pub returns-in-Done-clause-round : goal.returns-in-Done-clause-round
 returns-in-Done-clause-round g c =
-    own_done c.args.edit.now c.args.load c.args.number _ _ c.args.pass.now c.put_own.new.pass c.put_own.ensures.same.number c.requires.begun.count c.in-Done.ensures.store.grows c.in-Done.ensures.tried
+    own_done c.args.edit.now c.args.load.now c.args.number _ _ c.args.pass.now c.put_own.new.pass c.put_own.ensures.same.number c.requires.begun.count c.in-Done.ensures.store.grows c.in-Done.ensures.tried
 
 pub returns-in-Exists-clause-round : goal.returns-in-Exists-clause-round
 returns-in-Exists-clause-round g c before h w =
