@@ -201,19 +201,13 @@ profile_wanted name e old new input objects held noted result profile calm found
     (listed, begun, ended, subst (λ p. Fulfils (asked_of p (call_in e input)) old new result held noted) (sym is) does)
 
 no_body : (e : CallWords) (input : List ℕ) → IsRead e → input_body input ≡ None → call_in e input ≡ None
-no_body worded.Tables input is none = absurd is
 no_body (worded.Read table) input is none = ap (option_map (calls.Read table)) none
-no_body (worded.Changes table from to) input is none = absurd is
-no_body (worded.Fetch url) input is none = absurd is
-no_body (worded.FetchPieces url piece) input is none = absurd is
+no_body (worded.Whole call) input is none = absurd is
 
 names_call : (e : CallWords) (c : Call) (input : List ℕ) (old new : Option (List ℕ)) → old ≡ Some input → NamesCall e c old new → call_in e input ≡ Some c
-names_call worded.Tables c input old new told names = ap Some (sym names.0)
 names_call (worded.Read table) c input old new told ((body, is, reads), end) =
     ap (option_map (calls.Read table)) (subst (λ o. IfSome o (λ i. input_body i ≡ Some body)) told reads) ∙ ap Some (sym is)
-names_call (worded.Changes table from to) c input old new told names = ap Some (sym names.0)
-names_call (worded.Fetch url) c input old new told names = ap Some (sym names.0)
-names_call (worded.FetchPieces url piece) c input old new told names = ap Some (sym names.0)
+names_call (worded.Whole call) c input old new told names = ap Some (sym names.0)
 
 uncalled_law : (name : List ℕ) (e : CallWords) (why : NoCall) (old new : Outside) (end : End) (result : ℕ) (input : List ℕ) (objects : Objects) (held noted : List ℕ) → end ≡ end_uncalled why → result ≡ status end → HasNoCall why name e old new → new.held ≡ old.held
     → Notes old new (note end) → IsCalm old new input objects held noted → (result ≡ 6) ⊎ DoesAt (Some (command.Client name e)) old new input objects held noted result

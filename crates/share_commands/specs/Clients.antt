@@ -60,18 +60,12 @@ input_body input = if nat_le (length input) input_limit then body_in input else 
 
 -- the call that the words name, for `read` with the input as the body
 abbrev pub call_in : CallWords → (input : List ℕ) → Option Call
-call_in worded.Tables input = Some calls.Tables
 call_in (worded.Read table) input = option_map (calls.Read table) (input_body input)
-call_in (worded.Changes table from to) input = Some (calls.Changes table from to)
-call_in (worded.Fetch url) input = Some (calls.Fetch url)
-call_in (worded.FetchPieces url piece) input = Some (calls.FetchPieces url piece)
+call_in (worded.Whole call) input = Some call
 
 abbrev pub IsRead : CallWords → Type 0
-IsRead worded.Tables = ⊥
 IsRead (worded.Read table) = ⊤
-IsRead (worded.Changes table from to) = ⊥
-IsRead (worded.Fetch url) = ⊥
-IsRead (worded.FetchPieces url piece) = ⊥
+IsRead (worded.Whole call) = ⊥
 
 -- `read` with the body that the input is, which is then read to its end
 abbrev pub ReadsBody : SharedTable → Call → (old new : Option (List ℕ)) → Type 0
@@ -79,11 +73,8 @@ ReadsBody table c old new = ((body : List ℕ) × (c ≡ calls.Read table body) 
 
 -- The call that the words name; `read` alone reads the input.
 abbrev pub NamesCall : CallWords → Call → (old new : Option (List ℕ)) → Type 0
-NamesCall worded.Tables c old new = (c ≡ calls.Tables) × (new ≡ old)
 NamesCall (worded.Read table) c old new = ReadsBody table c old new
-NamesCall (worded.Changes table from to) c old new = (c ≡ calls.Changes table from to) × (new ≡ old)
-NamesCall (worded.Fetch url) c old new = (c ≡ calls.Fetch url) × (new ≡ old)
-NamesCall (worded.FetchPieces url piece) c old new = (c ≡ calls.FetchPieces url piece) × (new ≡ old)
+NamesCall (worded.Whole call) c old new = (c ≡ call) × (new ≡ old)
 
 -- at one moment the store's profile of that name is this, or there is none
 abbrev pub HasProfile : (name : List ℕ) → Option Profile → Option Objects → Option Objects → Type 0

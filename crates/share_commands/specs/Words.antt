@@ -5,6 +5,7 @@ use Rattle.edge_core.specs.Names.{is_name}
 use Rattle.text_forms.specs.Numbers as numbers
 use Rattle.query_command.specs.Answer.{location_in}
 use Rattle.share_client.specs.declared.listing.SharedTable.{SharedTable}
+use Rattle.client_calls.specs.declared.call.Call.TheVariants as calls
 use Rattle.share_commands.specs.declared.words.CallWords.{CallWords}
 use Rattle.share_commands.specs.declared.words.CallWords.TheVariants as worded
 use Rattle.share_commands.specs.declared.words.Command.{Command}
@@ -55,15 +56,15 @@ name_in text = if is_name text then Some text else None
 
 -- `tables`
 abbrev pub tables_in : List ℕ → Option CallWords
-tables_in word = if bytes_eq word (codes "tables") then Some worded.Tables else None
+tables_in word = if bytes_eq word (codes "tables") then Some (worded.Whole calls.Tables) else None
 
 -- `fetch .. URL`
 abbrev pub fetch_in : (word url : List ℕ) → Option CallWords
-fetch_in word url = if bytes_eq word (codes "fetch") then Some (worded.Fetch url) else None
+fetch_in word url = if bytes_eq word (codes "fetch") then Some (worded.Whole (calls.Fetch url)) else None
 
 -- `fetch .. URL PIECE`, with 1 to 134217728 bytes a piece, 2^27
 abbrev pub pieces_in : (word url piece : List ℕ) → Option CallWords
-pieces_in word url piece = if bytes_eq word (codes "fetch") then option_map (worded.FetchPieces url) (number_in 1 134217728 piece) else None
+pieces_in word url piece = if bytes_eq word (codes "fetch") then option_map (λ p. worded.Whole (calls.FetchPieces url p)) (number_in 1 134217728 piece) else None
 
 -- `read .. SHARE SCHEMA TABLE`
 abbrev pub read_in : (word share schema table : List ℕ) → Option CallWords
@@ -73,7 +74,7 @@ read_in word share schema table = if bytes_eq word (codes "read") then Some (wor
 abbrev pub changes_in : List ℕ → SharedTable → (from to : List ℕ) → Option CallWords
 changes_in word table from to =
     if bytes_eq word (codes "changes")
-    then option_and_then (λ f. option_map (λ t. worded.Changes table f t) (version_in to)) (version_in from)
+    then option_and_then (λ f. option_map (λ t. worded.Whole (calls.Changes table f t)) (version_in to)) (version_in from)
     else None
 
 abbrev pub call_words_in : List ℕ → List (String Global) → Option CallWords

@@ -112,14 +112,11 @@ fn call_of<S: Source, K: Sink, M: Sink, W: Store, C: Clock, G: Gate, L>(
     ensures rest { ReadsOnly edge.old edge.new }
 {
     match call_words {
-        CallWords::Tables => Ok(Call::Tables),
         CallWords::Read(table) => match body_asked(alloc, &mut edge.input) {
             Ok(body) => Ok(Call::Read(table, body)),
             Err(why) => Err(why),
         },
-        CallWords::Changes { table, from, to } => Ok(Call::Changes { table, from, to }),
-        CallWords::Fetch(url) => Ok(Call::Fetch(url)),
-        CallWords::FetchPieces { url, piece } => Ok(Call::FetchPieces { url, piece }),
+        CallWords::Whole(call) => Ok(call),
     }
 }
 

@@ -2,7 +2,7 @@
 ghost use Rattle.std.specs.Prelude.{◌≡◌, IfOk};
 ghost use Rattle.share_commands.specs.Words.{begins_with_zero, changes_in, client_in, command_in, call_words_in, fetch_in, pieces_in, long_in, name_in, number_in, pair_in, query_in, read_in, rehearse_in, serve_in, single_in, tables_in, version_in};
 
-use client_calls::PieceSize;
+use client_calls::{Call, PieceSize};
 use edge_core::Name;
 use json_tree::Text;
 use query_command::location_of;
@@ -74,23 +74,11 @@ const MOST_REHEARSAL: u64 = (1 << 32) - 1;
 /// The call that the words of `client` name.
 #[derive(Drop)]
 pub enum CallWords {
-    /// `tables`: the tables that are shared with the recipient.
-    Tables,
     /// `read`: the files of a table, by the query of the input.
     Read(SharedTable),
-    /// `changes`: the changes of a table from a version to another, both below 2^63.
-    Changes {
-        table: SharedTable,
-        from: u64,
-        to: u64,
-    },
-    /// `fetch`: the file of a link.
-    Fetch(Text),
-    /// `fetch` with a number: the file of a link, in pieces of so many bytes.
-    FetchPieces {
-        url: Text,
-        piece: PieceSize,
-    },
+    /// Any other call, which the words name whole: `tables`; `changes`, from a version to another, both below 2^63; `fetch`, and with a
+    /// number in pieces of so many bytes.
+    Whole(Call),
 }
 
 /// A command, with what its words name.
@@ -229,7 +217,7 @@ fn tables_of(call: &str) -> Option<CallWords>
     ensures { result ≡ tables_in call.now }
 {
     if call == "tables" {
-        Some(CallWords::Tables)
+        Some(CallWords::Whole(Call::Tables))
     } else {
         None
     }
@@ -241,7 +229,8 @@ fn fetch_of(alloc: Global, call: &str, url: &str) -> Result<Option<CallWords>, A
     if call != "fetch" {
         return Ok(None);
     }
-    Ok(Some(CallWords::Fetch(text_of(alloc, url)?)))
+    let url = text_of(alloc, url)?;
+    Ok(Some(CallWords::Whole(Call::Fetch(url))))
 }
 
 // How many bytes a piece has, by a word.
@@ -266,10 +255,10 @@ fn pieces_of(
         return Ok(None);
     }
     match piece_of(piece) {
-        Some(piece) => Ok(Some(CallWords::FetchPieces {
-            url: text_of(alloc, url)?,
-            piece,
-        })),
+        Some(piece) => {
+            let url = text_of(alloc, url)?;
+            Ok(Some(CallWords::Whole(Call::FetchPieces { url, piece })))
+        }
         None => Ok(None),
     }
 }
@@ -297,7 +286,7 @@ fn changes_of(call: &str, table: SharedTable, from: &str, to: &str) -> Option<Ca
     }
     let from = version_of(from)?;
     let to = version_of(to)?;
-    Some(CallWords::Changes { table, from, to })
+    Some(CallWords::Whole(Call::Changes { table, from, to }))
 }
 
 // What the words of a client name behind the profile.
