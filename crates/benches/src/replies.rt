@@ -11,7 +11,9 @@ mod table;
 use crate::replies::printed::{bare, planned, printed};
 use crate::replies::table::{query, seen_of, state_of};
 use crate::words::{status, words_of};
-use share_book::SharedSnapshot;
+use share_book::{Seen, SharedSnapshot};
+use share_reply::ReplyKeys;
+use share_request::Request;
 use std::alloc::Global;
 use std::io;
 use std::process::ExitCode;
@@ -47,14 +49,17 @@ fn repeat_bare(alloc: Global, state: &SharedSnapshot, load: Load) -> Option<()> 
     Some(())
 }
 
-fn repeat_pages(alloc: Global, state: SharedSnapshot, load: Load) -> Option<()> {
-    let keys = table::keys(alloc)?;
-    let request = query(alloc, &keys, load.place, load.most)?;
-    let seen = seen_of(alloc, state)?;
+fn repeat_pages(
+    alloc: Global,
+    keys: &ReplyKeys,
+    request: &Request,
+    seen: &Option<Seen>,
+    load: Load,
+) -> Option<()> {
     for _ in 0..load.times {
         let told = match load.kind {
-            Kind::Lines => printed(alloc, &keys, &request, &seen)?,
-            Kind::Plan | Kind::Bare => planned(alloc, &keys, &request, &seen)?,
+            Kind::Lines => printed(alloc, keys, request, seen)?,
+            Kind::Plan | Kind::Bare => planned(alloc, keys, request, seen)?,
         };
         // The protocol, the metaData and the end stand beside the files.
         if told.saturating_sub(3) != count(load) {
@@ -64,11 +69,28 @@ fn repeat_pages(alloc: Global, state: SharedSnapshot, load: Load) -> Option<()> 
     Some(())
 }
 
+// What is seen is much to drop, so it is made in a function of its own.
+fn repeat_shown(
+    alloc: Global,
+    keys: &ReplyKeys,
+    request: &Request,
+    state: SharedSnapshot,
+    load: Load,
+) -> Option<()> {
+    repeat_pages(alloc, keys, request, &seen_of(alloc, state)?, load)
+}
+
+fn repeat_query(alloc: Global, state: SharedSnapshot, load: Load) -> Option<()> {
+    let keys = table::keys(alloc)?;
+    let request = query(alloc, &keys, load.place, load.most)?;
+    repeat_shown(alloc, &keys, &request, state, load)
+}
+
 fn repeat(alloc: Global, load: Load) -> Option<()> {
     let state = state_of(alloc, load.files)?;
     match load.kind {
         Kind::Bare => repeat_bare(alloc, &state, load),
-        Kind::Plan | Kind::Lines => repeat_pages(alloc, state, load),
+        Kind::Plan | Kind::Lines => repeat_query(alloc, state, load),
     }
 }
 

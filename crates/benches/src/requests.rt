@@ -11,6 +11,7 @@ use json_tree::Text;
 use share_request::{Request, request_of};
 use std::alloc::{AllocError, Global};
 use std::process::ExitCode;
+use std::sync::Arc;
 use std::time::Instant;
 use std::{env, io};
 
@@ -65,10 +66,23 @@ fn bytes_of(head: &Head) -> u64 {
     bytes
 }
 
-fn is_read(alloc: Global, head: &Head) -> bool {
-    match request_of(alloc, head, b"") {
-        Ok(Request::ByToken(by)) => by.asked.is_ok(),
+// The request, shared, since a function that drops one of its own takes long to prove.
+fn request(alloc: Global, head: &Head) -> Option<Arc<Request>> {
+    let request = request_of(alloc, head, b"").ok()?;
+    Arc::new(alloc, request).ok()
+}
+
+fn is_asked(request: &Request) -> bool {
+    match request {
+        Request::ByToken(by) => by.asked.is_ok(),
         _ => false,
+    }
+}
+
+fn is_read(alloc: Global, head: &Head) -> bool {
+    match request(alloc, head) {
+        Some(request) => is_asked(&request),
+        None => false,
     }
 }
 

@@ -42,6 +42,11 @@ fn edit_of(alloc: Global, text: &str) -> Option<Edit> {
     edit_at(alloc, &object).ok()
 }
 
+// The record of an edit.
+fn record_of(alloc: Global, text: &str) -> Option<Vec<u8>> {
+    bytes_of_edit(alloc, &edit_of(alloc, text)?).ok()
+}
+
 /// Someone else stores an edit as the record of that number.
 pub(crate) fn stock_record(
     alloc: Global,
@@ -49,9 +54,8 @@ pub(crate) fn stock_record(
     number: u64,
     text: &str,
 ) -> Option<()> {
-    let edit = edit_of(alloc, text)?;
     let name = record_name(alloc, number).ok()?;
-    let bytes = bytes_of_edit(alloc, &edit).ok()?;
+    let bytes = record_of(alloc, text)?;
     store.stock(Stored { name, bytes });
     Some(())
 }

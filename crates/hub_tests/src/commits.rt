@@ -1,5 +1,5 @@
 // Commits to a table, by servers over one store in memory.
-use crate::script::{Act, DONE, Step, are_told, place_after};
+use crate::script::{Act, DONE, Place, Step, are_told, place_after};
 use std::alloc::Global;
 use std::sync::Wait;
 
@@ -134,11 +134,17 @@ fn long_add(alloc: Global) -> Option<String> {
     Some(text)
 }
 
-fn large<R: Wait>(rt: &R, alloc: Global) -> Option<bool> {
-    let mut place = place_after(rt, alloc, &SET_UP)?;
-    let one = place.commit(rt, alloc, 0, long_add(alloc)?.as_str())?;
+// A server is much to drop, so what may end comes over a reference to it.
+fn is_large_kept<R: Wait>(rt: &R, alloc: Global, place: &mut Place, line: &str) -> Option<bool> {
+    let one = place.commit(rt, alloc, 0, line)?;
     let two = place.commit(rt, alloc, 1, ADD_B)?;
     Some(one == ("version", 1, 0) && two == ("version", 2, 0))
+}
+
+fn large<R: Wait>(rt: &R, alloc: Global) -> Option<bool> {
+    let line = long_add(alloc)?;
+    let mut place = place_after(rt, alloc, &SET_UP)?;
+    is_large_kept(rt, alloc, &mut place, line.as_str())
 }
 
 #[test]

@@ -6,6 +6,7 @@ use json_tree::Text;
 use share_book::{Found, Names, Seen};
 use share_catalog::CatalogName;
 use share_reply::Plan;
+use share_request::Request;
 use std::alloc::Global;
 
 static LISTS_1: [Case; 10] = [
@@ -322,15 +323,23 @@ fn seen_many(alloc: Global, shares: u64) -> Option<Seen> {
     seen(alloc, None, Found::Names(names))
 }
 
-// What a list of so many shares is answered.
-fn listed(alloc: Global, target: &str, shares: u64) -> Option<Text> {
-    let seen = Some(seen_many(alloc, shares)?);
-    let request = request(alloc, "GET", target, "")?;
+// What is seen is much to drop, so it is made in a function of its own.
+fn list_of(alloc: Global, request: &Request, seen: &Option<Seen>) -> Option<Text> {
     let keys = keys(alloc)?;
-    match plan(alloc, &keys, &request, 0, &seen)? {
+    match plan(alloc, &keys, request, 0, seen)? {
         Plan::Json(text) => Some(text),
         _ => None,
     }
+}
+
+fn list_by(alloc: Global, request: &Request, shares: u64) -> Option<Text> {
+    list_of(alloc, request, &Some(seen_many(alloc, shares)?))
+}
+
+// What a list of so many shares is answered.
+fn listed(alloc: Global, target: &str, shares: u64) -> Option<Text> {
+    let request = request(alloc, "GET", target, "")?;
+    list_by(alloc, &request, shares)
 }
 
 fn counted(text: &str) -> usize {

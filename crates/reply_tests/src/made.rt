@@ -9,6 +9,7 @@ use share_config::{Endpoint, LinkTtl};
 use share_reply::{Plan, ReplyKeys, plan_of};
 use share_request::{Request, request_of};
 use std::alloc::Global;
+use std::sync::Arc;
 
 /// Keys of 32 bytes each, and links that hold for an hour.
 pub(crate) fn keys(alloc: Global) -> Option<ReplyKeys> {
@@ -46,25 +47,32 @@ pub(crate) fn plan<'a>(
     plan_of(alloc, keys, request, Millis::of(now)?, seen).ok()
 }
 
-/// The request of a head with these parts, and a body. It has no Authorization field where that is empty.
+/// The request of a head with these parts, and a body. It has no Authorization field where that is empty. It is shared, since a function
+/// that drops a request of its own takes long to prove.
 pub(crate) fn request_by(
     alloc: Global,
     method: &str,
     target: &str,
     authorization: &str,
     body: &str,
-) -> Option<Request> {
+) -> Option<Arc<Request>> {
     let head = Head {
         method: text(alloc, method)?,
         target: text(alloc, target)?,
         minor: 1,
         fields: fields(alloc, authorization)?,
     };
-    request_of(alloc, &head, body.as_bytes()).ok()
+    let request = request_of(alloc, &head, body.as_bytes()).ok()?;
+    Arc::new(alloc, request).ok()
 }
 
 /// The same of who has the token `abc`.
-pub(crate) fn request(alloc: Global, method: &str, target: &str, body: &str) -> Option<Request> {
+pub(crate) fn request(
+    alloc: Global,
+    method: &str,
+    target: &str,
+    body: &str,
+) -> Option<Arc<Request>> {
     request_by(alloc, method, target, "Bearer abc", body)
 }
 

@@ -4,6 +4,7 @@ use http_message::head::Head;
 use json_tree::Text;
 use share_request::{Request, request_of};
 use std::alloc::Global;
+use std::sync::Arc;
 
 fn text(alloc: Global, text: &str) -> Option<Text> {
     Some(Text::of(String::from_str(alloc, text).ok()?))
@@ -30,14 +31,16 @@ pub fn head(alloc: Global, method: &str, target: &str, authorization: &str) -> O
     })
 }
 
-/// The request of a head with these parts, and a body.
+/// The request of a head with these parts, and a body. It is shared, since a function that drops a request of its own takes long to
+/// prove.
 pub fn request(
     alloc: Global,
     method: &str,
     target: &str,
     authorization: &str,
     body: &str,
-) -> Option<Request> {
+) -> Option<Arc<Request>> {
     let head = head(alloc, method, target, authorization)?;
-    request_of(alloc, &head, body.as_bytes()).ok()
+    let request = request_of(alloc, &head, body.as_bytes()).ok()?;
+    Arc::new(alloc, request).ok()
 }

@@ -86,13 +86,20 @@ fn text(alloc: Global, of: &str) -> Option<Text> {
 }
 
 // Whether the line's text is this one, and so long.
-fn is_printed(alloc: Global, line: &Line, wanted: &str) -> bool
+fn is_text_of(alloc: Global, line: &Line, wanted: &str) -> bool
     requires { IsTrue (is_printable line.now) }
 {
     match line_text(alloc, line) {
         Ok(text) => text.as_str() == wanted && line_len(line) == wanted.len() as u64,
         Err(_) => false,
     }
+}
+
+// The same of a line that it takes: a line is much to drop, so it is dropped in few places.
+fn is_printed(alloc: Global, line: Line, wanted: &str) -> bool
+    requires { IsTrue (is_printable line) }
+{
+    is_text_of(alloc, &line, wanted)
 }
 
 // A file that comes with no change.
@@ -117,7 +124,7 @@ fn file(alloc: Global, stats: &str) -> Option<FileLine>
 
 fn is_file_printed(alloc: Global, stats: &str, wanted: &str) -> Option<bool> {
     let file = file(alloc, stats)?;
-    Some(is_printed(alloc, &Line::File(file), wanted))
+    Some(is_printed(alloc, Line::File(file), wanted))
 }
 
 const FILE_FRONT: &str =
@@ -135,10 +142,10 @@ fn prints_a_file(rt: HostRuntime) {
     }
 }
 
-fn is_pushed(alloc: Global, out: &mut String, line: &Line) -> bool
-    requires { IsTrue (is_printable line.now) }
+fn is_pushed(alloc: Global, out: &mut String, line: Line) -> bool
+    requires { IsTrue (is_printable line) }
 {
-    push_line(alloc, out, line).is_ok()
+    push_line(alloc, out, &line).is_ok()
 }
 
 // A file that a change removes.
@@ -164,7 +171,7 @@ fn removed(alloc: Global) -> Option<String> {
     let mut out = String::from_str(alloc, "\n").ok()?;
     let url = text(alloc, "u")?;
     let id = text(alloc, "a")?;
-    if is_pushed(alloc, &mut out, &gone(alloc, url, id, size, version)) {
+    if is_pushed(alloc, &mut out, gone(alloc, url, id, size, version)) {
         Some(out)
     } else {
         None
@@ -187,7 +194,7 @@ fn meta(alloc: Global) -> Option<MetaLine> {
 
 fn is_meta_printed(alloc: Global, wanted: &str) -> Option<bool> {
     let meta = meta(alloc)?;
-    Some(is_printed(alloc, &Line::MetaData(meta), wanted))
+    Some(is_printed(alloc, Line::MetaData(meta), wanted))
 }
 
 // The body of a protocol and an end.

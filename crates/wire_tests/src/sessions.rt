@@ -39,6 +39,15 @@ fn is_of_session(number: u8, message: &Message) -> bool {
     }
 }
 
+// Whether a message is the session's of that number, none where the read failed in its place. It takes the message, which is much to
+// drop.
+fn is_next(number: u8, message: Message) -> Option<bool> {
+    match &message {
+        Message::ReadFault => None,
+        other => Some(is_of_session(number, other)),
+    }
+}
+
 // Whether the session's messages come over pieces of those sizes, up to the fault of the read of that number.
 fn is_session(alloc: Global, sizes: Vec<usize>, fails: u64) -> Result<bool, AllocError> {
     let bytes = Vec::from_slice(alloc, SESSION)?;
@@ -50,12 +59,10 @@ fn is_session(alloc: Global, sizes: Vec<usize>, fails: u64) -> Result<bool, Allo
         if !wire.is_open() {
             return Ok(false);
         }
-        let message = wire.next(alloc, &mut source)?;
-        if let Message::ReadFault = message {
-            return Ok(!wire.is_open());
-        }
-        if !is_of_session(number, &message) {
-            return Ok(false);
+        match is_next(number, wire.next(alloc, &mut source)?) {
+            None => return Ok(!wire.is_open()),
+            Some(false) => return Ok(false),
+            Some(true) => {}
         }
     }
     Ok(!wire.is_open())

@@ -111,8 +111,14 @@ fn table(alloc: Global) -> Option<TableName> {
     })
 }
 
-/// The query of a page of so many files from a place on.
-pub(crate) fn query(alloc: Global, keys: &ReplyKeys, place: u64, most: u64) -> Option<Request> {
+/// The query of a page of so many files from a place on. It is shared, since a function that drops a request of its own takes long to
+/// prove.
+pub(crate) fn query(
+    alloc: Global,
+    keys: &ReplyKeys,
+    place: u64,
+    most: u64,
+) -> Option<Arc<Request>> {
     let body = QueryBody {
         version: None,
         moment: None,
@@ -121,9 +127,10 @@ pub(crate) fn query(alloc: Global, keys: &ReplyKeys, place: u64, most: u64) -> O
         token: Some(token(alloc, keys, place)?),
     };
     let table = table(alloc)?;
-    Some(Request::ByToken(ByToken {
+    let request = Request::ByToken(ByToken {
         digest: [0; 32],
         route: Route::Query,
         asked: Ok(What::Query { table, body }),
-    }))
+    });
+    Arc::new(alloc, request).ok()
 }
