@@ -194,7 +194,7 @@ fn is_answered(
     is_told(alloc, &plan, &case.told)
 }
 
-// A request is much to drop, so no other value is made in the function that makes it.
+// What is seen is much to drop, so it is made in a function of its own.
 fn holds_of(alloc: Global, case: &Case, keys: &ReplyKeys, request: &Request) -> Option<bool> {
     is_answered(alloc, case, keys, request, &seen_by(alloc, &case.shown)?)
 }
