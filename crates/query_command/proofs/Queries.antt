@@ -9,8 +9,8 @@ use Rattle.std.proofs.lemmas.Bool.Decides.{nat_tests}
 use Rattle.edge_core.specs.Faults.{Rose}
 use Rattle.edge_core.specs.Objects.{Between, Grows}
 use Rattle.edge_core.proofs.Growth.{Grows-itself}
-use Rattle.share_request.specs.Query.{query_in}
-use Rattle.share_request.specs.declared.query.QueryBody.{QueryBody}
+use Rattle.query_body.specs.Query.{query_in}
+use Rattle.query_body.specs.declared.query.QueryBody.{QueryBody}
 use Rattle.query_command.specs.Outside.{Outside}
 use Rattle.query_command.specs.Answer.{IsAnswer, QueryEnds, QueryRuns}
 use Rattle.query_command.specs.AnswerSteps.{Found}

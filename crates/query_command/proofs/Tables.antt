@@ -12,7 +12,7 @@ use Rattle.edge_core.specs.Objects.{Objects, Between}
 use Rattle.log_store.specs.Log.{log_in}
 use Rattle.log_store.specs.declared.loaded.Loaded.{Loaded}
 use Rattle.share_lines.specs.Lines.{file_line, meta_line, protocol_line}
-use Rattle.share_request.specs.declared.query.QueryBody.{QueryBody}
+use Rattle.query_body.specs.declared.query.QueryBody.{QueryBody}
 use Rattle.std.proofs.lemmas.List.{take-map}
 use Rattle.std.specs.declared.alloc.AllocError.{AllocError}
 use Rattle.query_command.specs.Table.{lines_at, lines_in, lines_of_log, lines_of_state, state_lines}

@@ -5,7 +5,7 @@ use Rattle.edge_core.specs.Faults.{Rose}
 use Rattle.edge_core.specs.Names.{is_name}
 use Rattle.edge_core.specs.Objects.{Grows, Between}
 use Rattle.share_catalog.specs.Locations.{is_location}
-use Rattle.share_request.specs.declared.query.QueryBody.{QueryBody}
+use Rattle.query_body.specs.declared.query.QueryBody.{QueryBody}
 use Rattle.query_command.specs.Outside.{Outside}
 use Rattle.query_command.specs.Query.{IsReadToEnd, asked_in}
 use Rattle.query_command.specs.Table.{lines_in}

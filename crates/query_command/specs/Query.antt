@@ -4,9 +4,9 @@ use Rattle.std.specs.declared.alloc.Global.{Global}
 use Rattle.edge_core.specs.Faults.{Rose}
 use Rattle.log_replay.specs.declared.times.Bound.{Bound}
 use Rattle.log_replay.specs.declared.times.Bound.TheVariants as bound
-use Rattle.share_request.specs.Query.{query_in}
-use Rattle.share_request.specs.declared.query.QueryBody.{QueryBody}
-use Rattle.share_request.specs.declared.query.QueryFault.{QueryFault}
+use Rattle.query_body.specs.Query.{query_in}
+use Rattle.query_body.specs.declared.query.QueryBody.{QueryBody}
+use Rattle.query_body.specs.declared.query.QueryFault.{QueryFault}
 use Rattle.query_command.specs.declared.input.InputFault.{InputFault}
 use Rattle.query_command.specs.declared.input.InputFault.TheVariants as input
 

@@ -1,8 +1,8 @@
 -- What the steps to the query of an input answer.
 use Rattle.std.specs.Prelude.{◌≡◌, ℕ, List, Option, Some, None, IfSome, Result, Ok, Err, ⊤}
 use Rattle.edge_core.specs.Faults.{Rose}
-use Rattle.share_request.specs.Query.{query_in}
-use Rattle.share_request.specs.declared.query.QueryBody.{QueryBody}
+use Rattle.query_body.specs.Query.{query_in}
+use Rattle.query_body.specs.declared.query.QueryBody.{QueryBody}
 use Rattle.query_command.specs.Query.{IsReadToEnd, asked_in, if_whole}
 use Rattle.query_command.specs.declared.ends.End.{End}
 use Rattle.query_command.specs.declared.ends.End.TheVariants as ends

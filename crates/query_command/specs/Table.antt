@@ -16,7 +16,7 @@ use Rattle.log_store.specs.declared.loaded.BlockCause.{BlockCause}
 use Rattle.log_store.specs.declared.loaded.BlockCause.TheVariants as cause
 use Rattle.share_lines.specs.Lines.{protocol_line, meta_line, file_line}
 use Rattle.pred_tree.specs.Listing.{listed, pred_by}
-use Rattle.share_request.specs.declared.query.QueryBody.{QueryBody}
+use Rattle.query_body.specs.declared.query.QueryBody.{QueryBody}
 use Rattle.query_command.specs.Query.{bound_of}
 use Rattle.query_command.specs.declared.ends.TableRefusal.{TableRefusal}
 use Rattle.query_command.specs.declared.ends.TableRefusal.TheVariants as table

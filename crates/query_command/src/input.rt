@@ -6,7 +6,7 @@ ghost use Rattle.query_command.specs.declared.input.InputFault.TheVariants.{NoMe
 
 use crate::ends::End;
 use edge_core::{Source, Took};
-use share_request::{QueryBody, QueryFault, query_of};
+use query_body::{QueryBody, QueryFault, query_of};
 use std::alloc::{AllocError, Global};
 
 const PIECE: usize = 65_536;

@@ -22,8 +22,8 @@ use log_replay::{
 };
 use log_store::{Block, BlockCause, LoadRefusal, Loaded, load};
 use pred_tree::Filter;
+use query_body::QueryBody;
 use share_lines::{push_file, push_meta, push_protocol};
-use share_request::QueryBody;
 use std::alloc::{AllocError, Global};
 use std::sync::Arc;
 use step_count::Steps;

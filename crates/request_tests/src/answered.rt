@@ -3,8 +3,9 @@ use crate::made::request;
 use case_table::Route;
 use commit_check::{Offer, Reads};
 use json_tree::{Text, Version};
+use query_body::QueryBody;
 use share_catalog::{CatalogName, Edit, TableName};
-use share_request::{Bound, ListPage, QueryBody, Request, What};
+use share_request::{Bound, ListPage, Request, What};
 use std::alloc::Global;
 
 // Where no number is asked: no row asks a negative one.

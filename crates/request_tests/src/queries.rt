@@ -1,6 +1,6 @@
 // What bodies of queries ask, and what isn't one.
 use json_tree::Text;
-use share_request::{QueryBody, QueryFault, QueryField, query_of};
+use query_body::{QueryBody, QueryFault, QueryField, query_of};
 use std::alloc::Global;
 
 static EMPTY: [&str; 5] = [

@@ -20,7 +20,7 @@ use Rattle.share_commands.specs.Serve.{OpensServer, end_of}
 use Rattle.share_commands.specs.Stdio.{IsServed, IsUnserved, end_after}
 use Rattle.share_pool.specs.declared.desk.ServeEnd.{ServeEnd}
 use Rattle.query_command.specs.Table.{lines_in}
-use Rattle.share_request.specs.declared.query.QueryBody.{QueryBody}
+use Rattle.query_body.specs.declared.query.QueryBody.{QueryBody}
 use Rattle.share_serve.specs.declared.serve.SessionEnd.{SessionEnd}
 use Rattle.query_command.specs.Outside.{Outside}
 use Rattle.query_command.specs.declared.ends.End.{End}

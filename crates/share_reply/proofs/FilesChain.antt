@@ -18,7 +18,7 @@ use Rattle.share_book.specs.declared.entry.Entry.{Entry}
 use Rattle.share_catalog.specs.Views.{Spot, token}
 use Rattle.share_catalog.specs.declared.table_name.TableName.{TableName}
 use Rattle.share_request.specs.declared.asked.What.TheVariants as what
-use Rattle.share_request.specs.declared.query.QueryBody.{QueryBody}
+use Rattle.query_body.specs.declared.query.QueryBody.{QueryBody}
 use Rattle.share_reply.specs.Access.{access}
 use Rattle.share_reply.specs.Answer.{Page, page}
 use Rattle.share_reply.specs.Asking.{files_part}

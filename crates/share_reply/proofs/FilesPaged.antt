@@ -17,7 +17,7 @@ use Rattle.share_book.specs.Parts.{files_of, found_of, head_found, is_latest, pi
 use Rattle.share_book.specs.Views.{Log}
 use Rattle.share_book.specs.declared.look.PartFound.TheVariants as part_found
 use Rattle.share_book.specs.declared.look.TableRefusal.TheVariants as refusal
-use Rattle.share_request.specs.declared.query.QueryBody.{QueryBody}
+use Rattle.query_body.specs.declared.query.QueryBody.{QueryBody}
 use Rattle.share_reply.specs.Answer.{Page}
 use Rattle.share_reply.specs.Asking.{asked_by, files_by as part_by, files_part, last_bound}
 use Rattle.share_reply.specs.Files.{FilesStart, agrees, files_by, files_from, files_page, files_with, first_start, later_files, query_page, start_at}

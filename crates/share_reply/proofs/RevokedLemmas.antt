@@ -32,7 +32,7 @@ use Rattle.share_reply.specs.Laws.{IsRevoked, RevokedGrantsGiveNothing}
 use Rattle.share_reply.specs.Links.{linked_object, object_at, object_in, object_or}
 use Rattle.share_reply.specs.Refusing.{Refused, where_all}
 use Rattle.share_reply.specs.Replies.{seen_in, view_asked}
-use Rattle.share_request.specs.declared.query.QueryBody.{QueryBody}
+use Rattle.query_body.specs.declared.query.QueryBody.{QueryBody}
 use Rattle.share_reply.proofs.FeedChain as feed_chain
 use Rattle.share_reply.proofs.FeedPaged as feed_paged
 use Rattle.share_reply.proofs.FilesChain as files_chain

@@ -24,7 +24,7 @@ use Rattle.share_request.specs.declared.asked.Request.{Request}
 use Rattle.share_request.specs.declared.asked.Request.TheVariants as request
 use Rattle.share_request.specs.declared.asked.What.{What}
 use Rattle.share_request.specs.declared.asked.What.TheVariants as what
-use Rattle.share_request.specs.declared.query.QueryBody.{QueryBody}
+use Rattle.query_body.specs.declared.query.QueryBody.{QueryBody}
 use Rattle.share_reply.specs.Access.{access, expiry}
 use Rattle.share_reply.specs.Answer.{Answer, Page, at_version, names, object, one_share, only, page, refused}
 use Rattle.share_reply.specs.Asking.{asked_at, asked_by, first_bound, last_bound}

@@ -21,7 +21,7 @@ use Rattle.share_lines.specs.Lines.{meta_of}
 use Rattle.share_lines.specs.declared.kinds.FileLine.{FileLine}
 use Rattle.share_lines.specs.declared.kinds.Line.{Line}
 use Rattle.share_lines.specs.declared.kinds.Line.TheVariants as line
-use Rattle.share_request.specs.declared.query.QueryBody.{QueryBody}
+use Rattle.query_body.specs.declared.query.QueryBody.{QueryBody}
 use Rattle.share_reply.specs.Access.{access_tests, expiry, link_to}
 use Rattle.share_reply.specs.Answer.{Ending, Page, ends_with}
 use Rattle.share_reply.specs.Asking.{asked_by}

@@ -11,7 +11,7 @@ use Rattle.page_token.specs.declared.cursor.FeedCursor.{FeedCursor}
 use Rattle.page_token.specs.declared.cursor.FilesCursor.{FilesCursor}
 use Rattle.share_book.specs.declared.look.FeedPart.{FeedPart}
 use Rattle.share_lines.specs.declared.kinds.EndLine.{EndLine}
-use Rattle.share_request.specs.declared.query.QueryBody.{QueryBody}
+use Rattle.query_body.specs.declared.query.QueryBody.{QueryBody}
 use Rattle.share_reply.specs.Answer.{Ending, Page}
 use Rattle.share_reply.specs.Bodies.{end_line, page_lines}
 use Rattle.share_reply.specs.Feeds as feeds

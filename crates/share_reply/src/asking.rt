@@ -9,9 +9,10 @@ use crate::keys::ReplyKeys;
 use json_tree::Text;
 use log_replay::Bound;
 use page_token::{Cursor, cursor_of};
+use query_body::QueryBody;
 use share_book::{Ask, Part, Want, Who};
 use share_catalog::TableName;
-use share_request::{Bound as At, ByToken, QueryBody, Request, RequestFault, What};
+use share_request::{Bound as At, ByToken, Request, RequestFault, What};
 use signed_link::{LinkParts, parts_of};
 use std::alloc::{AllocError, Global};
 

@@ -22,9 +22,9 @@ use json_tree::{Millis, Place, Text, Version};
 use log_replay::Snapshot;
 use page_token::{Asked, Cursor, FilesCursor, cursor_of};
 use pred_tree::{Filter, pred_of};
+use query_body::QueryBody;
 use share_book::{PartFound, TableRefusal};
 use share_lines::EndLine;
-use share_request::QueryBody;
 use std::alloc::{AllocError, Global};
 
 // Where a page of files begins.

@@ -32,9 +32,10 @@ use edge_core::Name;
 use file_ranges::span::Span;
 use json_tree::{Millis, Text};
 use page_token::ListKind;
+use query_body::QueryBody;
 use share_book::{Found, Names, Seen};
 use share_catalog::{CatalogName, TableName};
-use share_request::{ByLink, QueryBody, Request, RequestFault, TurnedAway, What};
+use share_request::{ByLink, Request, RequestFault, TurnedAway, What};
 use signed_link::parts_of;
 use std::alloc::{AllocError, Global};
 

@@ -14,18 +14,16 @@ use Rattle.form_urlencoded.specs.Form.{is_nonempty, onto_first, raw_pairs, split
 use Rattle.form_urlencoded.proofs.FormLemmas.{raw_pairs-nil, raw_pairs_first, split_once_after_none, split_once_before_none}
 use Rattle.http_message.specs.declared.head.Head.{Head}
 use Rattle.serde_json.specs.Data.{Data}
-use Rattle.serde_json.specs.Find.{as_object}
 use Rattle.json_tree.specs.Fields.{present}
 use Rattle.json_tree.specs.Results.{◌>>=◌}
-use Rattle.share_request.specs.declared.query.Fields.{Fields}
-use Rattle.share_request.specs.declared.query.QueryFault.TheVariants as fault
 use Rattle.share_request.specs.Asked.{what_at}
 use Rattle.share_request.specs.Bearers.{bearer_in}
 use Rattle.share_request.specs.Bodies.{offer_of}
-use Rattle.share_request.specs.Laws.{SameMembers, with_target, UnknownFieldsPass, UnknownParametersPass, known_parameters, offer_fields, query_fields}
+use Rattle.share_request.specs.Laws.{with_target, UnknownFieldsPass, UnknownParametersPass, known_parameters, offer_fields}
 use Rattle.share_request.specs.Parameters.{first_value, pair_of, pairs_in, text_of}
 use Rattle.share_request.specs.Paths.{route_of, segments_in}
-use Rattle.share_request.specs.Query.{fields_in, query_of_fields, query_of_value}
+use Rattle.query_body.specs.Fields.{SameMembers}
+use Rattle.query_body.proofs.Unknown.{queries_same}
 use Rattle.share_request.specs.Requests.{below_in, by_route, has_method, link_or, turned_away, with_bearer}
 use Rattle.share_request.specs.Targets.{below_endpoint, split_at, split_query}
 use Rattle.signed_link.specs.Reading.{after}
@@ -193,34 +191,6 @@ unknown_parameters_pass head path pair body before behind plain none free other 
     ∙ ap (λ (x : List ℕ × Option (List ℕ)). below_in (with_target head t) (below_endpoint x.0) x.1 body) (sym (split_is path short plain))
 
 -- ---- bodies
-
-bind_same : {A B F : Type 0} (r : Result A F) (f g : A → Result B F) → ((a : A) → f a ≡ g a) → (r >>= f) ≡ (r >>= g)
-bind_same (Ok a) f g same = same a
-bind_same (Err e) f g same = refl
-
-fields_same : (d e : Data) → SameMembers query_fields d e → fields_in d ≡ fields_in e
-unfolding fields_in
-fields_same d e same =
-    let max : present (codes "maxFiles") d ≡ present (codes "maxFiles") e = same 0 [] (omega arith) in
-    let version : present (codes "version") d ≡ present (codes "version") e = same 1 [] (omega arith) in
-    let time : present (codes "timestamp") d ≡ present (codes "timestamp") e = same 2 [] (omega arith) in
-    let hint : present (codes "jsonPredicateHints") d ≡ present (codes "jsonPredicateHints") e = same 3 [] (omega arith) in
-    let token : present (codes "pageToken") d ≡ present (codes "pageToken") e = same 4 [] (omega arith) in
-    simp (max, version, time, hint, token)
-
-ranges_same : (d e : Data) (f : Fields) → SameMembers query_fields d e → query_of_fields d f ≡ query_of_fields e f
-unfolding query_of_fields
-ranges_same d e f same =
-    let start : present (codes "startingVersion") d ≡ present (codes "startingVersion") e = same 5 [] (omega arith) in
-    let end : present (codes "endingVersion") d ≡ present (codes "endingVersion") e = same 6 [] (omega arith) in
-    let refresh : present (codes "refreshToken") d ≡ present (codes "refreshToken") e = same 7 [] (omega arith) in
-    simp (start, end, refresh)
-
-queries_same : (d e : Data) → is_some (as_object d) ≡ is_some (as_object e) → SameMembers query_fields d e → query_of_value d ≡ query_of_value e
-queries_same d e object same =
-    ap (λ b. cond b (fields_in d >>= query_of_fields d) (Err fault.BadBody)) object
-    ∙ ap (λ r. cond (is_some (as_object e)) (r >>= query_of_fields d) (Err fault.BadBody)) (fields_same d e same)
-    ∙ ap (λ r. cond (is_some (as_object e)) r (Err fault.BadBody)) (bind_same (fields_in e) (query_of_fields d) (query_of_fields e) (λ f. ranges_same d e f same))
 
 offers_same : (d e : Data) → SameMembers offer_fields d e → offer_of d ≡ offer_of e
 offers_same d e same =

@@ -8,16 +8,16 @@ use Rattle.share_request.specs.Bodies.{edit_in, offer_in, refresh_in}
 use Rattle.share_request.specs.Faults.{or_bad_body, parameter_of}
 use Rattle.share_request.specs.Parameters.{at_in, from_in, max_files_in, moment_at, page_in, to_in, token_in}
 use Rattle.share_request.specs.Paths.{name_at, table_at}
-use Rattle.share_request.specs.Query.{query_in}
+use Rattle.query_body.specs.Query.{query_in}
 use Rattle.share_request.specs.declared.asked.What.{What}
 use Rattle.share_request.specs.declared.asked.What.TheVariants as what
 use Rattle.share_request.specs.declared.fault.Parameter.TheVariants as parameter
 use Rattle.share_request.specs.declared.fault.RequestFault.{RequestFault}
 use Rattle.share_request.specs.declared.fault.RequestFault.TheVariants as fault
 use Rattle.share_request.specs.declared.parameter.QueryPair.{QueryPair}
-use Rattle.share_request.specs.declared.query.QueryBody.{QueryBody}
-use Rattle.share_request.specs.declared.query.QueryFault.{QueryFault}
-use Rattle.share_request.specs.declared.query.QueryFault.TheVariants as query_fault
+use Rattle.query_body.specs.declared.query.QueryBody.{QueryBody}
+use Rattle.query_body.specs.declared.query.QueryFault.{QueryFault}
+use Rattle.query_body.specs.declared.query.QueryFault.TheVariants as query_fault
 
 abbrev pub list_shares : List QueryPair → Result What RequestFault
 list_shares pairs = page_in pairs >>= λ page. Ok (what.ListShares page)

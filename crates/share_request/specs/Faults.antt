@@ -8,8 +8,8 @@ use Rattle.share_request.specs.declared.fault.RequestFault.{RequestFault}
 use Rattle.share_request.specs.declared.fault.RequestFault.TheVariants as fault
 use Rattle.share_request.specs.declared.fault.TurnedAway.{TurnedAway}
 use Rattle.share_request.specs.declared.fault.TurnedAway.TheVariants as early
-use Rattle.share_request.specs.declared.query.QueryField.{QueryField}
-use Rattle.share_request.specs.declared.query.QueryField.TheVariants as name
+use Rattle.query_body.specs.declared.query.QueryField.{QueryField}
+use Rattle.query_body.specs.declared.query.QueryField.TheVariants as name
 
 -- the parameters' names (Delta Sharing PROTOCOL.md, "REST APIs")
 abbrev pub parameter_word : Parameter → List ℕ

@@ -1,5 +1,5 @@
 -- What every request that is answered satisfies, besides the types of its fields.
-use Rattle.std.specs.Prelude.{◌≡◌, ◌≢◌, ℕ, ◌^◌, ◌<◌, ◌≤◌, ◌⊎◌, List, [], Option, Some, None, Result, Ok, Err, ⊤, IsSome, IfSome, IsTrue}
+use Rattle.std.specs.Prelude.{◌≡◌, ◌≢◌, ℕ, ◌^◌, ◌<◌, ◌≤◌, ◌⊎◌, List, Option, None, Result, Ok, Err, ⊤, IsSome, IfSome, IsTrue}
 use Rattle.case_table.specs.declared.routing.Route.{Route}
 use Rattle.case_table.specs.declared.routing.Route.TheVariants as route
 use Rattle.share_request.specs.declared.asked.Bound.{Bound}
@@ -10,7 +10,7 @@ use Rattle.share_request.specs.declared.asked.Request.TheVariants as request
 use Rattle.share_request.specs.declared.asked.What.{What}
 use Rattle.share_request.specs.declared.asked.What.TheVariants as what
 use Rattle.share_request.specs.declared.fault.RequestFault.{RequestFault}
-use Rattle.share_request.specs.declared.query.QueryBody.{QueryBody}
+use Rattle.query_body.specs.InForm.{IsMax, IsQuery, IsToken}
 
 -- the route that asks so
 abbrev pub route_of_what : What → Route
@@ -27,28 +27,13 @@ route_of_what (what.Commit offer) = route.Commit
 route_of_what (what.Refresh location) = route.Refresh
 route_of_what (what.Edit edit) = route.Edit
 
--- no token is the empty text
-abbrev pub IsToken : Option (List ℕ) → Type 0
-IsToken token = token ≢ Some []
-
 pub record IsPage (page : ListPage) : Type 0 where
   pub most : page.most ≤ 500
   pub token : IsToken page.token
 
--- a number from 1 to 2^31 - 1
-abbrev pub IsMax : Option ℕ → Type 0
-IsMax max = IfSome max (λ n. (0 < n) × (n < 2 ^ 31))
-
 abbrev pub IsBound : Bound → Type 0
 IsBound (bound.Version v) = v < 2 ^ 63
 IsBound (bound.Moment m) = ⊤
-
--- not both a version and a moment
-pub record IsQuery (body : QueryBody) : Type 0 where
-  pub version : IfSome body.version (λ v. v < 2 ^ 63)
-  pub one : IsSome body.version → ¬ (IsSome body.moment)
-  pub max : IsMax body.max
-  pub token : IsToken body.token
 
 -- the start is there, unless the token is
 pub record IsChanges (from to : Option Bound) (max : Option ℕ) (token : Option (List ℕ)) : Type 0 where

@@ -3,7 +3,6 @@ use Rattle.std.specs.Prelude.{◌≡◌, ◌≢◌, ℕ, ◌<◌, List, [], ◌�
 use Rattle.std.specs.List.{join_with_byte}
 use Rattle.case_table.specs.declared.routing.Method.TheVariants as method
 use Rattle.http_message.specs.declared.head.Head.{Head}
-use Rattle.json_tree.specs.Fields.{present}
 use Rattle.json_tree.specs.Options.{◌>>=◌}
 use Rattle.percent_encoding.specs.Percent.{percent_decode}
 use Rattle.serde_json.specs.Data.{Data}
@@ -15,7 +14,8 @@ use Rattle.signed_link.specs.declared.parts.LinkParts.{LinkParts}
 use Rattle.share_request.specs.Bodies.{offer_of}
 use Rattle.share_request.specs.InForm.{IsInForm}
 use Rattle.share_request.specs.Parameters.{text_of}
-use Rattle.share_request.specs.Query.{query_of_value}
+use Rattle.query_body.specs.Fields.{SameMembers, query_fields}
+use Rattle.query_body.specs.Query.{query_of_value}
 use Rattle.share_request.specs.Requests.{has_method, link_request, request_in}
 use Rattle.share_request.specs.Targets.{below_endpoint, link_parts, link_target, path_spelling}
 
@@ -45,15 +45,6 @@ UnknownParametersPass =
     → All (λ known. text_of ((split_pair pair).0) ≢ known) known_parameters
     → request_in (with_target head (path ++ 63 ∷ join_with_byte 38 (before ++ pair ∷ behind))) body
     ≡ request_in (with_target head (path ++ 63 ∷ join_with_byte 38 (before ++ behind))) body
-
--- the two have the same members of these names, null being none
-abbrev pub SameMembers : List (List ℕ) → Data → Data → Type 0
-SameMembers names d e = All (λ name. present name d ≡ present name e) names
-
-abbrev pub query_fields : List (List ℕ)
-query_fields =
-    codes "maxFiles" ∷ codes "version" ∷ codes "timestamp" ∷ codes "jsonPredicateHints" ∷ codes "pageToken" ∷ codes "startingVersion"
-    ∷ codes "endingVersion" ∷ codes "refreshToken" ∷ []
 
 abbrev pub offer_fields : List (List ℕ)
 offer_fields = codes "location" ∷ codes "readVersion" ∷ codes "reads" ∷ codes "actions" ∷ []

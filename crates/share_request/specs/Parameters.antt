@@ -6,7 +6,7 @@ use Rattle.json_tree.specs.Options.{unless_empty}
 use Rattle.json_tree.specs.Results.{◌>>=◌}
 use Rattle.text_forms.specs.Numbers.{number_in}
 use Rattle.share_request.specs.Faults.{or_bad, parameter_word}
-use Rattle.share_request.specs.Query.{moment_of}
+use Rattle.query_body.specs.Query.{moment_of}
 use Rattle.share_request.specs.declared.asked.Bound.{Bound}
 use Rattle.share_request.specs.declared.asked.Bound.TheVariants as bound
 use Rattle.share_request.specs.declared.asked.ListPage.{ListPage}

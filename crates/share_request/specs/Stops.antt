@@ -11,8 +11,8 @@ use Rattle.share_request.specs.declared.fault.RequestFault.{RequestFault}
 use Rattle.share_request.specs.declared.fault.RequestFault.TheVariants as fault
 use Rattle.share_request.specs.declared.fault.Stop.{Stop}
 use Rattle.share_request.specs.declared.fault.Stop.TheVariants as stop
-use Rattle.share_request.specs.declared.query.QueryFault.{QueryFault}
-use Rattle.share_request.specs.declared.query.QueryFault.TheVariants as query
+use Rattle.query_body.specs.declared.query.QueryFault.{QueryFault}
+use Rattle.query_body.specs.declared.query.QueryFault.TheVariants as query
 
 -- The answer is what was read, or why it is refused. Want of memory says nothing.
 abbrev pub Gives : {X : Type 0} → Result X Stop → Result X RequestFault → Type 0

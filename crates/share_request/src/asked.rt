@@ -1,10 +1,10 @@
 // What requests ask for.
 use crate::fault::{RequestFault, TurnedAway};
-use crate::query::QueryBody;
 use case_table::Route;
 use commit_check::Offer;
 use file_ranges::span::Span;
 use json_tree::{Text, Version};
+use query_body::QueryBody;
 use share_catalog::{CatalogName, Edit, Location, TableName};
 
 /// Which page of a list is asked for.

@@ -4,11 +4,11 @@ ghost use Rattle.share_request.specs.Faults as spec;
 ghost use Rattle.share_request.specs.Stops as stops;
 ghost use Rattle.share_request.specs.declared.fault.Stop.TheVariants as stop;
 
-use crate::query::{QueryFault, QueryField};
 use case_table::{Method, Refusal};
 use catalog_log::RecordFault;
 use json_tree::TreeFault;
 use log_actions::NoAction;
+use query_body::{QueryFault, QueryField};
 use std::alloc::{AllocError, AllocFailed};
 
 /// A parameter of a query string, or a field of a query's body, that has a grammar of its own (Delta Sharing PROTOCOL.md, "REST

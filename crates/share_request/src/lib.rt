@@ -9,7 +9,6 @@ mod fault;
 mod law;
 mod parameter;
 mod path;
-mod query;
 mod request;
 mod target;
 
@@ -17,5 +16,4 @@ pub use asked::{Bound, ByLink, ByToken, ListPage, Request, What};
 pub use bearer::bearer_of;
 pub use fault::{Parameter, RequestFault, TurnedAway};
 pub use law::{links_have_one_spelling, requests_are_in_form, unknown_is_passed_over};
-pub use query::{QueryBody, QueryFault, QueryField, query_of};
 pub use request::request_of;

@@ -6,8 +6,8 @@ ghost use Rattle.share_request.specs.Stops.{Gives};
 
 use crate::asked::{Bound, ListPage};
 use crate::fault::{Parameter, RequestFault, Stop};
-use crate::query::moment_of;
 use json_tree::{Text, Version, unless_empty};
+use query_body::moment_of;
 use std::alloc::{AllocError, Global};
 use text_forms::number_in;
 

@@ -13,12 +13,12 @@ use crate::parameter::{
     QueryPair, at_in, from_in, max_files_in, moment_at, page_of, pairs_of, to_in, token_of,
 };
 use crate::path::{name_at, route_of, segments_of, table_at};
-use crate::query::query_of;
 use crate::target::{after, below_endpoint, link_target, split_query};
 use case_table::{Method, Route};
 use file_ranges::span::span_of;
 use http_message::head::Head;
 use json_tree::Text;
+use query_body::query_of;
 use std::alloc::{AllocError, Global};
 
 fn list_shares(alloc: Global, pairs: &[QueryPair]) -> Result<What, Stop>

@@ -20,7 +20,7 @@ use Rattle.share_catalog.proofs.KeyTests.{bytes_refl}
 use Rattle.share_lines.specs.Printing.{body_text}
 use Rattle.share_request.specs.declared.asked.What.{What}
 use Rattle.share_request.specs.declared.asked.What.TheVariants as what
-use Rattle.share_request.specs.declared.query.QueryBody.{QueryBody}
+use Rattle.query_body.specs.declared.query.QueryBody.{QueryBody}
 use Rattle.share_reply.specs.Access.{access, is_same_edition, is_same_table}
 use Rattle.share_reply.specs.Answer.{Answer, Page, at_version, of, page}
 use Rattle.share_reply.specs.Asking.{asked_at, asked_by, files_by as part_by, files_part, from_bound, last_bound}

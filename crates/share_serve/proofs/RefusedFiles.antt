@@ -21,7 +21,7 @@ use Rattle.share_book.specs.declared.look.TableRefusal.TheVariants as table_refu
 use Rattle.share_catalog.specs.declared.table_name.TableName.{TableName}
 use Rattle.share_catalog.proofs.KeyTests.{bytes_refl}
 use Rattle.share_request.specs.declared.asked.What.TheVariants as what
-use Rattle.share_request.specs.declared.query.QueryBody.{QueryBody}
+use Rattle.query_body.specs.declared.query.QueryBody.{QueryBody}
 use Rattle.share_reply.specs.Access.{is_same_edition, is_same_table}
 use Rattle.share_reply.specs.Answer.{Answer, of, page, refused}
 use Rattle.share_reply.specs.Asking.{asked_by, files_by as part_by, files_part, last_bound}

@@ -34,7 +34,7 @@ use Rattle.share_request.specs.declared.asked.Request.{Request}
 use Rattle.share_request.specs.declared.asked.Request.TheVariants as request
 use Rattle.share_request.specs.declared.asked.What.{What}
 use Rattle.share_request.specs.declared.asked.What.TheVariants as what
-use Rattle.share_request.specs.declared.query.QueryBody.{QueryBody}
+use Rattle.query_body.specs.declared.query.QueryBody.{QueryBody}
 use Rattle.signed_link.specs.Parts.{parts_of}
 use Rattle.signed_link.specs.declared.parts.LinkParts.{LinkParts}
 use Rattle.share_reply.specs.Answer.{object}

@@ -13,12 +13,12 @@ use Rattle.json_tree.specs.declared.fields.FieldFault.TheVariants as kind
 use Rattle.json_tree.specs.declared.tree.TreeFault.{TreeFault}
 use Rattle.json_tree.specs.declared.tree.TreeFault.TheVariants as tree
 use Rattle.jiff.specs.Words.{parse_timestamp}
-use Rattle.share_request.specs.declared.query.Fields.{Fields}
-use Rattle.share_request.specs.declared.query.QueryBody.{QueryBody}
-use Rattle.share_request.specs.declared.query.QueryFault.{QueryFault}
-use Rattle.share_request.specs.declared.query.QueryFault.TheVariants as fault
-use Rattle.share_request.specs.declared.query.QueryField.{QueryField}
-use Rattle.share_request.specs.declared.query.QueryField.TheVariants as name
+use Rattle.query_body.specs.declared.query.Fields.{Fields}
+use Rattle.query_body.specs.declared.query.QueryBody.{QueryBody}
+use Rattle.query_body.specs.declared.query.QueryFault.{QueryFault}
+use Rattle.query_body.specs.declared.query.QueryFault.TheVariants as fault
+use Rattle.query_body.specs.declared.query.QueryField.{QueryField}
+use Rattle.query_body.specs.declared.query.QueryField.TheVariants as name
 
 -- a field of another kind makes the body a bad one
 abbrev pub or_bad_body : {X : Type 0} → Result (Option X) FieldFault → Result (Option X) QueryFault

@@ -3,9 +3,9 @@ ghost use Rattle.std.specs.Prelude.{◌≡◌, ◌≤◌, option_map, codes};
 ghost use Rattle.serde_json.specs.Find.{as_str};
 ghost use Rattle.serde_json.specs.View.{view};
 ghost use Rattle.json_tree.specs.Fields.{field, whole};
-ghost use Rattle.share_request.specs.Query as spec;
-ghost use Rattle.share_request.specs.Query.{Gives};
-ghost use Rattle.share_request.specs.declared.query.QueryFault.TheVariants as fault;
+ghost use Rattle.query_body.specs.Query as spec;
+ghost use Rattle.query_body.specs.Query.{Gives};
+ghost use Rattle.query_body.specs.declared.query.QueryFault.TheVariants as fault;
 
 use jiff::Timestamp;
 use json_tree::{FieldFault, Text, TreeFault, member_at, text_at, tree_of, unless_empty, whole_at};
@@ -136,8 +136,9 @@ fn between(
     }
 }
 
-// The instant that a text writes, in nanoseconds.
-pub(crate) fn moment_of(text: &str) -> Option<i128>
+/// The instant that a text writes by the grammar of `jiff`, in nanoseconds since the start of 1970
+/// in UTC, or `None` where it writes none. Its time is linear in the text's length.
+pub fn moment_of(text: &str) -> Option<i128>
     ensures { result ≡ spec.moment_of text.now }
 {
     let instant: Timestamp = text.parse().ok()?;
