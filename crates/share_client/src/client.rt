@@ -10,12 +10,14 @@ ghost use Rattle.share_client.specs.Sizes.{SizeCause, SizesAt};
 ghost use Rattle.share_client.specs.Tables.{ReadsChangesOf, ReadsTableOf};
 ghost use Rattle.share_client.specs.Targets.{target_in};
 
-use crate::fetch::fetch;
+use crate::fetch::fetch_from;
 use crate::lists::list_tables;
-use crate::pieces::fetch_pieces;
+use crate::pieces::fetch_each;
 use crate::server::server_of;
-use crate::size::file_size;
-use crate::tables::{read_changes, read_table};
+use crate::size::size_from;
+use crate::table_request::TableRequest;
+use crate::tables::read_pages;
+use crate::target::target_of;
 use crate::{ClientFault, QueryBody, SharedTable, TableRead};
 use edge_core::{Link, Sink};
 use share_config::Profile;
@@ -77,7 +79,19 @@ impl Client {
         ensures told { Known L.coming L.closed link.old link.new (ReadsTableOf (server_in (client_profile self.now)) table.now body.now result) }
     {
         match server_of(alloc, &self.profile) {
-            Ok(server) => read_table(alloc, link, &server, table, body),
+            Ok(server) => {
+                let mut files = Vec::new(alloc);
+                let request = TableRequest::Query(table, body);
+                match read_pages(alloc, link, &server, &request, &mut files) {
+                    Ok((head, pages)) => Ok(TableRead {
+                        version: head.version,
+                        meta: Line::MetaData(head.meta),
+                        files,
+                        pages,
+                    }),
+                    Err(fault) => Err(fault),
+                }
+            }
             Err(_) => Err(ClientFault::NoMemory),
         }
     }
@@ -99,7 +113,14 @@ impl Client {
         ensures told { Known L.coming L.closed link.old link.new (λ s t. MatchResult result (λ v. ReadsChangesOf (server_in (client_profile self.now)) table.now from to (Ok v.items) s t) (λ e. ReadsChangesOf (server_in (client_profile self.now)) table.now from to (Err e) s t)) }
     {
         match server_of(alloc, &self.profile) {
-            Ok(server) => read_changes(alloc, link, &server, table, from, to),
+            Ok(server) => {
+                let mut changes = Vec::new(alloc);
+                let request = TableRequest::Changes(table, from, to);
+                match read_pages(alloc, link, &server, &request, &mut changes) {
+                    Ok(_) => Ok(changes),
+                    Err(fault) => Err(fault),
+                }
+            }
             Err(_) => Err(ClientFault::NoMemory),
         }
     }
@@ -123,7 +144,11 @@ impl Client {
         ensures url { TellsUrl (target_in url.now) result }
         ensures told { Known L.coming L.closed link.old link.new (Fetches url.now (K.holds sink.old) (K.holds sink.new) result) }
     {
-        fetch(alloc, link, url, sink)
+        match target_of(alloc, url) {
+            Ok(Some(target)) => fetch_from(alloc, link, &target, sink),
+            Ok(None) => Err(ClientFault::BadUrl),
+            Err(_) => Err(ClientFault::NoMemory),
+        }
     }
 
     /// Asks how many bytes the file of a link has, by HEAD. The request has no bearer token.
@@ -141,7 +166,11 @@ impl Client {
         ensures url { TellsUrl (target_in url.now) result }
         ensures told { Known L.coming L.closed link.old link.new (SizesAt (target_in url.now) result) }
     {
-        file_size(alloc, link, url)
+        match target_of(alloc, url) {
+            Ok(Some(target)) => size_from(alloc, link, &target),
+            Ok(None) => Err(ClientFault::BadUrl),
+            Err(_) => Err(ClientFault::NoMemory),
+        }
     }
 
     /// Fetches the file of a link into the sink in pieces of `piece` bytes, 1 to 134,217,728, and answers how many bytes the file has:
@@ -167,6 +196,16 @@ impl Client {
         ensures url { TellsUrl (target_in url.now) result }
         ensures told { Known L.coming L.closed link.old link.new (PiecesAt (target_in url.now) piece (K.holds sink.old) (K.holds sink.new) result) }
     {
-        fetch_pieces(alloc, link, url, piece, sink)
+        match target_of(alloc, url) {
+            Ok(Some(target)) => match size_from(alloc, link, &target) {
+                Ok(size) => match fetch_each(alloc, link, &target, size, piece, sink) {
+                    Ok(()) => Ok(size),
+                    Err(fault) => Err(fault),
+                },
+                Err(fault) => Err(fault),
+            },
+            Ok(None) => Err(ClientFault::BadUrl),
+            Err(_) => Err(ClientFault::NoMemory),
+        }
     }
 }

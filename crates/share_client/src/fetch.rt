@@ -1,15 +1,14 @@
 // A file, by its link.
 ghost use Rattle.std.specs.Prelude.{◌≡◌, ◌≤◌, ◌++◌, IfOk, Err, string_bytes};
 ghost use Rattle.share_client.specs.declared.fault.ClientFault.TheVariants as fault;
-ghost use Rattle.share_client.specs.Files.{link_text, query_tail, FetchCause, Fetches, FetchesFrom, TellsUrl};
+ghost use Rattle.share_client.specs.Files.{link_text, query_tail, FetchCause, FetchesFrom};
 ghost use Rattle.share_client.specs.Sides.{counts, Known, Later};
-ghost use Rattle.share_client.specs.Targets.{target_in};
 
 use crate::ClientFault;
 use crate::ask::{Wanted, ask};
 use crate::exchange::send;
 use crate::request::get_text;
-use crate::target::{Target, target_of};
+use crate::target::Target;
 use edge_core::{Link, Sink};
 use std::alloc::{AllocError, Global};
 
@@ -35,28 +34,8 @@ fn link_text(alloc: Global, target: &Target) -> Result<String, AllocError>
     get_text(alloc, &path, target.host_field.as_str(), None)
 }
 
-// Fetches the file of a link into the sink, and answers its length.
-pub(crate) fn fetch<L: Link, K: Sink>(
-    alloc: Global,
-    link: &mut L,
-    url: &str,
-    sink: &mut K,
-) -> Result<u64, ClientFault>
-    ensures later { Later (counts L.faults L.read_faults L.write_faults link.old) (counts L.faults L.read_faults L.write_faults link.new) }
-    ensures sink_later { K.faults sink.old ≤ K.faults sink.new }
-    ensures cause { FetchCause result (counts L.faults L.read_faults L.write_faults link.old) (counts L.faults L.read_faults L.write_faults link.new) (K.faults sink.old) (K.faults sink.new) }
-    ensures url { TellsUrl (target_in url.now) result }
-    ensures told { Known L.coming L.closed link.old link.new (Fetches url.now (K.holds sink.old) (K.holds sink.new) result) }
-{
-    match target_of(alloc, url) {
-        Ok(Some(target)) => fetch_from(alloc, link, &target, sink),
-        Ok(None) => Err(ClientFault::BadUrl),
-        Err(_) => Err(ClientFault::NoMemory),
-    }
-}
-
-// Fetches from where a link's requests go.
-fn fetch_from<L: Link, K: Sink>(
+// Fetches the file of a link into the sink, from where its requests go, and answers its length.
+pub(crate) fn fetch_from<L: Link, K: Sink>(
     alloc: Global,
     link: &mut L,
     target: &Target,

@@ -1,16 +1,14 @@
 // The size of a file, by its link.
 ghost use Rattle.std.specs.Prelude.{◌≡◌, IfOk, string_bytes};
 ghost use Rattle.share_client.specs.Sides.{counts, HasCause, Known, Later};
-ghost use Rattle.share_client.specs.Sizes.{size_in, size_text, SizeCause, SizesAt, SizesFrom};
-ghost use Rattle.share_client.specs.Files.{TellsUrl};
-ghost use Rattle.share_client.specs.Targets.{target_in};
+ghost use Rattle.share_client.specs.Sizes.{size_in, size_text, SizesFrom};
 
 use crate::ClientFault;
 use crate::ask::{Wanted, ask};
 use crate::exchange::Response;
 use crate::fetch::path_with_query;
 use crate::request::head_text;
-use crate::target::{Target, target_of};
+use crate::target::Target;
 use edge_core::Link;
 use http_message::field::{count_named, first_named};
 use http_message::framing::length_in;
@@ -54,19 +52,5 @@ pub(crate) fn size_from<L: Link>(
             None => Err(ClientFault::BadReply { at: 0 }),
         },
         Err(fault) => Err(fault),
-    }
-}
-
-// The size of the file of a link.
-pub(crate) fn file_size<L: Link>(alloc: Global, link: &mut L, url: &str) -> Result<u64, ClientFault>
-    ensures later { Later (counts L.faults L.read_faults L.write_faults link.old) (counts L.faults L.read_faults L.write_faults link.new) }
-    ensures cause { SizeCause result (counts L.faults L.read_faults L.write_faults link.old) (counts L.faults L.read_faults L.write_faults link.new) }
-    ensures url { TellsUrl (target_in url.now) result }
-    ensures told { Known L.coming L.closed link.old link.new (SizesAt (target_in url.now) result) }
-{
-    match target_of(alloc, url) {
-        Ok(Some(target)) => size_from(alloc, link, &target),
-        Ok(None) => Err(ClientFault::BadUrl),
-        Err(_) => Err(ClientFault::NoMemory),
     }
 }

@@ -1,20 +1,18 @@
 // Tables' files and changes, which come in pages.
-ghost use Rattle.std.specs.Prelude.{MatchResult, Ok, Err};
-ghost use Rattle.share_client.specs.Tables.{changes, files, table_paging, ReadsChanges, ReadsTable};
+ghost use Rattle.share_client.specs.Tables.{table_paging};
 ghost use Rattle.share_client.specs.TableRequests.{request_text};
 ghost use Rattle.share_client.specs.TableSteps.{PagesOnto, TableTurn};
 ghost use Rattle.share_client.specs.Sides.{counts, HasCause, Known, Later};
 
+use crate::ClientFault;
 use crate::ask::{Wanted, ask};
 use crate::lists::MOST_PAGES;
 use crate::page_head::{PageHead, kept_head};
 use crate::server::Server;
 use crate::table_page::{Content, read_table_page};
 use crate::table_request::TableRequest;
-use crate::{ClientFault, QueryBody, SharedTable, TableRead};
 use edge_core::Link;
 use json_tree::Text;
-use share_lines::Line;
 use std::alloc::Global;
 
 // Asks for the page with that token, and reads its files or changes behind those that were read before. The answer is what all
@@ -42,7 +40,7 @@ fn table_turn<L: Link, T: Content>(
 }
 
 // Reads all pages, behind what was read before. The answer is what all pages have alike, and how many there are.
-fn read_pages<L: Link, T: Content>(
+pub(crate) fn read_pages<L: Link, T: Content>(
     alloc: Global,
     link: &mut L,
     server: &Server,
@@ -73,50 +71,4 @@ fn read_pages<L: Link, T: Content>(
         }
     }
     Err(ClientFault::TooManyPages)
-}
-
-// The files that a query asks for.
-pub(crate) fn read_table<L: Link>(
-    alloc: Global,
-    link: &mut L,
-    server: &Server,
-    table: &SharedTable,
-    body: &QueryBody,
-) -> Result<TableRead, ClientFault>
-    ensures later { Later (counts L.faults L.read_faults L.write_faults link.old) (counts L.faults L.read_faults L.write_faults link.new) }
-    ensures cause { HasCause result (counts L.faults L.read_faults L.write_faults link.old) (counts L.faults L.read_faults L.write_faults link.new) }
-    ensures told { Known L.coming L.closed link.old link.new (ReadsTable (files server.now table.now body.now) result) }
-{
-    let mut files = Vec::new(alloc);
-    let request = TableRequest::Query(table, body);
-    match read_pages(alloc, link, server, &request, &mut files) {
-        Ok((head, pages)) => Ok(TableRead {
-            version: head.version,
-            meta: Line::MetaData(head.meta),
-            files,
-            pages,
-        }),
-        Err(fault) => Err(fault),
-    }
-}
-
-// The changes from a version to another.
-pub(crate) fn read_changes<L: Link>(
-    alloc: Global,
-    link: &mut L,
-    server: &Server,
-    table: &SharedTable,
-    from: u64,
-    to: u64,
-) -> Result<Vec<Line>, ClientFault>
-    ensures later { Later (counts L.faults L.read_faults L.write_faults link.old) (counts L.faults L.read_faults L.write_faults link.new) }
-    ensures cause { HasCause result (counts L.faults L.read_faults L.write_faults link.old) (counts L.faults L.read_faults L.write_faults link.new) }
-    ensures told { Known L.coming L.closed link.old link.new (λ s t. MatchResult result (λ v. ReadsChanges (changes server.now table.now from to) (Ok v.items) s t) (λ e. ReadsChanges (changes server.now table.now from to) (Err e) s t)) }
-{
-    let mut changes = Vec::new(alloc);
-    let request = TableRequest::Changes(table, from, to);
-    match read_pages(alloc, link, server, &request, &mut changes) {
-        Ok(_) => Ok(changes),
-        Err(fault) => Err(fault),
-    }
 }

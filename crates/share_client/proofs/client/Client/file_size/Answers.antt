@@ -2,7 +2,7 @@ use Rattle.std.proofs.Common.{◌≡◌, Some, subst}
 use Rattle.share_client.specs.Sizes.{SizesAt, SizesFrom}
 use Rattle.share_client.specs.Targets.{target_in}
 use Rattle.share_client.proofs.Knowing.{known_as}
-use Rattle.share_client.proofs.size.file_size.Goals as goal
+use Rattle.share_client.proofs.client.Client.file_size.Goals as goal
 
 pub returns-in-Ok-Some-clause-told : goal.returns-in-Ok-Some-clause-told
 returns-in-Ok-Some-clause-told g c =
