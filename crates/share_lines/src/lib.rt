@@ -24,6 +24,6 @@ pub use law::one_line_each;
 pub use parts::{FileKind, FileParts, MetaParts};
 pub use printing::{line_len, line_text, push_line};
 pub use table_lines::{
-    end_len, file_parts_len, meta_len, meta_text, push_file, push_file_parts, push_meta,
+    end_len, file_parts_len, meta_len, meta_text, push_end, push_file, push_file_parts, push_meta,
     push_protocol,
 };

@@ -117,8 +117,6 @@ pub fn meta_text(alloc: Global, meta: &MetaLine) -> Result<Text, AllocError>
     Ok(Text::of(printed(writer)))
 }
 
-// ---- how long the other lines are
-
 /// How many bytes `push_meta` appends, but for the line feed: 2^64 - 1 where they are more. It takes no
 /// memory.
 pub fn meta_len(meta: &MetaData) -> u64
@@ -129,6 +127,7 @@ pub fn meta_len(meta: &MetaData) -> u64
     length.bytes
 }
 
+// The object of the line of the end of a stream.
 fn end_object<W: Tokens>(writer: &mut W, end: &EndLine) -> Result<(), W::Error>
     ensures { OnOk result (W.adds writer.old writer.new (value_tokens (line_data (line.End end.now)))) }
 {
@@ -136,6 +135,17 @@ fn end_object<W: Tokens>(writer: &mut W, end: &EndLine) -> Result<(), W::Error>
     writer.key("endStreamAction")?;
     end_line_object(writer, end)?;
     writer.end_object()
+}
+
+/// Appends the line of the end of a stream.
+pub fn push_end(alloc: Global, out: &mut Vec<u8>, end: &EndLine) -> Result<(), AllocError>
+    ensures line { OnOk result (out.new.items ≡ out.old.items ++ (line_text (line.End end.now) ++ 10 ∷ [])) }
+    ensures kept { OnErr result (out.new.items ≡ out.old.items) }
+{
+    let mut writer = new_writer(alloc, ROOM)?;
+    end_object(&mut writer, end)?;
+    let text = with_line_feed(writer)?;
+    out.extend_from_slice(&text)
 }
 
 /// How many bytes the line of the end of a stream has, but for the line feed: 2^64 - 1 where they are

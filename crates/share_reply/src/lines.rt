@@ -15,11 +15,11 @@ ghost use Rattle.share_reply.specs.declared.keys.ReplyKeys.{ReplyKeys};
 use crate::access::Access;
 use crate::keys::ReplyKeys;
 use change_feed::{Change, ChangeKind};
-use json_tree::{Millis, Pairs, Text, copy_text_or_none};
+use json_tree::{Millis, Pairs, Text};
 use log_actions::{AddFile, MetaData};
 use share_lines::{
-    EndLine, FileKind, FileParts, Line, end_len, file_parts_len, line_len, meta_len,
-    push_file_parts, push_line, push_meta, push_protocol,
+    EndLine, FileKind, FileParts, Line, end_len, file_parts_len, line_len, meta_len, push_end,
+    push_file_parts, push_meta, push_protocol,
 };
 use std::alloc::{AllocError, Global};
 use std::marker::Model;
@@ -146,19 +146,6 @@ fn push_change(
     let no_stats = None;
     let parts = change_parts(&url, expires, change, &no_values, &no_stats);
     push_file_parts(alloc, out, kind_of(change.kind()), &parts)
-}
-
-fn push_end(alloc: Global, out: &mut Vec<u8>, end: &EndLine) -> Result<(), AllocError>
-    ensures line { OnOk result (out.new.items ≡ out.old.items ++ fed (line.End end.now)) }
-    ensures kept { OnErr result (out.new.items ≡ out.old.items) }
-{
-    let line = Line::End(EndLine {
-        min_expires: end.min_expires,
-        token: copy_text_or_none(alloc, &end.token)?,
-    });
-    let mut text = String::new(alloc);
-    push_line(alloc, &mut text, &line)?;
-    out.extend_from_slice(text.as_bytes())
 }
 
 fn push(
