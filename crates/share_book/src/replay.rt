@@ -1,9 +1,9 @@
 // What is left to replay for the state of a version.
-ghost use Rattle.std.specs.Prelude.{◌≡◌, ◌+◌, ◌<◌, ◌^◌, ◌++◌, List, Ok, IfOk, OnOk, length, map, unwrap_or};
+ghost use Rattle.std.specs.Prelude.{◌≡◌, ◌+◌, ◌-◌, ◌<◌, ◌^◌, ◌++◌, ◌∷◌, [], List, Ok, IfOk, OnOk, length, map};
 ghost use Rattle.std.specs.Arc.{arc_value};
 ghost use Rattle.log_actions.specs.declared.actions.Action.{Action};
 ghost use Rattle.log_replay.specs.Reconciliation.{actions_in};
-ghost use Rattle.log_replay.specs.Snapshots.{Answers};
+ghost use Rattle.log_replay.specs.Snapshots.{Answers, next_state};
 ghost use Rattle.log_replay.specs.Standing.{IsSupported};
 ghost use Rattle.log_replay.specs.State.{state_of};
 ghost use Rattle.share_book.specs.Bases.{CanReplay, Makes};
@@ -44,13 +44,20 @@ fn replay_all<L>(
     Ok(shared(alloc, state)?)
 }
 
-fn or_base<'a>(state: &'a Option<Snapshot>, base: &'a Snapshot) -> &'a Snapshot
-    ensures { result.now ≡ unwrap_or state.now base.now }
+// The state after one commit more.
+fn next<L>(
+    alloc: Global,
+    base: &SharedSnapshot,
+    commit: &Commit,
+    steps: &mut Steps<L>,
+) -> Result<SharedSnapshot, NoState>
+    requires { base.now.version < 2 ^ 63 - 1 }
+    ensures state { (log : List (List Action)) → state_of log ≡ Ok base.now → Answers result (state_of (log ++ commit.now ∷ [])) }
+    ensures next { Answers result (next_state base.now commit.now) }
+    ensures counted { OnOk result (steps.new ≡ steps.old + length commit.now) }
 {
-    match state {
-        Some(state) => state,
-        None => base,
-    }
+    let state = advance(alloc, base.get(), commit, steps)?;
+    Ok(shared(alloc, state)?)
 }
 
 // The state of a supported log that begins with the base's commits and goes on with these.
@@ -64,15 +71,11 @@ fn state_after<L>(
     ensures state { (log : List (List Action)) → state_of log ≡ Ok base.now → IsSupported (log ++ map arc_value commits.now) → Answers result (state_of (log ++ map arc_value commits.now)) }
     ensures counted { OnOk result (steps.new ≡ steps.old + length (actions_in (map arc_value commits.now))) }
 {
-    let mut state: Option<Snapshot> = None;
+    let mut state = base.share()?;
     for commit in commits {
-        let next = advance(alloc, or_base(&state, base.get()), commit, steps)?;
-        state = Some(next);
+        state = next(alloc, &state, commit, steps)?;
     }
-    match state {
-        Some(state) => Ok(shared(alloc, state)?),
-        None => Ok(base.share()?),
-    }
+    Ok(state)
 }
 
 // The work of a replay that nobody counts.

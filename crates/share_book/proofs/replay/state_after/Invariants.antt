@@ -1,6 +1,5 @@
-use Rattle.std.specs.Option.{unwrap_or}
 use Rattle.share_book.proofs.States.{Advanced}
 use Rattle.share_book.proofs.replay.state_after.Given as goal
 
 abbrev pub invariant-loop-commit : goal.invariant-loop-commit
-invariant-loop-commit g l = Advanced l.base l.commits l.commit-index (unwrap_or l.state l.base) l.fn.steps l.steps
+invariant-loop-commit g l = Advanced l.base l.commits l.commit-index l.state l.fn.steps l.steps
