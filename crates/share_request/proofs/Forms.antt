@@ -1,6 +1,6 @@
 -- What is answered is in form.
-use Rattle.std.proofs.Common.{◌≡◌, ◌≢◌, ℕ, ℤ, ◌-◌, ◌^◌, ◌<◌, ◌≤◌, ◌⊎◌, List, [], ◌∷◌, Bool, true, false, cond, leb, ◌&&◌, Option, Some, None, Result, Ok, Err, is_some, inl, inr, refl, ap, sym, subst, arith}
-use Rattle.std.specs.Prelude.{pos, negsuc, IfSome, IsSome, min, unwrap_or, codes}
+use Rattle.std.proofs.Common.{◌≡◌, ◌≢◌, ℕ, ℤ, ◌-◌, ◌^◌, ◌<◌, ◌≤◌, ◌⊎◌, List, [], ◌∷◌, Bool, true, false, cond, leb, ◌&&◌, Option, Some, None, Result, Ok, Err, inl, inr, refl, ap, sym, subst, arith}
+use Rattle.std.specs.Prelude.{IfSome, IsSome, min, unwrap_or, codes}
 use Rattle.std.specs.Str.Parse.{digits_value}
 use Rattle.std.proofs.lemmas.Bool.{and_parts, leb-true}
 use Rattle.std.proofs.lemmas.Slice.Eq.{bytes_eq-Decides}
@@ -21,7 +21,6 @@ use Rattle.share_request.specs.InForm.{IsAsked, IsBound, IsInForm, IsPage}
 use Rattle.share_request.specs.Laws.{RequestsAreInForm}
 use Rattle.share_request.specs.Parameters.{at_in, first_value, from_in, max_files_in, moment_at, most_in, number_at, one_bound, page_in, read_value, start_in, start_or_token, to_in, token_in, version_at}
 use Rattle.share_request.specs.Paths.{admin_route, name_at, provider_route, route_of, segments_in, share_route, table_at, table_route}
-use Rattle.query_body.specs.InForm.{IsMax, IsQuery, IsToken}
 use Rattle.query_body.specs.Query.{query_in}
 use Rattle.query_body.proofs.Forms.{max_is, query_is, step, unless_empty_is, version_small}
 use Rattle.share_request.specs.Requests.{at_path, below_in, by_route, has_method, is_head, link_or, link_request, pairs_or_none, turned_away, with_bearer}

@@ -1,6 +1,6 @@
 -- What isn't known is passed over.
-use Rattle.std.proofs.Common.{◌≡◌, ◌≢◌, ℕ, ◌<◌, List, [], ◌∷◌, ◌++◌, length, map, filter, get_or, Bool, true, false, cond, eqb, All, Option, Some, None, Result, Ok, Err, refl, ap, sym, ◌∙◌, append-nil, arith}
-use Rattle.std.specs.Prelude.{bytes_eq, codes, is_some, option_and_then}
+use Rattle.std.proofs.Common.{◌≡◌, ◌≢◌, ℕ, ◌<◌, List, [], ◌∷◌, ◌++◌, length, map, filter, get_or, Bool, true, false, cond, eqb, All, Option, Some, None, Result, refl, ap, sym, ◌∙◌, append-nil, arith}
+use Rattle.std.specs.Prelude.{bytes_eq, codes, option_and_then}
 use Rattle.std.proofs.lemmas.Bool.{false_from_ne_true}
 use Rattle.std.specs.List.{flat_map, join_with_byte}
 use Rattle.std.proofs.lemmas.Grind.{flat_map-append}
@@ -15,7 +15,6 @@ use Rattle.form_urlencoded.proofs.FormLemmas.{raw_pairs-nil, raw_pairs_first, sp
 use Rattle.http_message.specs.declared.head.Head.{Head}
 use Rattle.serde_json.specs.Data.{Data}
 use Rattle.json_tree.specs.Fields.{present}
-use Rattle.json_tree.specs.Results.{◌>>=◌}
 use Rattle.share_request.specs.Asked.{what_at}
 use Rattle.share_request.specs.Bearers.{bearer_in}
 use Rattle.share_request.specs.Bodies.{offer_of}
