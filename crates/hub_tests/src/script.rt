@@ -2,6 +2,7 @@
 use crate::server::{Server, Told, holds, stock};
 use edge_core::MemStore;
 use itoa::Buffer;
+use share_hub::EditEnd;
 use std::alloc::Global;
 use std::mem::swap;
 use std::sync::Wait;
@@ -60,6 +61,15 @@ fn version_name(alloc: Global, version: u64) -> Option<String> {
     name.push_str(Buffer::new().format(version)).ok()?;
     name.push_str(".json").ok()?;
     Some(name)
+}
+
+// The number of an edit's record, or that it is refused.
+fn edit_told(made: Result<u64, EditEnd>) -> Option<Told> {
+    match made {
+        Ok(number) => Some(("record", number, 0)),
+        Err(EditEnd::Refused(_)) => Some(("refused", 0, 0)),
+        Err(_) => None,
+    }
 }
 
 impl Place {
@@ -172,7 +182,7 @@ impl Place {
 
     fn told<R: Wait>(&mut self, rt: &R, alloc: Global, act: Act, text: &str) -> Option<Told> {
         match act {
-            Act::Edit => self.server.edit(rt, alloc, &mut self.store, text),
+            Act::Edit => edit_told(self.server.edit(rt, alloc, &mut self.store, text)?),
             Act::Commit(read) => self.commit(rt, alloc, read, text),
             Act::Refresh => self.refresh(rt, alloc),
             Act::Found => self.server.found(rt, alloc, &mut self.store),

@@ -1,7 +1,7 @@
 // A server with two callers, of which one calls. What a call needs is kept in the type, so that the tests' functions have no clauses.
 ghost use Rattle.std.specs.Prelude.{◌≡◌, false};
 
-use catalog_log::edit_at;
+use catalog_log::{bytes_of_edit, edit_at, record_name};
 use commit_check::{Conflict, Offer, Reads};
 use edge_core::{Got, MemStore, Name, Store, Stored};
 use json_tree::{Text, Version, tree_of};
@@ -42,6 +42,24 @@ fn name(alloc: Global, text: &str) -> Option<Name> {
 pub(crate) fn stock(alloc: Global, store: &mut MemStore, object: &str, text: &str) -> Option<()> {
     let name = name(alloc, object)?;
     let bytes = Vec::from_slice(alloc, text.as_bytes()).ok()?;
+    store.stock(Stored { name, bytes });
+    Some(())
+}
+
+// The record of an edit.
+fn record_of(alloc: Global, text: &str) -> Option<Vec<u8>> {
+    bytes_of_edit(alloc, &edit_of(alloc, text)?).ok()
+}
+
+/// Someone else stores an edit as the record of that number.
+pub(crate) fn stock_record(
+    alloc: Global,
+    store: &mut MemStore,
+    number: u64,
+    text: &str,
+) -> Option<()> {
+    let name = record_name(alloc, number).ok()?;
+    let bytes = record_of(alloc, text)?;
     store.stock(Stored { name, bytes });
     Some(())
 }
@@ -102,11 +120,12 @@ fn catalog_name(alloc: Global, text: &str) -> Option<CatalogName> {
     CatalogName::of(String::from_str(alloc, text).ok()?)
 }
 
-fn table(alloc: Global) -> Option<TableName> {
+/// A table in the schema `d` of a share.
+pub(crate) fn table(alloc: Global, share: &str, table: &str) -> Option<TableName> {
     Some(TableName {
-        share: catalog_name(alloc, "s")?,
+        share: catalog_name(alloc, share)?,
         schema: catalog_name(alloc, "d")?,
-        table: catalog_name(alloc, "t")?,
+        table: catalog_name(alloc, table)?,
     })
 }
 
@@ -120,7 +139,7 @@ fn files_of(alloc: Global, version: Option<u64>) -> Option<Want> {
         Some(version) => Part::PinnedFiles(Version::of(version)?),
         None => Part::Files(Bound::Latest),
     };
-    Some(Want::Table(table(alloc)?, part))
+    Some(Want::Table(table(alloc, "s", "t")?, part))
 }
 
 fn version_of(base: &Option<SharedSnapshot>) -> Option<u64> {
@@ -143,14 +162,6 @@ fn left_of(pinned: &Pinned) -> Option<(Option<u64>, usize)> {
     match &pinned.replay {
         Some(replay) => Some((version_of(&replay.base), actions_in(&replay.commits))),
         None => None,
-    }
-}
-
-fn edit_told(made: Result<u64, EditEnd>) -> Option<Told> {
-    match made {
-        Ok(number) => Some(("record", number, 0)),
-        Err(EditEnd::Refused(_)) => Some(("refused", 0, 0)),
-        Err(_) => None,
     }
 }
 
@@ -182,16 +193,16 @@ impl Server {
         self.hub.edit(rt, alloc, &mut self.pass, store, edit)
     }
 
-    /// The number of an edit's record, or that it is refused.
+    /// How an edit ends: the record's number, or why not.
     pub(crate) fn edit<R: Wait>(
         &mut self,
         rt: &R,
         alloc: Global,
         store: &mut MemStore,
         text: &str,
-    ) -> Option<Told> {
+    ) -> Option<Result<u64, EditEnd>> {
         let edit = edit_of(alloc, text)?;
-        edit_told(self.made(rt, alloc, store, &edit))
+        Some(self.made(rt, alloc, store, &edit))
     }
 
     fn committed<R: Wait>(
@@ -265,8 +276,8 @@ impl Server {
             .ok()
     }
 
-    // What the recipient is shown.
-    fn look<R: Wait>(&mut self, rt: &R, alloc: Global, want: Want) -> Option<Found> {
+    /// What the recipient is shown.
+    pub(crate) fn look<R: Wait>(&mut self, rt: &R, alloc: Global, want: Want) -> Option<Found> {
         let who = recipient(alloc)?;
         Some(self.seen(rt, alloc, &Ask { who, want })?.seen?.found)
     }

@@ -1,8 +1,7 @@
 // A catalogue with as many logs as it may have.
-use crate::look_made::{Place, empty_store, stock_record};
+use crate::server::{Server, Told, stock_record};
 use edge_core::MemStore;
 use itoa::Buffer;
-use share_book::{Found, Want};
 use share_catalog::EditRefusal;
 use share_hub::EditEnd;
 use std::alloc::Global;
@@ -79,7 +78,7 @@ fn stock_shares(alloc: Global, store: &mut MemStore) -> Option<()> {
 }
 
 fn stocked(alloc: Global) -> Option<MemStore> {
-    let mut store = empty_store(alloc, 100)?;
+    let mut store = MemStore::new(alloc, 100, 50_000, Vec::new(alloc)).ok()?;
     stock_record(alloc, &mut store, 0, RECIPIENT)?;
     stock_shares(alloc, &mut store)?;
     Some(store)
@@ -92,38 +91,30 @@ fn limit_of(end: &Result<u64, EditEnd>) -> Option<u32> {
     }
 }
 
-// At which limit an edit is refused.
-fn limit<R: Wait>(rt: &R, alloc: Global, place: &mut Place, text: &str) -> Option<u32> {
-    limit_of(&place.edit(rt, alloc, text)?)
-}
-
-// The number of an edit's record.
-fn record<R: Wait>(rt: &R, alloc: Global, place: &mut Place, text: &str) -> Option<u64> {
-    place.edit(rt, alloc, text)?.ok()
-}
-
 // A table at a 33rd location is refused, but not another at the first.
-fn is_full<R: Wait>(rt: &R, alloc: Global, place: &mut Place) -> Option<bool> {
-    let share = record(rt, alloc, place, &share(alloc, LOGS)?)?;
-    let log = limit(rt, alloc, place, &bind(alloc, LOGS, LOGS)?)?;
-    let table = record(rt, alloc, place, &bind(alloc, LOGS, 0)?)?;
-    Some((share, log, table) == (97, 32, 98))
+fn is_full<R: Wait>(
+    rt: &R,
+    alloc: Global,
+    server: &mut Server,
+    store: &mut MemStore,
+) -> Option<bool> {
+    let share = server.edit(rt, alloc, store, &share(alloc, LOGS)?)?;
+    let log = server.edit(rt, alloc, store, &bind(alloc, LOGS, LOGS)?)?;
+    let table = server.edit(rt, alloc, store, &bind(alloc, LOGS, 0)?)?;
+    Some((share, limit_of(&log), table) == (Ok(97), Some(32), Ok(98)))
 }
 
-// How many shares and tables the recipient sees.
-fn seen<R: Wait>(rt: &R, alloc: Global, place: &mut Place) -> Option<(usize, usize)> {
-    match place.look(rt, alloc, Want::Names)? {
-        Found::Names(names) => Some((names.shares().len(), names.tables().len())),
-        _ => None,
-    }
+// What is told of the names that the recipient sees, and of the logs that are loaded.
+fn told<R: Wait>(rt: &R, alloc: Global, server: &mut Server) -> Option<(Told, Told)> {
+    Some((server.names(rt, alloc)?, server.locations(rt, alloc)?))
 }
 
 fn whole<R: Wait>(rt: &R, alloc: Global) -> Option<bool> {
-    let mut place = Place::open(alloc, stocked(alloc)?)?;
-    let full = is_full(rt, alloc, &mut place);
-    let seen = seen(rt, alloc, &mut place);
-    let logs = place.logs(rt, alloc);
-    Some(full == Some(true) && seen == Some((32, 32)) && logs == Some(32))
+    let mut store = stocked(alloc)?;
+    let mut server = Server::open(alloc, &mut store)?;
+    let full = is_full(rt, alloc, &mut server, &mut store)?;
+    let told = told(rt, alloc, &mut server)?;
+    Some(full && told == (("names", 32, 32), ("locations", 32, 0)))
 }
 
 #[test]

@@ -1,5 +1,5 @@
 // What is refused of tables' logs, each refusal as it follows from the log.
-use crate::look_made::{Place, empty_store, stock, stock_record, table_name};
+use crate::server::{Server, stock, stock_record, table};
 use edge_core::MemStore;
 use json_tree::Version;
 use log_replay::Bound;
@@ -130,17 +130,16 @@ fn told_by(found: &Found) -> Told {
     }
 }
 
-fn answer<R: Wait>(rt: &R, alloc: Global, place: &mut Place, row: &Row) -> Option<Told> {
-    let (share, table, asked, _) = row;
-    let table = table_name(alloc, share, table)?;
-    let want = Want::Table(table, part_of(asked)?);
-    Some(told_by(&place.look(rt, alloc, want)?))
+fn answer<R: Wait>(rt: &R, alloc: Global, server: &mut Server, row: &Row) -> Option<Told> {
+    let (share, name, asked, _) = row;
+    let want = Want::Table(table(alloc, share, name)?, part_of(asked)?);
+    Some(told_by(&server.look(rt, alloc, want)?))
 }
 
 // The number of the first row that doesn't hold, none where all do.
-fn first_wrong<R: Wait>(rt: &R, alloc: Global, place: &mut Place) -> Option<usize> {
+fn first_wrong<R: Wait>(rt: &R, alloc: Global, server: &mut Server) -> Option<usize> {
     for (number, row) in ROWS.iter().enumerate() {
-        if answer(rt, alloc, place, row) != Some(row.3) {
+        if answer(rt, alloc, server, row) != Some(row.3) {
             return Some(number);
         }
     }
@@ -155,7 +154,7 @@ fn stock_objects(alloc: Global, store: &mut MemStore) -> Option<()> {
 }
 
 fn stocked(alloc: Global) -> Option<MemStore> {
-    let mut store = empty_store(alloc, 16)?;
+    let mut store = MemStore::new(alloc, 16, 8_000, Vec::new(alloc)).ok()?;
     stock_objects(alloc, &mut store)?;
     for (number, text) in EDITS.iter().enumerate() {
         stock_record(alloc, &mut store, number as u64, text)?;
@@ -166,7 +165,7 @@ fn stocked(alloc: Global) -> Option<MemStore> {
 #[test]
 fn each_refusal_is_told(rt: HostRuntime) {
     let alloc = rt.alloc();
-    let store = stocked(alloc).expect(&rt, "what is stored");
-    let mut place = Place::open(alloc, store).expect(&rt, "a server");
-    assert_eq!(rt; first_wrong(&rt, alloc, &mut place), None);
+    let mut store = stocked(alloc).expect(&rt, "what is stored");
+    let mut server = Server::open(alloc, &mut store).expect(&rt, "a server");
+    assert_eq!(rt; first_wrong(&rt, alloc, &mut server), None);
 }
