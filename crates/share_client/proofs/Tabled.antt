@@ -11,7 +11,7 @@ use Rattle.share_client.specs.Chains.{Agree, Begun, Chain, Changed, Ends, Paging
 use Rattle.share_client.specs.Sides.{Side}
 use Rattle.share_client.specs.TablePages.{TablePage, change_in, changed, file_in, head_of, table_page_in}
 use Rattle.share_client.specs.TableRequests.{changes_text, query_text}
-use Rattle.share_client.specs.TableSteps.{Keeps, PagesOnto, ReadsTablePage, TableTurn, TellsChange, first_head}
+use Rattle.share_client.specs.TableSteps.{IsBehind, PagesOnto, ReadsTablePage, TableTurn, TellsChange, first_head}
 use Rattle.share_client.specs.Tables.{IsRead, joined, ReadsChanges, ReadsChangesOf, ReadsTable, ReadsTableOf, table_paging}
 use Rattle.share_client.specs.declared.exchange.Response.{Response}
 use Rattle.share_client.specs.declared.fault.ClientFault.{ClientFault}
@@ -31,6 +31,11 @@ pub record ReachedPages {X : Type 0} (g : Paging (TablePage X)) (number : ℕ) (
 
 abbrev pub ReachesPages : {X : Type 0} → Paging (TablePage X) → (number : ℕ) → Option PageHead → Option (List ℕ) → (was now : List X) → Side → Side → Type 0
 ReachesPages g number first token was now old new = (pages : List (TablePage _)) × ReachedPages g number first token was now old new pages
+
+-- behind a first page of that head and next token, so many were reached
+abbrev pub GoesOn : {X : Type 0} → Paging (TablePage X) → (first : PageHead) → (next : Option (List ℕ)) → (number : ℕ) → Option (List ℕ) → (was now : List X) → Side → Side → Type 0
+GoesOn g first next number token was now old new =
+    (start : Side) → (before : List _) → TableTurn g None before was (Ok (first, next)) start old → ReachesPages g number (Some first) token before now start new
 
 module _ {P : Type 0} (g : Paging P) where
   -- the page may come behind these
@@ -74,11 +79,16 @@ module _ {X : Type 0} (reads : Line → Option X) (server : Server) (text : Opti
   unfolding table_paging
   chained pages token page old mid new chain turn = chain_more paging (Some None) pages token page old mid new chain turn
 
-  kept_fits : (pages : List (TablePage X)) (page : TablePage X) (kept : PageHead) → Keeps (first_head pages) (head_of page) (Ok kept)
-      → Fits paging pages page × (first_head (pages ++ page ∷ []) ≡ Some kept)
+  fits_behind : (pages : List (TablePage X)) (page : TablePage X) (first : PageHead) (found : PageHead × Option (List ℕ)) (token : Option (List ℕ))
+      → first_head pages ≡ Some first → found.0 ≡ head_of page → IsBehind first found (Ok token) → Fits paging pages page
   unfolding table_paging
-  kept_fits [] page kept is = (tt, ap Some (sym is))
-  kept_fits (first ∷ pages) page kept (is, same) = (same, ap Some (sym is))
+  fits_behind [] page first found token head same behind = absurd cc
+  fits_behind (one ∷ pages) page first found token head same (fits, is) =
+      let begins : first ≡ head_of one = cc in subst (λ h. changed h (head_of page) ≡ None) begins (subst (λ h. changed first h ≡ None) same fits)
+
+  head_stays : (pages : List (TablePage X)) (page : TablePage X) (first : PageHead) → first_head pages ≡ Some first → first_head (pages ++ page ∷ []) ≡ Some first
+  head_stays [] page first head = absurd cc
+  head_stays (one ∷ pages) page first head = head
 
   told : (first page : TablePage X) (pages : List (TablePage X)) (e : ClientFault) → TellsChange (changed (head_of first) (head_of page)) e
       → Changed paging (first ∷ pages) page e
@@ -94,63 +104,91 @@ module _ {X : Type 0} (reads : Line → Option X) (server : Server) (text : Opti
   told first page pages fault.ReadFault tells = absurd tells
   told first page pages fault.WriteFault tells = absurd tells
 
-  kept_not : (pages : List (TablePage X)) (page : TablePage X) (e : ClientFault) → Keeps (first_head pages) (head_of page) (Err e) → Changed paging pages page e
-  kept_not [] page e keeps = absurd keeps
-  kept_not (first ∷ pages) page e keeps = told first page pages e keeps
-
-  keeps_as : (pages : List (TablePage X)) (page : TablePage X) (first : Option PageHead) (head : PageHead) (result : Result PageHead ClientFault)
-      → first_head pages ≡ first → head ≡ head_of page → Keeps first head result → Keeps (first_head pages) (head_of page) result
-  keeps_as pages page first head result is same keeps =
-      subst (λ h. Keeps (first_head pages) h result) same (subst (λ o. Keeps o head result) (sym is) keeps)
+  changed_behind : (pages : List (TablePage X)) (page : TablePage X) (first : PageHead) (found : PageHead × Option (List ℕ)) (e : ClientFault)
+      → first_head pages ≡ Some first → found.0 ≡ head_of page → IsBehind first found (Err e) → Changed paging pages page e
+  changed_behind [] page first found e head same behind = absurd cc
+  changed_behind (one ∷ pages) page first found e head same behind =
+      let begins : first ≡ head_of one = cc in
+      told one page pages e (subst (λ h. TellsChange (changed h (head_of page)) e) begins (subst (λ h. TellsChange (changed first h) e) same behind))
 
   module _ (was : List X) where
     held_more : (pages : List (TablePage X)) (page : TablePage X) (here now : List X) → here ≡ was ++ joined pages → now ≡ here ++ page.content
         → now ≡ was ++ joined (pages ++ page ∷ [])
     held_more pages page here now a b = b ∙ ap (λ xs. xs ++ page.content) a ∙ flat_map_more (λ p. p.content) was pages page
 
-    -- no page yet
-    pub no_page : (s : Side) → ReachesPages paging 0 None None was was s s
-    no_page s = ([], record { begun = record { chain = (refl, refl); agree = tt }; many = refl; held = sym (append-nil was); head = refl })
+    -- the first page, with another to come
+    pub first_page :
+        (first : PageHead) (next : List ℕ) (now : List X) (old new : Side)
+        → TableTurn paging None was now (Ok (first, Some next)) old new → ReachesPages paging 1 (Some first) (Some next) was now old new
+    first_page first next now old new (page, turn, (held, same, later)) = (
+      page ∷ [],
+      record {
+        begun = record {
+          chain = subst (λ t. Chain paging (Some None) (page ∷ []) (option_map Some t) old new) (sym later) (chained [] None page old old new (refl, refl) turn);
+          agree = agree_more paging [] page tt tt;
+        };
+        many = refl;
+        held = held_more [] page was now (sym (append-nil was)) held;
+        head = ap Some (sym same);
+      },
+    )
+
+    -- the only page
+    pub only_page :
+        (first : PageHead) (now : List X) (old new : Side)
+        → TableTurn paging None was now (Ok (first, None)) old new → PagesOnto paging was now (Ok (first, 1)) old new
+    only_page first now old new (page, turn, (held, same, later)) = (
+      page ∷ [],
+      record {
+        chain = subst (λ t. Chain paging (Some None) (page ∷ []) (option_map Some t) old new) (sym later) (chained [] None page old old new (refl, refl) turn);
+        agree = agree_more paging [] page tt tt;
+      },
+      held_more [] page was now (sym (append-nil was)) held,
+      ap Some (sym same),
+      refl,
+    )
+
+    -- no first page came
+    pub none_came : (e : ClientFault) (now : List X) (old new : Side) → TableTurn paging None was now (Err e) old new → PagesOnto paging was now (Err e) old new
+    none_came e now old new fails = ([], None, old, record { chain = (refl, refl); agree = tt }, inr (inl fails))
 
     -- one more, with another to come
     pub one_page_more :
-        (number : ℕ) (first : Option PageHead) (token : Option (List ℕ)) (found : PageHead × Option (List ℕ)) (next : List ℕ) (kept : PageHead) (here now : List X) (old mid new : Side)
-        → ReachesPages paging number first token was here old mid
+        (number : ℕ) (first : PageHead) (token : Option (List ℕ)) (found : PageHead × Option (List ℕ)) (next : List ℕ) (here now : List X) (old mid new : Side)
+        → ReachesPages paging number (Some first) token was here old mid
         → TableTurn paging token here now (Ok found) mid new
-        → Keeps first found.0 (Ok kept) → found.1 ≡ Some next
-        → ReachesPages paging (number + 1) (Some kept) (Some next) was now old new
-    one_page_more number first token found next kept here now old mid new (pages, r) (page, turn, (held, same, later)) keeps is =
-        let fits = kept_fits pages page kept (keeps_as pages page first found.0 (Ok kept) r.head same keeps) in (
-          pages ++ page ∷ [],
-          record {
-            begun = record {
-              chain = subst (λ t. Chain paging (Some None) (pages ++ page ∷ []) (option_map Some t) old new) (sym later ∙ is) (chained pages token page old mid new r.begun.chain turn);
-              agree = agree_more paging pages page r.begun.agree fits.0;
-            };
-            many = length-append pages (page ∷ []) ∙ ap (λ n. n + 1) r.many;
-            held = held_more pages page here now r.held held;
-            head = fits.1;
-          },
-        )
+        → IsBehind first found (Ok (Some next))
+        → ReachesPages paging (number + 1) (Some first) (Some next) was now old new
+    one_page_more number first token found next here now old mid new (pages, r) (page, turn, (held, same, later)) behind = (
+      pages ++ page ∷ [],
+      record {
+        begun = record {
+          chain = subst (λ t. Chain paging (Some None) (pages ++ page ∷ []) (option_map Some t) old new) (sym (behind.1 ∙ later)) (chained pages token page old mid new r.begun.chain turn);
+          agree = agree_more paging pages page r.begun.agree (fits_behind pages page first found (Some next) r.head same behind);
+        };
+        many = length-append pages (page ∷ []) ∙ ap (λ n. n + 1) r.many;
+        held = held_more pages page here now r.held held;
+        head = head_stays pages page first r.head;
+      },
+    )
 
     -- the last one
     pub last_page :
-        (number : ℕ) (first : Option PageHead) (token : Option (List ℕ)) (found : PageHead × Option (List ℕ)) (kept : PageHead) (here now : List X) (old mid new : Side)
-        → ReachesPages paging number first token was here old mid
+        (number : ℕ) (first : PageHead) (token : Option (List ℕ)) (found : PageHead × Option (List ℕ)) (here now : List X) (old mid new : Side)
+        → ReachesPages paging number (Some first) token was here old mid
         → TableTurn paging token here now (Ok found) mid new
-        → Keeps first found.0 (Ok kept) → found.1 ≡ None
-        → PagesOnto paging was now (Ok (kept, number + 1)) old new
-    last_page number first token found kept here now old mid new (pages, r) (page, turn, (held, same, later)) keeps is =
-        let fits = kept_fits pages page kept (keeps_as pages page first found.0 (Ok kept) r.head same keeps) in (
-          pages ++ page ∷ [],
-          record {
-            chain = subst (λ t. Chain paging (Some None) (pages ++ page ∷ []) (option_map Some t) old new) (sym later ∙ is) (chained pages token page old mid new r.begun.chain turn);
-            agree = agree_more paging pages page r.begun.agree fits.0;
-          },
-          held_more pages page here now r.held held,
-          fits.1,
-          sym (length-append pages (page ∷ []) ∙ ap (λ n. n + 1) r.many),
-        )
+        → IsBehind first found (Ok None)
+        → PagesOnto paging was now (Ok (first, number + 1)) old new
+    last_page number first token found here now old mid new (pages, r) (page, turn, (held, same, later)) behind = (
+      pages ++ page ∷ [],
+      record {
+        chain = subst (λ t. Chain paging (Some None) (pages ++ page ∷ []) (option_map Some t) old new) (sym (behind.1 ∙ later)) (chained pages token page old mid new r.begun.chain turn);
+        agree = agree_more paging pages page r.begun.agree (fits_behind pages page first found None r.head same behind);
+      },
+      held_more pages page here now r.held held,
+      head_stays pages page first r.head,
+      sym (length-append pages (page ∷ []) ∙ ap (λ n. n + 1) r.many),
+    )
 
     -- none came
     pub pages_stopped :
@@ -162,13 +200,13 @@ module _ {X : Type 0} (reads : Line → Option X) (server : Server) (text : Opti
 
     -- one came that isn't as the first
     pub page_changed :
-        (number : ℕ) (first : Option PageHead) (token : Option (List ℕ)) (found : PageHead × Option (List ℕ)) (e : ClientFault) (here now : List X) (old mid new : Side)
-        → ReachesPages paging number first token was here old mid
+        (number : ℕ) (first : PageHead) (token : Option (List ℕ)) (found : PageHead × Option (List ℕ)) (e : ClientFault) (here now : List X) (old mid new : Side)
+        → ReachesPages paging number (Some first) token was here old mid
         → TableTurn paging token here now (Ok found) mid new
-        → Keeps first found.0 (Err e)
+        → IsBehind first found (Err e)
         → PagesOnto paging was now (Err e) old new
-    page_changed number first token found e here now old mid new (pages, r) (page, turn, (held, same, later)) keeps =
-        (pages, token, mid, r.begun, inr (inr (page, turn, kept_not pages page e (keeps_as pages page first found.0 (Err e) r.head same keeps))))
+    page_changed number first token found e here now old mid new (pages, r) (page, turn, (held, same, later)) behind =
+        (pages, token, mid, r.begun, inr (inr (page, turn, changed_behind pages page first found e r.head same behind)))
 
     -- too many came
     pub too_many_pages :

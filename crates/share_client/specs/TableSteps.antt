@@ -28,12 +28,10 @@ abbrev pub Compares : Option (List ℕ × List ℕ) → Result ⊤ ClientFault �
 Compares change (Ok same) = change ≡ None
 Compares change (Err e) = TellsChange change e
 
--- the first page's head, which is that of this page where none came before
-abbrev pub Keeps : Option PageHead → PageHead → Result PageHead ClientFault → Type 0
-Keeps None page (Ok kept) = kept ≡ page
-Keeps None page (Err e) = ⊥
-Keeps (Some first) page (Ok kept) = (kept ≡ first) × (changed first page ≡ None)
-Keeps (Some first) page (Err e) = TellsChange (changed first page) e
+-- the token of a page that differs in nothing from the first
+abbrev pub IsBehind : (first : PageHead) → PageHead × Option (List ℕ) → Result (Option (List ℕ)) ClientFault → Type 0
+IsBehind first page (Ok token) = (changed first page.0 ≡ None) × (token ≡ page.1)
+IsBehind first page (Err e) = TellsChange (changed first page.0) e
 
 -- the metadata and the token of a page whose content stands behind what was there
 abbrev pub ReadsParts : {X : Type 0} → (was now : List X) → Option (MetaLine × Listing X) → Result (MetaLine × Option (List ℕ)) ClientFault → Type 0
@@ -64,3 +62,13 @@ PagesOnto g was now (Ok found) old new =
     (pages : List (TablePage _)) × Whole g pages old new × (now ≡ was ++ joined pages)
     × (first_head pages ≡ Some found.0) × (found.1 ≡ length pages)
 PagesOnto g was now (Err e) old new = Ends g e old new
+
+abbrev pub with_first : PageHead → Result ℕ ClientFault → Result (PageHead × ℕ) ClientFault
+with_first first (Ok many) = Ok (first, many)
+with_first first (Err e) = Err e
+
+-- what came behind a first page of that head and token makes all pages of it
+abbrev pub PagesBehind : {X : Type 0} → Paging (TablePage X) → (first : PageHead) → (token : List ℕ) → (was now : List X) → Result ℕ ClientFault → Side → Side → Type 0
+PagesBehind g first token was now result old new =
+    (start : Side) → (before : List _) → TableTurn g None before was (Ok (first, Some token)) start old
+    → PagesOnto g before now (with_first first result) start new

@@ -1,5 +1,5 @@
 // The client.
-ghost use Rattle.std.specs.Prelude.{◌≡◌, ◌≤◌, ◌<◌, MatchResult, Ok, Err, option_map};
+ghost use Rattle.std.specs.Prelude.{◌≡◌, ◌≤◌, ◌<◌, MatchResult, Ok, Err};
 ghost use Rattle.share_client.specs.Clients.{client_profile};
 ghost use Rattle.share_client.specs.Files.{FetchCause, Fetches, TellsUrl};
 ghost use Rattle.share_client.specs.Listings.{ListsTablesOf};

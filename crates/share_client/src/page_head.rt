@@ -1,7 +1,7 @@
 // What all pages of an answer have alike.
 ghost use Rattle.std.specs.Prelude.{None, decimal};
 ghost use Rattle.share_client.specs.TablePages.{changed, if_other};
-ghost use Rattle.share_client.specs.TableSteps.{Compares, Keeps};
+ghost use Rattle.share_client.specs.TableSteps.{Compares, IsBehind};
 
 use crate::ClientFault;
 use crate::target::text_of;
@@ -47,19 +47,17 @@ fn compare_heads(alloc: Global, first: &PageHead, page: &PageHead) -> Result<(),
     compare(alloc, first.text.as_str(), page.text.as_str())
 }
 
-// The first page's head, behind which that page may come. The first page itself comes behind none.
-pub(crate) fn kept_head(
+// The token behind a page that may come behind the first.
+pub(crate) fn token_behind(
     alloc: Global,
-    first: Option<PageHead>,
-    page: PageHead,
-) -> Result<PageHead, ClientFault>
-    ensures { Keeps first page result }
+    first: &PageHead,
+    page: (PageHead, Option<Text>),
+) -> Result<Option<Text>, ClientFault>
+    ensures { IsBehind first.now page result }
 {
-    match first {
-        Some(first) => match compare_heads(alloc, &first, &page) {
-            Ok(()) => Ok(first),
-            Err(fault) => Err(fault),
-        },
-        None => Ok(page),
+    let (head, token) = page;
+    match compare_heads(alloc, first, &head) {
+        Ok(()) => Ok(token),
+        Err(fault) => Err(fault),
     }
 }

@@ -1,13 +1,13 @@
 // Tables' files and changes, which come in pages.
 ghost use Rattle.share_client.specs.Tables.{table_paging};
 ghost use Rattle.share_client.specs.TableRequests.{request_text};
-ghost use Rattle.share_client.specs.TableSteps.{PagesOnto, TableTurn};
+ghost use Rattle.share_client.specs.TableSteps.{PagesBehind, PagesOnto, TableTurn};
 ghost use Rattle.share_client.specs.Sides.{counts, HasCause, Known, Later};
 
 use crate::ClientFault;
 use crate::ask::{Wanted, ask};
 use crate::lists::MOST_PAGES;
-use crate::page_head::{PageHead, kept_head};
+use crate::page_head::{PageHead, token_behind};
 use crate::server::Server;
 use crate::table_page::{Content, read_table_page};
 use crate::table_request::TableRequest;
@@ -39,6 +39,35 @@ fn table_turn<L: Link, T: Content>(
     }
 }
 
+// Reads the pages behind the first one, which has the token of the next. The answer is how many pages there are, with the first.
+fn later_pages<L: Link, T: Content>(
+    alloc: Global,
+    link: &mut L,
+    server: &Server,
+    request: &TableRequest,
+    first: &PageHead,
+    next: Text,
+    found: &mut Vec<T>,
+) -> Result<u64, ClientFault>
+    ensures later { Later (counts L.faults L.read_faults L.write_faults link.old) (counts L.faults L.read_faults L.write_faults link.new) }
+    ensures cause { HasCause result (counts L.faults L.read_faults L.write_faults link.old) (counts L.faults L.read_faults L.write_faults link.new) }
+    ensures told { Known L.coming L.closed link.old link.new (PagesBehind (table_paging T.reads server.now (request_text server.now request.now)) first.now next found.old.items found.new.items result) }
+{
+    let mut token = Some(next);
+    for number in 1..MOST_PAGES {
+        let page = match table_turn(alloc, link, server, request, &token, found) {
+            Ok(page) => page,
+            Err(fault) => return Err(fault),
+        };
+        match token_behind(alloc, first, page) {
+            Ok(Some(next)) => token = Some(next),
+            Ok(None) => return Ok(number + 1),
+            Err(fault) => return Err(fault),
+        }
+    }
+    Err(ClientFault::TooManyPages)
+}
+
 // Reads all pages, behind what was read before. The answer is what all pages have alike, and how many there are.
 pub(crate) fn read_pages<L: Link, T: Content>(
     alloc: Global,
@@ -51,24 +80,15 @@ pub(crate) fn read_pages<L: Link, T: Content>(
     ensures cause { HasCause result (counts L.faults L.read_faults L.write_faults link.old) (counts L.faults L.read_faults L.write_faults link.new) }
     ensures told { Known L.coming L.closed link.old link.new (PagesOnto (table_paging T.reads server.now (request_text server.now request.now)) found.old.items found.new.items result) }
 {
-    let mut first = None;
-    let mut token = None;
-    for number in 0..MOST_PAGES {
-        let (page, next) = match table_turn(alloc, link, server, request, &token, found) {
-            Ok(found) => found,
-            Err(fault) => return Err(fault),
-        };
-        let kept = match kept_head(alloc, first, page) {
-            Ok(kept) => kept,
-            Err(fault) => return Err(fault),
-        };
-        match next {
-            Some(next) => {
-                first = Some(kept);
-                token = Some(next);
-            }
-            None => return Ok((kept, number + 1)),
-        }
+    let (first, next) = match table_turn(alloc, link, server, request, &None, found) {
+        Ok(page) => page,
+        Err(fault) => return Err(fault),
+    };
+    match next {
+        Some(next) => match later_pages(alloc, link, server, request, &first, next, found) {
+            Ok(pages) => Ok((first, pages)),
+            Err(fault) => Err(fault),
+        },
+        None => Ok((first, 1)),
     }
-    Err(ClientFault::TooManyPages)
 }
