@@ -18,7 +18,7 @@ const BODY: &str =
 const LOOSE: &str =
     "\n {\"x\":1,\"add\":null,\"file\":{\"url\":\"u\",\"id\":\"a\",\"partitionValues\":{},\"size\":1,\"stats\":null,\"timestamp\":\"t\",\"version\":-1,\"more\":[]}} \n\n{\"remove\":{\"url\":\"u\",\"id\":\"a\",\"partitionValues\":{\"p\":null},\"size\":9223372036854775807,\"stats\":5,\"timestamp\":-1,\"version\":0}}\n{\"metaData\":{\"id\":\"m\",\"schemaString\":\"s\",\"format\":7}}\n{\"endStreamAction\":{}}";
 
-const BAD_LINES: [&str; 15] = [
+static BAD_LINES: [&str; 15] = [
     "[]",
     "{}",
     "{\"file\":null}",
@@ -73,7 +73,7 @@ fn reads_the_lines_of_an_answer(rt: HostRuntime) {
 #[test]
 fn refuses_what_is_no_line(rt: HostRuntime) {
     let alloc = rt.alloc();
-    for text in BAD_LINES {
+    for text in &BAD_LINES {
         assert!(rt; bad_at(alloc, text.as_bytes()) == Some(0));
     }
     assert!(rt; bad_at(alloc, b"\n\n\xff\n") == Some(2));
@@ -142,17 +142,24 @@ fn prints_a_file(rt: HostRuntime) {
     }
 }
 
-fn is_pushed(alloc: Global, out: &mut String, line: Line) -> bool
-    requires { IsTrue (is_printable line) }
+fn is_pushed(alloc: Global, out: &mut String, line: &Option<Line>) -> bool
+    requires { IfSome line.now (λ l. IsTrue (is_printable l)) }
 {
-    push_line(alloc, out, &line).is_ok()
+    match line {
+        Some(line) => push_line(alloc, out, line).is_ok(),
+        None => false,
+    }
 }
 
 // A file that a change removes.
-fn gone(alloc: Global, url: Text, id: Text, size: FileSize, version: Version) -> Line
-    ensures { IsTrue (is_printable result) }
+fn gone(alloc: Global) -> Option<Line>
+    ensures { IfSome result (λ l. IsTrue (is_printable l)) }
 {
-    Line::Remove(FileLine {
+    let size = FileSize::of(0)?;
+    let version = Version::of(2)?;
+    let url = text(alloc, "u")?;
+    let id = text(alloc, "a")?;
+    Some(Line::Remove(FileLine {
         url,
         id,
         values: Pairs::new(alloc),
@@ -161,21 +168,14 @@ fn gone(alloc: Global, url: Text, id: Text, size: FileSize, version: Version) ->
         expires: None,
         time: Some(-1),
         version: Some(version),
-    })
+    }))
 }
 
 // What is written of it behind a line feed.
 fn removed(alloc: Global) -> Option<String> {
-    let size = FileSize::of(0)?;
-    let version = Version::of(2)?;
     let mut out = String::from_str(alloc, "\n").ok()?;
-    let url = text(alloc, "u")?;
-    let id = text(alloc, "a")?;
-    if is_pushed(alloc, &mut out, gone(alloc, url, id, size, version)) {
-        Some(out)
-    } else {
-        None
-    }
+    let is_written = is_pushed(alloc, &mut out, &gone(alloc));
+    if is_written { Some(out) } else { None }
 }
 
 fn meta(alloc: Global) -> Option<MetaLine> {

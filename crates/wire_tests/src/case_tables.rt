@@ -1,5 +1,5 @@
-// The rows of each table, typed by hand from the documents and not from the code. A large table is one text, since a row of one that
-// is an array costs its proof a third of a second.
+// The rows of each table, typed by hand from the documents and not from the code. A large table is one text or a static, since a row
+// of an array that is made in a function costs its proof a third of a second.
 use case_table::{Class, Field, Method, Refusal, Route, ValueType};
 use std::alloc::{AllocError, Global};
 
@@ -44,8 +44,8 @@ fn refusal_row(alloc: Global, refusal: Refusal) -> Result<String, AllocError> {
 
 fn refusal_rows(alloc: Global) -> Option<String> {
     let mut rows = String::new(alloc);
-    for refusal in Refusal::ALL {
-        let row = refusal_row(alloc, refusal).ok()?;
+    for refusal in &Refusal::ALL {
+        let row = refusal_row(alloc, *refusal).ok()?;
         rows.push_str(&row).ok()?;
     }
     Some(rows)
@@ -55,65 +55,56 @@ fn refusal_rows(alloc: Global) -> Option<String> {
 fn has_the_refusals(rt: HostRuntime) {
     let rows = refusal_rows(rt.alloc()).expect(&rt, "memory");
     assert!(rt; rows.as_str() == REFUSALS);
-    for refusal in Refusal::ALL {
-        assert!(rt; Refusal::of_word(refusal.word()) == Some(refusal));
+    for refusal in &Refusal::ALL {
+        assert!(rt; Refusal::of_word(refusal.word()) == Some(*refusal));
     }
     for word in ["", "STALE", "token_stale", "TOKEN_STALE ", "LINK_REVOKE"] {
         assert!(rt; Refusal::of_word(word).is_none());
     }
 }
 
+// Each route's number, word and method.
+static ROUTES: [(u16, &str, Method); 13] = [
+    (1, "ListShares", Method::Get),
+    (2, "GetShare", Method::Get),
+    (3, "ListSchemas", Method::Get),
+    (4, "ListTables", Method::Get),
+    (5, "ListAll", Method::Get),
+    (6, "Version", Method::Get),
+    (7, "Metadata", Method::Get),
+    (8, "Query", Method::Post),
+    (9, "Changes", Method::Get),
+    (10, "File", Method::GetOrHead),
+    (11, "Commit", Method::Post),
+    (12, "Refresh", Method::Post),
+    (13, "Edit", Method::Post),
+];
+
 #[test]
 fn has_the_routes(rt: HostRuntime) {
-    let rows = [
-        (1, "ListShares", Method::Get),
-        (2, "GetShare", Method::Get),
-        (3, "ListSchemas", Method::Get),
-        (4, "ListTables", Method::Get),
-        (5, "ListAll", Method::Get),
-        (6, "Version", Method::Get),
-        (7, "Metadata", Method::Get),
-        (8, "Query", Method::Post),
-        (9, "Changes", Method::Get),
-        (10, "File", Method::GetOrHead),
-        (11, "Commit", Method::Post),
-        (12, "Refresh", Method::Post),
-        (13, "Edit", Method::Post),
-    ];
-    let mut routes = Route::ALL.into_iter();
-    for (code, word, method) in rows {
-        match routes.next() {
-            Some(route) => {
-                assert!(rt; (route.code(), route.method()) == (code, method));
-                assert!(rt; route.word() == word);
-            }
-            None => assert!(rt; false),
-        }
+    assert!(rt; Route::ALL.len() == ROUTES.len());
+    for (route, (code, word, method)) in Route::ALL.iter().zip(&ROUTES) {
+        assert!(rt; route.code() == *code && route.method() == *method);
+        assert!(rt; route.word() == *word);
     }
-    assert!(rt; routes.next().is_none());
 }
+
+// Each type's word and class.
+static VALUE_TYPES: [(&str, Class); 5] = [
+    ("bool", Class::Boolean),
+    ("int", Class::Whole),
+    ("long", Class::Whole),
+    ("string", Class::Text),
+    ("date", Class::Day),
+];
 
 #[test]
 fn has_the_value_types(rt: HostRuntime) {
-    let rows = [
-        ("bool", Class::Boolean),
-        ("int", Class::Whole),
-        ("long", Class::Whole),
-        ("string", Class::Text),
-        ("date", Class::Day),
-    ];
-    let mut kinds = ValueType::ALL.into_iter();
-    for (word, class) in rows {
-        match kinds.next() {
-            Some(kind) => {
-                assert!(rt; kind.word() == word);
-                assert!(rt; kind.class() == class);
-                assert!(rt; ValueType::of_word(word) == Some(kind));
-            }
-            None => assert!(rt; false),
-        }
+    assert!(rt; ValueType::ALL.len() == VALUE_TYPES.len());
+    for (kind, (word, class)) in ValueType::ALL.iter().zip(&VALUE_TYPES) {
+        assert!(rt; kind.word() == *word && kind.class() == *class);
+        assert!(rt; ValueType::of_word(word) == Some(*kind));
     }
-    assert!(rt; kinds.next().is_none());
     for word in ["timestamp", "Int", "", "float"] {
         assert!(rt; ValueType::of_word(word).is_none());
     }
@@ -160,8 +151,8 @@ fn field_row(alloc: Global, field: Field) -> Result<String, AllocError> {
 
 fn field_rows(alloc: Global) -> Option<String> {
     let mut rows = String::new(alloc);
-    for field in Field::ALL {
-        let row = field_row(alloc, field).ok()?;
+    for field in &Field::ALL {
+        let row = field_row(alloc, *field).ok()?;
         rows.push_str(&row).ok()?;
     }
     Some(rows)

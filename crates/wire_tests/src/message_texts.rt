@@ -3,7 +3,7 @@ use http_message::chunk::chunk_line;
 use http_message::ends::{blank_len, end_after, line_count};
 use http_message::field::{Fields, count_named, first_named};
 use http_message::framing::{Form, closes, request_form};
-use http_message::head::{head_in, is_trailers};
+use http_message::head::{Head, head_in, is_trailers};
 use http_message::refusal::Flaw;
 use http_message::response::{is_interim, response_form, response_in};
 use std::alloc::{AllocError, Global};
@@ -184,28 +184,30 @@ fn with_fields(alloc: Global, first: &[u8], count: usize) -> Result<Vec<u8>, All
     Ok(text)
 }
 
-fn request_fields(alloc: Global, text: &[u8]) -> Result<Option<usize>, AllocError> {
-    match head_in(alloc, text)? {
-        Some(head) => Ok(Some(head.fields.len())),
-        None => Ok(None),
-    }
+fn request_fields(alloc: Global, count: usize) -> Result<Option<usize>, AllocError> {
+    let text = with_fields(alloc, b"GET / HTTP/1.0\r\n", count)?;
+    let head = head_in(alloc, &text)?;
+    Ok(match &head {
+        Some(head) => Some(head.fields.len()),
+        None => None,
+    })
 }
 
-fn response_fields(alloc: Global, text: &[u8]) -> Result<Option<usize>, AllocError> {
-    match response_in(alloc, text)? {
-        Some(head) => Ok(Some(head.fields.len())),
-        None => Ok(None),
-    }
+fn response_fields(alloc: Global, count: usize) -> Result<Option<usize>, AllocError> {
+    let text = with_fields(alloc, b"HTTP/1.1 200 OK\r\n", count)?;
+    let head = response_in(alloc, &text)?;
+    Ok(match &head {
+        Some(head) => Some(head.fields.len()),
+        None => None,
+    })
 }
 
 #[test]
 fn heads_have_up_to_64_fields(rt: HostRuntime) -> Result<(), AllocError> {
     let a = rt.alloc();
     for (count, wanted) in [(64, Some(64)), (65, None)] {
-        let request = with_fields(a, b"GET / HTTP/1.0\r\n", count)?;
-        assert!(&rt; request_fields(a, &request)? == wanted);
-        let response = with_fields(a, b"HTTP/1.1 200 OK\r\n", count)?;
-        assert!(&rt; response_fields(a, &response)? == wanted);
+        assert!(&rt; request_fields(a, count)? == wanted);
+        assert!(&rt; response_fields(a, count)? == wanted);
         assert!(&rt; is_trailers(&with_fields(a, b"", count)?) == wanted.is_some());
     }
     Ok(())
@@ -268,34 +270,52 @@ fn is_at(fields: &Fields, index: usize, name: &[u8], value: &[u8]) -> bool {
     index < fields.len() && fields.name(index) == name && fields.value(index) == value
 }
 
-#[test]
-fn fields_keep_their_names_and_values(rt: HostRuntime) -> Result<(), AllocError> {
-    let mut fields = Fields::with_capacity(rt.alloc(), 0, 0)?;
+// Three fields, two of them of one name.
+fn three_fields(alloc: Global) -> Result<Fields, AllocError> {
+    let mut fields = Fields::with_capacity(alloc, 0, 0)?;
     put(&mut fields, b"Host", b"x")?;
     put(&mut fields, b"Accept", b"")?;
     put(&mut fields, b"HOST", b"y:80")?;
-    assert!(&rt; fields.len() == 3);
-    assert!(&rt; is_at(&fields, 0, b"Host", b"x"));
-    assert!(&rt; is_at(&fields, 1, b"Accept", b""));
-    assert!(&rt; is_at(&fields, 2, b"HOST", b"y:80"));
-    assert!(&rt; count_named(&fields, "host") == 2);
-    assert!(&rt; first_named(&fields, "host") == b"x".as_slice());
+    Ok(fields)
+}
+
+fn are_kept(fields: &Fields) -> bool {
+    fields.len() == 3
+        && is_at(fields, 0, b"Host", b"x")
+        && is_at(fields, 1, b"Accept", b"")
+        && is_at(fields, 2, b"HOST", b"y:80")
+}
+
+// Whether they are found by their name in lower case.
+fn are_found(fields: &Fields) -> bool {
+    count_named(fields, "host") == 2 && first_named(fields, "host") == b"x".as_slice()
+}
+
+#[test]
+fn fields_keep_their_names_and_values(rt: HostRuntime) -> Result<(), AllocError> {
+    let fields = three_fields(rt.alloc())?;
+    assert!(&rt; are_kept(&fields));
+    assert!(&rt; are_found(&fields));
     Ok(())
+}
+
+// Whether the head's two fields stand in order, and the last one closes the connection.
+fn is_in_order(head: &Option<Head>) -> bool {
+    match head {
+        Some(head) => {
+            closes(head.minor, &head.fields)
+                && head.fields.len() == 2
+                && is_at(&head.fields, 0, b"Host", b"x")
+                && is_at(&head.fields, 1, b"Connection", b"keep-alive , CLOSE")
+        }
+        None => false,
+    }
 }
 
 #[test]
 fn a_head_keeps_its_fields_in_order(rt: HostRuntime) -> Result<(), AllocError> {
-    let Some(head) = head_in(
-        rt.alloc(),
-        b"GET / HTTP/1.1\r\nHost:  x \r\nConnection: keep-alive , CLOSE\r\n\r\n",
-    )?
-    else {
-        assert!(&rt; false);
-        return Ok(());
-    };
-    assert!(&rt; closes(head.minor, &head.fields));
-    assert!(&rt; head.fields.len() == 2);
-    assert!(&rt; is_at(&head.fields, 0, b"Host", b"x"));
-    assert!(&rt; is_at(&head.fields, 1, b"Connection", b"keep-alive , CLOSE"));
+    let text = b"GET / HTTP/1.1\r\nHost:  x \r\nConnection: keep-alive , CLOSE\r\n\r\n";
+    let head = head_in(rt.alloc(), text)?;
+    assert!(&rt; is_in_order(&head));
     Ok(())
 }

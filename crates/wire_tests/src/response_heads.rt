@@ -28,17 +28,19 @@ fn has_date(alloc: Global, moment: u64, date: &str) -> Option<bool> {
     Some(head_text(alloc, &head).ok()?.as_slice() == wanted.as_bytes())
 }
 
+static DATES: [(u64, &str); 6] = [
+    (0, "Thu, 01 Jan 1970 00:00:00 GMT"),
+    (1_999, "Thu, 01 Jan 1970 00:00:01 GMT"),
+    (784_111_777_000, "Sun, 06 Nov 1994 08:49:37 GMT"),
+    (951_782_400_000, "Tue, 29 Feb 2000 00:00:00 GMT"),
+    (4_107_542_400_000, "Mon, 01 Mar 2100 00:00:00 GMT"),
+    (253_402_300_799_999, "Fri, 31 Dec 9999 23:59:59 GMT"),
+];
+
 #[test]
 fn dates_of_the_calendar(rt: HostRuntime) {
-    for (moment, date) in [
-        (0, "Thu, 01 Jan 1970 00:00:00 GMT"),
-        (1_999, "Thu, 01 Jan 1970 00:00:01 GMT"),
-        (784_111_777_000, "Sun, 06 Nov 1994 08:49:37 GMT"),
-        (951_782_400_000, "Tue, 29 Feb 2000 00:00:00 GMT"),
-        (4_107_542_400_000, "Mon, 01 Mar 2100 00:00:00 GMT"),
-        (253_402_300_799_999, "Fri, 31 Dec 9999 23:59:59 GMT"),
-    ] {
-        assert!(rt; has_date(rt.alloc(), moment, date) == Some(true));
+    for (moment, date) in &DATES {
+        assert!(rt; has_date(rt.alloc(), *moment, date) == Some(true));
     }
 }
 
@@ -166,28 +168,31 @@ fn heads_of_parts(rt: HostRuntime) {
     }
 }
 
+// Refusals, and what their status lines say.
+static STATUSES: [(Refusal, u16, &str); 12] = [
+    (Refusal::BadParameter, 400, "Bad Request"),
+    (Refusal::Unauthenticated, 401, "Unauthorized"),
+    (Refusal::LinkRevoked, 403, "Forbidden"),
+    (Refusal::FileGone, 404, "Not Found"),
+    (Refusal::MethodNotAllowed, 405, "Method Not Allowed"),
+    (Refusal::Contended, 409, "Conflict"),
+    (Refusal::BodyTooLarge, 413, "Content Too Large"),
+    (Refusal::RangeNotSatisfiable, 416, "Range Not Satisfiable"),
+    (
+        Refusal::HeadTooLarge,
+        431,
+        "Request Header Fields Too Large",
+    ),
+    (Refusal::CatalogBlocked, 500, "Internal Server Error"),
+    (Refusal::TransferCoding, 501, "Not Implemented"),
+    (Refusal::StoreFault, 503, "Service Unavailable"),
+];
+
 #[test]
 fn statuses_by_their_refusals(rt: HostRuntime) {
-    for (refusal, code, reason) in [
-        (Refusal::BadParameter, 400, "Bad Request"),
-        (Refusal::Unauthenticated, 401, "Unauthorized"),
-        (Refusal::LinkRevoked, 403, "Forbidden"),
-        (Refusal::FileGone, 404, "Not Found"),
-        (Refusal::MethodNotAllowed, 405, "Method Not Allowed"),
-        (Refusal::Contended, 409, "Conflict"),
-        (Refusal::BodyTooLarge, 413, "Content Too Large"),
-        (Refusal::RangeNotSatisfiable, 416, "Range Not Satisfiable"),
-        (
-            Refusal::HeadTooLarge,
-            431,
-            "Request Header Fields Too Large",
-        ),
-        (Refusal::CatalogBlocked, 500, "Internal Server Error"),
-        (Refusal::TransferCoding, 501, "Not Implemented"),
-        (Refusal::StoreFault, 503, "Service Unavailable"),
-    ] {
-        let status = Status::of_refusal(refusal, Method::Post);
-        assert!(rt; status.code() == code && status.reason() == reason);
+    for (refusal, code, reason) in &STATUSES {
+        let status = Status::of_refusal(*refusal, Method::Post);
+        assert!(rt; status.code() == *code && status.reason() == *reason);
     }
     let wrong = Status::of_refusal(Refusal::MethodNotAllowed, Method::Post);
     assert!(rt; wrong == Status::MethodNotAllowed(Method::Post));

@@ -1,4 +1,5 @@
 // Sessions of requests, and responses, cut in many ways.
+use crate::texts::source_of;
 use edge_core::MemSource;
 use http_wire::{FinalHead, Head, Message, Reply, Responses, Wire};
 use std::alloc::{AllocError, Global};
@@ -48,24 +49,26 @@ fn is_next(number: u8, message: Message) -> Option<bool> {
     }
 }
 
-// Whether the session's messages come over pieces of those sizes, up to the fault of the read of that number.
-fn is_session(alloc: Global, sizes: Vec<usize>, fails: u64) -> Result<bool, AllocError> {
-    let bytes = Vec::from_slice(alloc, SESSION)?;
-    let mut source = MemSource::new(alloc, bytes)
-        .with_sizes(sizes)
-        .with_fails(Vec::from_slice(alloc, &[fails])?);
-    let mut wire = Wire::new(alloc);
+// Whether the session's messages come, up to a read's fault.
+fn come(alloc: Global, wire: &mut Wire, source: &mut MemSource) -> Result<bool, AllocError> {
     for number in 0..4u8 {
         if !wire.is_open() {
             return Ok(false);
         }
-        match is_next(number, wire.next(alloc, &mut source)?) {
+        match is_next(number, wire.next(alloc, source)?) {
             None => return Ok(!wire.is_open()),
             Some(false) => return Ok(false),
             Some(true) => {}
         }
     }
     Ok(!wire.is_open())
+}
+
+// Whether the session's messages come over pieces of those sizes, up to the fault of the read of that number.
+fn is_session(alloc: Global, sizes: Vec<usize>, fails: u64) -> Result<bool, AllocError> {
+    let mut source = source_of(alloc, SESSION, sizes, fails)?;
+    let mut wire = Wire::new(alloc);
+    come(alloc, &mut wire, &mut source)
 }
 
 #[test]
@@ -106,131 +109,133 @@ fn answer_of(reply: &Reply) -> Told {
 
 // What the text's first response is, over single bytes, where the read of that number fails.
 fn reply_to(alloc: Global, to_head: bool, text: &[u8], fails: u64) -> Result<Told, AllocError> {
-    let mut source = MemSource::new(alloc, Vec::from_slice(alloc, text)?)
-        .with_sizes(vec![in alloc; 1usize; 1000]?)
-        .with_fails(Vec::from_slice(alloc, &[fails])?);
+    let single = vec![in alloc; 1usize; 1000]?;
+    let mut source = source_of(alloc, text, single, fails)?;
     let mut responses = Responses::new(alloc);
     Ok(answer_of(&responses.next(alloc, &mut source, to_head)?))
 }
 
-// The status of the text's last head, in one piece, where the second read fails; 0 where there is none.
-fn status_of(alloc: Global, text: &[u8]) -> Result<u16, AllocError> {
-    let mut source = MemSource::new(alloc, Vec::from_slice(alloc, text)?).with_fails(
-        Vec::from_slice(alloc, &[1])?,
-    );
-    let mut responses = Responses::new(alloc);
-    match responses.head(alloc, &mut source)? {
-        FinalHead::Head { head, .. } => Ok(head.status),
-        _ => Ok(0),
+fn status_in(head: &FinalHead) -> u16 {
+    match head {
+        FinalHead::Head { head, .. } => head.status,
+        _ => 0,
     }
 }
 
+// The status of the text's last head, in one piece, where the second read fails; 0 where there is none.
+fn status_of(alloc: Global, text: &[u8]) -> Result<u16, AllocError> {
+    let mut source = source_of(alloc, text, Vec::new(alloc), 1)?;
+    let mut responses = Responses::new(alloc);
+    Ok(status_in(&responses.head(alloc, &mut source)?))
+}
+
+// Whether the request was HEAD, the text, what it is read as, and whether a read comes behind it.
+static RESPONSES: [(bool, &[u8], Told, bool); 18] = [
+    (
+        false,
+        b"HTTP/1.1 100 Continue\r\n\r\n\r\nHTTP/1.1 103 Hints\r\nLink: </a>\r\n\r\nHTTP/1.1 200 OK\r\nTransfer-Encoding: chunked\r\n\r\n4\r\nWiki\r\n0\r\n\r\n",
+        Told::Response(200, 4),
+        false,
+    ),
+    (
+        false,
+        b"HTTP/1.1 200 OK\r\ncontent-length: 2\r\n\r\nab",
+        Told::Response(200, 2),
+        false,
+    ),
+    (
+        true,
+        b"HTTP/1.1 200 OK\r\ncontent-length: 2\r\n\r\n",
+        Told::Response(200, 0),
+        false,
+    ),
+    // to HEAD: of a body of any length and form the head alone
+    (
+        true,
+        b"HTTP/1.1 200 OK\r\nContent-Length: 268435457\r\n\r\n",
+        Told::Response(200, 0),
+        false,
+    ),
+    (
+        true,
+        b"HTTP/1.1 200 OK\r\nTransfer-Encoding: chunked\r\n\r\n",
+        Told::Response(200, 0),
+        false,
+    ),
+    (
+        true,
+        b"HTTP/1.1 403 Forbidden\r\n\r\n",
+        Told::Response(403, 0),
+        false,
+    ),
+    (
+        true,
+        b"HTTP/1.1 200 OK\r\nContent-Length: 2\r\n",
+        Told::Truncated,
+        true,
+    ),
+    (
+        false,
+        b"HTTP/1.1 204 No Content\r\n\r\n",
+        Told::Response(204, 0),
+        false,
+    ),
+    (
+        false,
+        b"HTTP/1.1 304 Not Modified\r\nContent-Length: 3\r\n\r\n",
+        Told::Response(304, 0),
+        false,
+    ),
+    (
+        false,
+        b"\r\nHTTP/1.0 404\n\nall that is left",
+        Told::Response(404, 16),
+        true,
+    ),
+    (
+        false,
+        b"HTTP/1.1 101 Switching Protocols\r\n\r\n",
+        Told::Bad,
+        false,
+    ),
+    (false, b"HTTP/2 200 OK\r\n\r\n", Told::Bad, false),
+    (
+        false,
+        b"HTTP/1.1 100 Continue\r\n\r\nHTTP/1.1 20 OK\r\n\r\n",
+        Told::Bad,
+        false,
+    ),
+    (
+        false,
+        b"HTTP/1.1 200 OK\r\nContent-Length: 268435457\r\n\r\n",
+        Told::Bad,
+        false,
+    ),
+    (
+        false,
+        b"HTTP/1.1 200 OK\r\nTransfer-Encoding: chunked\r\n\r\nz",
+        Told::Bad,
+        false,
+    ),
+    (false, b"", Told::Truncated, true),
+    (
+        false,
+        b"HTTP/1.1 100 Continue\r\n\r\n",
+        Told::Truncated,
+        true,
+    ),
+    (
+        false,
+        b"HTTP/1.1 200 OK\r\nContent-Length: 3\r\n\r\nab",
+        Told::Truncated,
+        true,
+    ),
+];
+
 #[test]
 fn responses_are_read_no_further_than_they_go(rt: HostRuntime) -> Result<(), AllocError> {
-    // whether the request was HEAD, the text, what it is read as, and whether a read comes behind it
-    let cases = [
-        (
-            false,
-            b"HTTP/1.1 100 Continue\r\n\r\n\r\nHTTP/1.1 103 Hints\r\nLink: </a>\r\n\r\nHTTP/1.1 200 OK\r\nTransfer-Encoding: chunked\r\n\r\n4\r\nWiki\r\n0\r\n\r\n".as_slice(),
-            Told::Response(200, 4),
-            false,
-        ),
-        (
-            false,
-            b"HTTP/1.1 200 OK\r\ncontent-length: 2\r\n\r\nab".as_slice(),
-            Told::Response(200, 2),
-            false,
-        ),
-        (
-            true,
-            b"HTTP/1.1 200 OK\r\ncontent-length: 2\r\n\r\n".as_slice(),
-            Told::Response(200, 0),
-            false,
-        ),
-        // to HEAD: of a body of any length and form the head alone
-        (
-            true,
-            b"HTTP/1.1 200 OK\r\nContent-Length: 268435457\r\n\r\n".as_slice(),
-            Told::Response(200, 0),
-            false,
-        ),
-        (
-            true,
-            b"HTTP/1.1 200 OK\r\nTransfer-Encoding: chunked\r\n\r\n".as_slice(),
-            Told::Response(200, 0),
-            false,
-        ),
-        (
-            true,
-            b"HTTP/1.1 403 Forbidden\r\n\r\n".as_slice(),
-            Told::Response(403, 0),
-            false,
-        ),
-        (
-            true,
-            b"HTTP/1.1 200 OK\r\nContent-Length: 2\r\n".as_slice(),
-            Told::Truncated,
-            true,
-        ),
-        (
-            false,
-            b"HTTP/1.1 204 No Content\r\n\r\n".as_slice(),
-            Told::Response(204, 0),
-            false,
-        ),
-        (
-            false,
-            b"HTTP/1.1 304 Not Modified\r\nContent-Length: 3\r\n\r\n".as_slice(),
-            Told::Response(304, 0),
-            false,
-        ),
-        (
-            false,
-            b"\r\nHTTP/1.0 404\n\nall that is left".as_slice(),
-            Told::Response(404, 16),
-            true,
-        ),
-        (
-            false,
-            b"HTTP/1.1 101 Switching Protocols\r\n\r\n".as_slice(),
-            Told::Bad,
-            false,
-        ),
-        (false, b"HTTP/2 200 OK\r\n\r\n".as_slice(), Told::Bad, false),
-        (
-            false,
-            b"HTTP/1.1 100 Continue\r\n\r\nHTTP/1.1 20 OK\r\n\r\n".as_slice(),
-            Told::Bad,
-            false,
-        ),
-        (
-            false,
-            b"HTTP/1.1 200 OK\r\nContent-Length: 268435457\r\n\r\n".as_slice(),
-            Told::Bad,
-            false,
-        ),
-        (
-            false,
-            b"HTTP/1.1 200 OK\r\nTransfer-Encoding: chunked\r\n\r\nz".as_slice(),
-            Told::Bad,
-            false,
-        ),
-        (false, b"".as_slice(), Told::Truncated, true),
-        (
-            false,
-            b"HTTP/1.1 100 Continue\r\n\r\n".as_slice(),
-            Told::Truncated,
-            true,
-        ),
-        (
-            false,
-            b"HTTP/1.1 200 OK\r\nContent-Length: 3\r\n\r\nab".as_slice(),
-            Told::Truncated,
-            true,
-        ),
-    ];
     let a = rt.alloc();
-    for (to_head, text, wanted, reads_on) in &cases {
+    for (to_head, text, wanted, reads_on) in &RESPONSES {
         let count = text.len() as u64;
         assert!(&rt; reply_to(a, *to_head, text, 1000)? == *wanted);
         let behind = if *reads_on { Told::Other } else { *wanted };
@@ -247,20 +252,20 @@ fn with_large(alloc: Global, first: &[u8], last: &[u8]) -> Result<Vec<u8>, Alloc
     Ok(text)
 }
 
+// What stands in front of a body of 1 MiB, and behind it.
+static LARGE: [(&[u8], &[u8]); 3] = [
+    (b"HTTP/1.1 200 OK\r\nContent-Length: 1048576\r\n\r\n", b""),
+    (
+        b"HTTP/1.1 200 OK\r\nTransfer-Encoding: chunked\r\n\r\n100000\r\n",
+        b"\r\n0\r\n\r\n",
+    ),
+    (b"HTTP/1.1 200 OK\r\n\r\n", b""),
+];
+
 #[test]
 fn large_bodies_are_whole(rt: HostRuntime) -> Result<(), AllocError> {
     let a = rt.alloc();
-    for (first, last) in [
-        (
-            b"HTTP/1.1 200 OK\r\nContent-Length: 1048576\r\n\r\n".as_slice(),
-            b"".as_slice(),
-        ),
-        (
-            b"HTTP/1.1 200 OK\r\nTransfer-Encoding: chunked\r\n\r\n100000\r\n".as_slice(),
-            b"\r\n0\r\n\r\n".as_slice(),
-        ),
-        (b"HTTP/1.1 200 OK\r\n\r\n".as_slice(), b"".as_slice()),
-    ] {
+    for (first, last) in &LARGE {
         let text = with_large(a, first, last)?;
         assert!(&rt; reply_to(a, false, &text, 10_000_000)? == Told::Response(200, 1_048_576));
     }
