@@ -52,21 +52,31 @@ lines_paged keys a expires version meta c end found asked e is ends =
 abbrev ending_with : TableAccess → ℕ → FilesStart → List AddFile → Option ℕ → Ending
 ending_with a expires s files next = record { expires = ends_with expires files; next = option_map (files_cursor a s) next }
 
--- the page of the files that were cut by a filter of its hint
-pub files_paged : (keys : ReplyKeys) (a : TableAccess) (now : ℕ) (q : QueryBody) (s : FilesStart) (state : State) (listing : Filter) (expires version : ℕ) (meta : MetaData)
+-- what a filter of the hint lets pass is what is listed
+listed_by : (hint : Option (List ℕ)) (state : State) (filter : Filter) (meta : MetaData) → meta ≡ state.meta → IsFilter (pred_by hint) meta filter → passes filter ≡ lists hint state
+listed_by hint state filter meta is_meta is_filter =
+    let filter_is = subst (λ m. IsFilter (pred_by hint) m filter) is_meta is_filter in
+    λ i file. filter_is file i
+
+pub given_by : (hint : Option (List ℕ)) (state : State) (filter : Filter) (meta : MetaData) (most : Option ℕ) (at place : ℕ) → meta ≡ state.meta → IsFilter (pred_by hint) meta filter → at ≡ place
+    → given (passes filter) most at state.files ≡ given (lists hint state) most place state.files
+given_by hint state filter meta most at place is_meta is_filter is_place = λ i. given (listed_by hint state filter meta is_meta is_filter i) most (is_place i) state.files
+
+pub next_by : (hint : Option (List ℕ)) (state : State) (filter : Filter) (meta : MetaData) (most : Option ℕ) (at place : ℕ) → meta ≡ state.meta → IsFilter (pred_by hint) meta filter → at ≡ place
+    → next_place (passes filter) most at state.files ≡ next_place (lists hint state) most place state.files
+next_by hint state filter meta most at place is_meta is_filter is_place = λ i. next_place (listed_by hint state filter meta is_meta is_filter i) most (is_place i) state.files
+
+-- the page of the files that were cut
+pub files_paged : (keys : ReplyKeys) (a : TableAccess) (now : ℕ) (q : QueryBody) (s : FilesStart) (state : State) (expires version : ℕ) (meta : MetaData)
     (files : Vec (Bor AddFile) Global) (next : Option ℕ) (end : Option EndLine)
-    → expires ≡ expiry keys now → version ≡ s.version → meta ≡ state.meta → IsFilter (pred_by s.hint) meta listing
-    → map (λ f. f.now) files.items ≡ given (passes listing) q.max s.place state.files → next ≡ next_place (passes listing) q.max s.place state.files
+    → expires ≡ expiry keys now → version ≡ s.version → meta ≡ state.meta
+    → map (λ f. f.now) files.items ≡ given (lists s.hint state) q.max s.place state.files → next ≡ next_place (lists s.hint state) q.max s.place state.files
     → end ≡ end_of keys (is_paged q.max q.token) (ending_with a expires s (map (λ f. f.now) files.items) next)
     → paged_with version (lines_of keys a expires meta (content.Files files) end) ≡ paged keys (files_page keys a now q s state)
-files_paged keys a now q s state listing expires version meta files next end is_end is_version is_meta is_filter is_files is_next is_last =
-    let filter_is = subst (λ m. IsFilter (pred_by s.hint) m listing) is_meta is_filter in
-    let test : passes listing ≡ lists s.hint state = λ i file. filter_is file i in
-    let files_are : map (λ f. f.now) files.items ≡ given (lists s.hint state) q.max s.place state.files = is_files ∙ ap (λ t. given t q.max s.place state.files) test in
-    let next_is : next ≡ next_place (lists s.hint state) q.max s.place state.files = is_next ∙ ap (λ t. next_place t q.max s.place state.files) test in
-    let ending : ending_with a expires s (map (λ f. f.now) files.items) next ≡ files_ending keys a now q s state = λ i. ending_with a (is_end i) s (files_are i) (next_is i) in
+files_paged keys a now q s state expires version meta files next end is_end is_version is_meta is_files is_next is_last =
+    let ending : ending_with a expires s (map (λ f. f.now) files.items) next ≡ files_ending keys a now q s state = λ i. ending_with a (is_end i) s (is_files i) (is_next i) in
     let given_lines : content_lines keys a expires (content.Files files) ≡ map (file_line keys a (expiry keys now)) (given (lists s.hint state) q.max s.place state.files) =
-    sym (map-map (file_line keys a expires) (λ f. f.now) files.items) ∙ (λ i. map (file_line keys a (is_end i)) (files_are i)) in
+    sym (map-map (file_line keys a expires) (λ f. f.now) files.items) ∙ (λ i. map (file_line keys a (is_end i)) (is_files i)) in
     let lines = lines_paged keys a expires s.version meta (content.Files files) end _ (is_paged q.max q.token) (files_ending keys a now q s state) given_lines (is_last ∙ ap (end_of keys (is_paged q.max q.token)) ending) in
     let here : lines_of keys a expires meta (content.Files files) end ≡ page_lines keys (files_page keys a now q s state) =
     lines ∙ ap (λ m. page_lines keys (page_with s.version m (map (file_line keys a (expiry keys now)) (given (lists s.hint state) q.max s.place state.files)) (is_paged q.max q.token) (files_ending keys a now q s state))) is_meta in

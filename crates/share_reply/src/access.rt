@@ -17,19 +17,19 @@ const FIXED_BYTES: u64 = 89;
 
 /// Who reads which table, under which editions of its share's grant and of its binding. Contracts see it as tokens have it.
 #[derive(Drop)]
-pub(crate) struct Access {
+pub(crate) struct Access<'a> {
     recipient: CatalogName,
-    table: TableName,
+    table: &'a TableName,
     grant: Edition,
     binding: Edition,
 }
 
-impl Model for Access {
+impl<'a> Model for Access<'a> {
     ghost use Rattle.page_token.specs.declared.cursor.TableAccess.{TableAccess};
 
     ghost Value = { TableAccess };
 
-    ghost view = { λ a. record { recipient = a.recipient; share = a.table.share; schema = a.table.schema; table = a.table.table; grant = a.grant; binding = a.binding } };
+    ghost view = { λ a. record { recipient = a.recipient; share = a.table.now.share; schema = a.table.now.schema; table = a.table.now.table; grant = a.grant; binding = a.binding } };
 }
 
 fn text_of(alloc: Global, name: &CatalogName) -> Result<Text, AllocError>
@@ -44,7 +44,7 @@ fn is_text(text: &Text, name: &CatalogName) -> bool
     text.as_str() == name.as_str()
 }
 
-impl Access {
+impl<'a> Access<'a> {
     ghost use Rattle.std.specs.Prelude.{◌≡◌, ◌<◌, ◌^◌, IfOk, length};
     ghost use Rattle.json.specs.Print.{escape};
     ghost use Rattle.share_reply.specs.Access.{access, is_same_edition, is_same_table, link_parts, link_to};
@@ -53,16 +53,16 @@ impl Access {
     pub(crate) fn of(
         alloc: Global,
         recipient: &Text,
-        table: &TableName,
+        table: &'a TableName,
         spot: &Spot,
-    ) -> Result<Access, AllocError>
+    ) -> Result<Access<'a>, AllocError>
         ensures { IfOk result (λ a. a ≡ access recipient.now table.now spot.now) }
     {
         let text = String::from_str(alloc, recipient.as_str())?;
         match CatalogName::of(text) {
             Some(recipient) => Ok(Access {
                 recipient,
-                table: table.copy(alloc)?,
+                table,
                 grant: spot.grant(),
                 binding: spot.binding(),
             }),
@@ -101,11 +101,11 @@ impl Access {
         given.grant.get() == self.grant.get() && given.binding.get() == self.binding.get()
     }
 
-    fn link_parts<'a>(&'a self, expires: Millis, path: &'a Text) -> LentParts<'a>
+    fn link_parts<'b>(&'b self, expires: Millis, path: &'b Text) -> LentParts<'b>
         ensures { result ≡ link_parts self.now expires path.now }
     {
         LentParts {
-            table: &self.table,
+            table: self.table,
             path,
             binding: self.binding,
             expires,

@@ -214,13 +214,14 @@ fn next_token(
     let Some(place) = next else {
         return Ok(None);
     };
+    let place = place_of(place)?;
     let cursor = FeedCursor {
         access: access.for_token(alloc)?,
         asked_from: begin.asked_from,
         asked_to: begin.asked_to,
         from: begin.from,
         to: begin.to,
-        place: place_of(place)?,
+        place,
     };
     Ok(Some(keys.token_of(alloc, Cursor::Feed(cursor))?))
 }
@@ -251,7 +252,7 @@ fn page_end(
 fn feed_page<'a>(
     alloc: Global,
     keys: &'a ReplyKeys,
-    access: Access,
+    access: Access<'a>,
     now: Millis,
     asked: &ChangesAsked<'_>,
     begin: &FeedBegin,
@@ -259,7 +260,7 @@ fn feed_page<'a>(
     changes: Vec<Change<'a>>,
 ) -> Result<Paged<'a>, AllocError>
     requires { begin.now.place ≤ vec_len changes }
-    ensures { IfOk result (λ p. p ≡ paged keys.now (spec.feed_page keys.now access now (query_in asked.now) (feed_start begin.now) meta.now changes.entry.items)) }
+    ensures { IfOk result (λ p. p ≡ paged keys.now (spec.feed_page keys.now access.entry now (query_in asked.now) (feed_start begin.now) meta.now changes.entry.items)) }
 {
     let expires = expiry(keys, now)?;
     let place = begin.place.get();
@@ -276,14 +277,14 @@ fn feed_page<'a>(
 fn page_of_changes<'a>(
     alloc: Global,
     keys: &'a ReplyKeys,
-    access: Access,
+    access: Access<'a>,
     now: Millis,
     asked: &ChangesAsked<'_>,
     begin: &FeedBegin,
     actions: &'a [Action],
     changes: Vec<Change<'a>>,
 ) -> Result<Paged<'a>, Stop>
-    ensures { Gives result (as_lines keys.now (page_of_changes keys.now access now (query_in asked.now) (feed_start begin.now) actions.now changes.entry.items)) }
+    ensures { Gives result (as_lines keys.now (page_of_changes keys.now access.entry now (query_in asked.now) (feed_start begin.now) actions.now changes.entry.items)) }
 {
     if (changes.len() as u64) < begin.place.get() {
         return Err(refuse(alloc, Refusal::TokenAhead));
@@ -297,13 +298,13 @@ fn page_of_changes<'a>(
 fn page_of_feed<'a>(
     alloc: Global,
     keys: &'a ReplyKeys,
-    access: Access,
+    access: Access<'a>,
     now: Millis,
     asked: &ChangesAsked<'_>,
     begin: &FeedBegin,
     feed: &'a FeedPart,
 ) -> Result<Paged<'a>, Stop>
-    ensures { Gives result (as_lines keys.now (spec.page_of_feed keys.now access now (query_in asked.now) (feed_start begin.now) feed.now)) }
+    ensures { Gives result (as_lines keys.now (spec.page_of_feed keys.now access.entry now (query_in asked.now) (feed_start begin.now) feed.now)) }
 {
     let changes = changes_in(alloc, feed)?;
     let actions = feed.meta.get().actions();
@@ -315,13 +316,13 @@ fn page_of_feed<'a>(
 fn feed_from<'a>(
     alloc: Global,
     keys: &'a ReplyKeys,
-    access: Access,
+    access: Access<'a>,
     now: Millis,
     asked: &ChangesAsked<'_>,
     later: Option<FeedCursor>,
     found: &'a PartFound,
 ) -> Result<Paged<'a>, Stop>
-    ensures { Gives result (as_lines keys.now (spec.feed_from keys.now access now (query_in asked.now) (feed_start_by (query_in asked.now) later) found.now)) }
+    ensures { Gives result (as_lines keys.now (spec.feed_from keys.now access.entry now (query_in asked.now) (feed_start_by (query_in asked.now) later) found.now)) }
 {
     match found {
         PartFound::Feed(feed) => {
@@ -338,13 +339,13 @@ fn feed_from<'a>(
 fn later_feed<'a>(
     alloc: Global,
     keys: &'a ReplyKeys,
-    access: Access,
+    access: Access<'a>,
     now: Millis,
     asked: &ChangesAsked<'_>,
     cursor: FeedCursor,
     found: &'a PartFound,
 ) -> Result<Paged<'a>, Stop>
-    ensures { Gives result (as_lines keys.now (spec.later_feed keys.now access now (query_in asked.now) cursor found.now)) }
+    ensures { Gives result (as_lines keys.now (spec.later_feed keys.now access.entry now (query_in asked.now) cursor found.now)) }
 {
     if !access.is_same_table(&cursor.access) {
         return Err(refuse(alloc, Refusal::TokenInvalid));
@@ -361,13 +362,13 @@ fn later_feed<'a>(
 fn feed_by<'a>(
     alloc: Global,
     keys: &'a ReplyKeys,
-    access: Access,
+    access: Access<'a>,
     now: Millis,
     asked: &ChangesAsked<'_>,
     cursor: Option<Cursor>,
     found: &'a PartFound,
 ) -> Result<Paged<'a>, Stop>
-    ensures { Gives result (as_lines keys.now (spec.feed_by keys.now access now (query_in asked.now) cursor found.now)) }
+    ensures { Gives result (as_lines keys.now (spec.feed_by keys.now access.entry now (query_in asked.now) cursor found.now)) }
 {
     match cursor {
         Some(Cursor::Feed(cursor)) => later_feed(alloc, keys, access, now, asked, cursor, found),
@@ -379,12 +380,12 @@ fn feed_by<'a>(
 pub(crate) fn changes_page<'a>(
     alloc: Global,
     keys: &'a ReplyKeys,
-    access: Access,
+    access: Access<'a>,
     now: Millis,
     asked: &ChangesAsked<'_>,
     found: &'a PartFound,
 ) -> Result<Paged<'a>, Stop>
-    ensures { Gives result (as_lines keys.now (spec.changes_page keys.now access now (query_in asked.now) found.now)) }
+    ensures { Gives result (as_lines keys.now (spec.changes_page keys.now access.entry now (query_in asked.now) found.now)) }
 {
     let Some(token) = asked.token else {
         return feed_from(alloc, keys, access, now, asked, None, found);

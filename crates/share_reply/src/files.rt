@@ -1,9 +1,11 @@
 // Pages of a table's files.
-ghost use Rattle.std.specs.Prelude.{◌≡◌, [], Some, None, Ok, if◌then◌else◌, IfOk, map, option_map, length};
+ghost use Rattle.std.specs.Prelude.{◌≡◌, [], Some, None, Ok, if◌then◌else◌, IfOk, is_some, map, option_copied, option_map, length};
 ghost use Rattle.page_token.specs.Token.{token_text};
+ghost use Rattle.pred_tree.specs.Grammar.{predicate_in};
 ghost use Rattle.share_reply.specs.Answer.{ends_with};
 ghost use Rattle.share_reply.specs.Asking.{asked_by};
 ghost use Rattle.share_reply.specs.Files as spec;
+ghost use Rattle.share_reply.specs.Pages.{given, next_place};
 ghost use Rattle.share_reply.specs.Refusing.{plain};
 ghost use Rattle.share_reply.specs.Starts.{end_of, files_start, files_start_by, paged};
 ghost use Rattle.share_reply.specs.Stops.{Gives, as_lines};
@@ -18,7 +20,7 @@ use crate::page::Paged;
 use crate::refusing::refuse;
 use crate::stop::Stop;
 use case_table::Refusal;
-use json_tree::{Millis, Place, Text, Version};
+use json_tree::{Millis, Place, Text, Version, copy_text_or_none};
 use log_replay::Snapshot;
 use page_token::{Asked, Cursor, FilesCursor, cursor_of};
 use pred_tree::{Filter, pred_of};
@@ -70,6 +72,15 @@ pub(crate) fn asked_by(version: Option<u64>, moment: Option<i128>) -> Result<Ask
     }
 }
 
+fn is_predicate(alloc: Global, text: &Text) -> Result<bool, AllocError>
+    ensures { IfOk result (λ b. b ≡ is_some (predicate_in text.now)) }
+{
+    match pred_of(alloc, text.as_str())? {
+        Some(_) => Ok(true),
+        None => Ok(false),
+    }
+}
+
 // The text, where it is a predicate.
 fn used_hint(alloc: Global, hint: &Option<Text>) -> Result<Option<Text>, AllocError>
     ensures { IfOk result (λ used. used ≡ spec.used_hint hint.now) }
@@ -77,9 +88,10 @@ fn used_hint(alloc: Global, hint: &Option<Text>) -> Result<Option<Text>, AllocEr
     let Some(text) = hint else {
         return Ok(None);
     };
-    match pred_of(alloc, text.as_str())? {
-        Some(_) => Ok(Some(text.copy(alloc)?)),
-        None => Ok(None),
+    if is_predicate(alloc, text)? {
+        Ok(Some(text.copy(alloc)?))
+    } else {
+        Ok(None)
     }
 }
 
@@ -89,25 +101,25 @@ fn first_begin(alloc: Global, query: &QueryBody, version: u64) -> Result<FilesBe
     Ok(FilesBegin {
         asked: asked_by(query.version, query.moment)?,
         version: version_of(version)?,
-        hint: used_hint(alloc, &query.hint)?,
         place: place_of(0)?,
+        hint: used_hint(alloc, &query.hint)?,
     })
 }
 
 fn begin_by(
     alloc: Global,
     query: &QueryBody,
-    later: Option<FilesCursor>,
+    later: Option<&FilesCursor>,
     version: u64,
 ) -> Result<FilesBegin, AllocError>
-    ensures { IfOk result (λ s. files_start s ≡ files_start_by query.now later version) }
+    ensures { IfOk result (λ s. files_start s ≡ files_start_by query.now (option_copied later.entry) version) }
 {
     match later {
         None => first_begin(alloc, query, version),
         Some(cursor) => Ok(FilesBegin {
             asked: cursor.asked,
             version: cursor.version,
-            hint: cursor.hint,
+            hint: copy_text_or_none(alloc, &cursor.hint)?,
             place: cursor.place,
         }),
     }
@@ -181,20 +193,22 @@ fn next_token(
     alloc: Global,
     keys: &ReplyKeys,
     access: &Access,
-    begin: FilesBegin,
+    begin: &FilesBegin,
     next: Option<u64>,
 ) -> Result<Option<Text>, AllocError>
-    ensures { IfOk result (λ t. t ≡ option_map (token_text keys.now.token) (option_map (spec.files_cursor access.now (files_start begin)) next)) }
+    ensures { IfOk result (λ t. t ≡ option_map (token_text keys.now.token) (option_map (spec.files_cursor access.now (files_start begin.now)) next)) }
 {
     let Some(place) = next else {
         return Ok(None);
     };
+    let place = place_of(place)?;
+    let hint = copy_text_or_none(alloc, &begin.hint)?;
     let cursor = FilesCursor {
         access: access.for_token(alloc)?,
         asked: begin.asked,
         version: begin.version,
-        hint: begin.hint,
-        place: place_of(place)?,
+        hint,
+        place,
     };
     Ok(Some(keys.token_of(alloc, Cursor::Files(cursor))?))
 }
@@ -213,11 +227,11 @@ fn page_end(
     access: &Access,
     expires: Millis,
     query: &QueryBody,
-    begin: FilesBegin,
+    begin: &FilesBegin,
     cut: &FilesCut<'_>,
 ) -> Result<Option<EndLine>, AllocError>
     ensures { IfOk result (λ e. e ≡ end_of keys.now (spec.is_paged query.now.max query.now.token)
-        (record { expires = ends_with expires (map (λ f. f.now) cut.now.files.items); next = option_map (spec.files_cursor access.now (files_start begin)) cut.now.next })) }
+        (record { expires = ends_with expires (map (λ f. f.now) cut.now.files.items); next = option_map (spec.files_cursor access.now (files_start begin.now)) cut.now.next })) }
 {
     if !is_paged(query.max, &query.token) {
         return Ok(None);
@@ -228,25 +242,37 @@ fn page_end(
     }))
 }
 
+// The files of a page, of those that its predicate lists.
+fn page_cut<'a>(
+    alloc: Global,
+    query: &QueryBody,
+    begin: &FilesBegin,
+    snapshot: &'a Snapshot,
+) -> Result<FilesCut<'a>, AllocError>
+    ensures files { IfOk result (λ c. map (λ f. f.now) c.files.items ≡ given (spec.lists begin.now.hint snapshot.now) query.now.max begin.now.place snapshot.now.files) }
+    ensures next { IfOk result (λ c. c.next ≡ next_place (spec.lists begin.now.hint snapshot.now) query.now.max begin.now.place snapshot.now.files) }
+{
+    let filter = Filter::of_hint(alloc, &begin.hint, snapshot.meta())?;
+    files_cut(alloc, snapshot, &filter, query.max, begin.place.get())
+}
+
 fn files_page<'a>(
     alloc: Global,
     keys: &'a ReplyKeys,
-    access: Access,
+    access: Access<'a>,
     now: Millis,
     query: &QueryBody,
-    begin: FilesBegin,
+    begin: &FilesBegin,
     snapshot: &'a Snapshot,
 ) -> Result<Paged<'a>, AllocError>
-    ensures { IfOk result (λ p. p ≡ paged keys.now (spec.files_page keys.now access now query.now (files_start begin) snapshot.now)) }
+    ensures { IfOk result (λ p. p ≡ paged keys.now (spec.files_page keys.now access.entry now query.now (files_start begin.now) snapshot.now)) }
 {
     let expires = expiry(keys, now)?;
     let meta = snapshot.meta();
-    let listing = Filter::of_hint(alloc, &begin.hint, meta)?;
-    let version = begin.version.get();
-    let cut = files_cut(alloc, snapshot, &listing, query.max, begin.place.get())?;
+    let cut = page_cut(alloc, query, begin, snapshot)?;
     let end = page_end(alloc, keys, &access, expires, query, begin, &cut)?;
     Ok(Paged {
-        version,
+        version: begin.version.get(),
         lines: LinePlan::of(keys, access, expires, meta, Content::Files(cut.files), end),
     })
 }
@@ -254,13 +280,13 @@ fn files_page<'a>(
 fn page_of_state<'a>(
     alloc: Global,
     keys: &'a ReplyKeys,
-    access: Access,
+    access: Access<'a>,
     now: Millis,
     query: &QueryBody,
-    begin: FilesBegin,
+    begin: &FilesBegin,
     snapshot: &'a Snapshot,
 ) -> Result<Paged<'a>, Stop>
-    ensures { Gives result (as_lines keys.now (spec.page_of_state keys.now access now query.now (files_start begin) snapshot.now)) }
+    ensures { Gives result (as_lines keys.now (spec.page_of_state keys.now access.entry now query.now (files_start begin.now) snapshot.now)) }
 {
     if snapshot.len() < begin.place.get() {
         return Err(refuse(alloc, Refusal::TokenAhead));
@@ -273,18 +299,18 @@ fn page_of_state<'a>(
 fn files_from<'a>(
     alloc: Global,
     keys: &'a ReplyKeys,
-    access: Access,
+    access: Access<'a>,
     now: Millis,
     query: &QueryBody,
-    later: Option<FilesCursor>,
+    later: Option<&FilesCursor>,
     found: &'a PartFound,
 ) -> Result<Paged<'a>, Stop>
-    ensures { Gives result (as_lines keys.now (spec.files_from keys.now access now query.now (files_start_by query.now later) found.now)) }
+    ensures { Gives result (as_lines keys.now (spec.files_from keys.now access.entry now query.now (files_start_by query.now (option_copied later.entry)) found.now)) }
 {
     match found {
         PartFound::Files(version, state) => {
             let begin = begin_by(alloc, query, later, *version)?;
-            page_of_state(alloc, keys, access, now, query, begin, state.get())
+            page_of_state(alloc, keys, access, now, query, &begin, state.get())
         }
         PartFound::Refused(why) => Err(not_found(alloc, *why)),
         PartFound::Nothing | PartFound::Version(_) | PartFound::Feed(_) => {
@@ -296,13 +322,13 @@ fn files_from<'a>(
 fn later_files<'a>(
     alloc: Global,
     keys: &'a ReplyKeys,
-    access: Access,
+    access: Access<'a>,
     now: Millis,
     query: &QueryBody,
-    cursor: FilesCursor,
+    cursor: &FilesCursor,
     found: &'a PartFound,
 ) -> Result<Paged<'a>, Stop>
-    ensures { Gives result (as_lines keys.now (spec.later_files keys.now access now query.now cursor found.now)) }
+    ensures { Gives result (as_lines keys.now (spec.later_files keys.now access.entry now query.now cursor.now found.now)) }
 {
     if !access.is_same_table(&cursor.access) {
         return Err(refuse(alloc, Refusal::TokenInvalid));
@@ -310,7 +336,7 @@ fn later_files<'a>(
     if !access.is_same_edition(&cursor.access) {
         return Err(refuse(alloc, Refusal::TokenStale));
     }
-    if !agrees(alloc, query, &cursor)? {
+    if !agrees(alloc, query, cursor)? {
         return Err(refuse(alloc, Refusal::TokenMismatch));
     }
     files_from(alloc, keys, access, now, query, Some(cursor), found)
@@ -319,13 +345,13 @@ fn later_files<'a>(
 fn files_by<'a>(
     alloc: Global,
     keys: &'a ReplyKeys,
-    access: Access,
+    access: Access<'a>,
     now: Millis,
     query: &QueryBody,
-    cursor: Option<Cursor>,
+    cursor: &Option<Cursor>,
     found: &'a PartFound,
 ) -> Result<Paged<'a>, Stop>
-    ensures { Gives result (as_lines keys.now (spec.files_by keys.now access now query.now cursor found.now)) }
+    ensures { Gives result (as_lines keys.now (spec.files_by keys.now access.entry now query.now cursor.now found.now)) }
 {
     match cursor {
         Some(Cursor::Files(cursor)) => {
@@ -339,25 +365,25 @@ fn files_by<'a>(
 pub(crate) fn query_page<'a>(
     alloc: Global,
     keys: &'a ReplyKeys,
-    access: Access,
+    access: Access<'a>,
     now: Millis,
     query: &QueryBody,
     found: &'a PartFound,
 ) -> Result<Paged<'a>, Stop>
-    ensures { Gives result (as_lines keys.now (spec.query_page keys.now access now query.now found.now)) }
+    ensures { Gives result (as_lines keys.now (spec.query_page keys.now access.entry now query.now found.now)) }
 {
     let Some(token) = &query.token else {
         return files_from(alloc, keys, access, now, query, None, found);
     };
     let cursor = cursor_of(alloc, &keys.token, token.as_str())?;
-    files_by(alloc, keys, access, now, query, cursor, found)
+    files_by(alloc, keys, access, now, query, &cursor, found)
 }
 
 // The metaData of the version that is found, without files.
 pub(crate) fn metadata_page<'a>(
     alloc: Global,
     keys: &'a ReplyKeys,
-    access: Access,
+    access: Access<'a>,
     found: &'a PartFound,
 ) -> Result<Paged<'a>, Stop>
     ensures { Gives result (as_lines keys.now (spec.metadata_page found.now)) }

@@ -46,7 +46,7 @@ pub(crate) enum PlanLine<'b, 'a> {
 #[derive(Drop)]
 pub struct LinePlan<'a> {
     keys: &'a ReplyKeys,
-    access: Access,
+    access: Access<'a>,
     expires: Millis,
     meta: &'a MetaData,
     content: Content<'a>,
@@ -324,13 +324,13 @@ impl<'a> LinePlan<'a> {
     // The lines of these parts.
     pub(crate) fn of(
         keys: &'a ReplyKeys,
-        access: Access,
+        access: Access<'a>,
         expires: Millis,
         meta: &'a MetaData,
         content: Content<'a>,
         end: Option<EndLine>,
     ) -> LinePlan<'a>
-        ensures { result ≡ lines_of keys.now access expires meta.now content.entry end }
+        ensures { result ≡ lines_of keys.now access.entry expires meta.now content.entry end }
     {
         LinePlan {
             keys,

@@ -160,7 +160,7 @@ fn metadata_plan<'a>(
     alloc: Global,
     keys: &'a ReplyKeys,
     recipient: &Text,
-    table: &TableName,
+    table: &'a TableName,
     found: &'a Found,
 ) -> Result<Plan<'a>, AllocError>
     ensures { IfOk result (λ p. p ≡ reply_of keys.now (replies.of_table recipient.now table.now (λ a part. of answer.page (files_spec.metadata_page part)) found.now)) }
@@ -179,7 +179,7 @@ fn query_plan<'a>(
     keys: &'a ReplyKeys,
     recipient: &Text,
     now: Millis,
-    table: &TableName,
+    table: &'a TableName,
     query: &QueryBody,
     found: &'a Found,
 ) -> Result<Plan<'a>, AllocError>
@@ -199,7 +199,7 @@ fn changes_plan<'a>(
     keys: &'a ReplyKeys,
     recipient: &Text,
     now: Millis,
-    table: &TableName,
+    table: &'a TableName,
     asked: &ChangesAsked,
     found: &'a Found,
 ) -> Result<Plan<'a>, AllocError>
@@ -358,8 +358,8 @@ fn request_plan<'a>(
     }
 }
 
-/// How a request is answered at a moment, by what was seen for what it asks. The plan borrows the keys and what was seen, and
-/// copies nothing of a table's files. The error is want of memory.
+/// How a request is answered at a moment, by what was seen for what it asks. The plan borrows the keys, the request and what
+/// was seen, and copies nothing of a table's files. The error is want of memory.
 pub fn plan_of<'a>(
     alloc: Global,
     keys: &'a ReplyKeys,

@@ -9,7 +9,7 @@ use Rattle.share_reply.proofs.access.Access.link_len.Goals as goal
 pub returns-clause-counted : goal.returns-clause-counted
 returns-clause-counted c =
     let s = c.self.inside in
-    let a : TableAccess = record { recipient = s.recipient; share = s.table.share; schema = s.table.schema; table = s.table.table; grant = s.grant; binding = s.binding } in
+    let a : TableAccess = record { recipient = s.recipient; share = s.table.now.share; schema = s.table.now.schema; table = s.table.now.table; grant = s.grant; binding = s.binding } in
     let bytes : All IsByte c.args.path.now = subst (All IsByte) c.as_str.ensures (utf8_bytes c.as_str.result.now c.as_str.utf8) in
     let path : length (escaped c.as_str.result.now) ≡ length (escaped c.args.path.now) = ap (λ t. length (escaped t)) c.as_str.ensures in
     let binding : length (decimal c.get.result) ≡ length (decimal a.binding) = ap (λ n. length (decimal n)) c.get.ensures.value in
