@@ -8,14 +8,13 @@
 
 ghost use Rattle.std.specs.Prelude.{◌≡◌, ◌≤◌};
 
-use crate::words::status;
+use crate::words::{number_at, status};
 use edge_core::Name;
 use share_catalog::{
     Binding, Catalog, CatalogName, Credential, Edit, EditRefusal, Location, TableName,
 };
 use std::alloc::{AllocError, Global};
 use std::process::ExitCode;
-use std::{env, io};
 
 // Why the work ended early.
 #[derive(Drop)]
@@ -64,39 +63,51 @@ fn make(alloc: Global, catalog: &mut Catalog, edit: Edit) -> Result<(), Stop> {
     }
 }
 
+// The edits that make the share, the recipient and the table of a number, and that grant a pair.
+fn new_share(alloc: Global, number: u32) -> Result<Edit, Stop> {
+    let name = name(alloc, "s", number)?;
+    Ok(Edit::NewShare { name })
+}
+
+fn new_recipient(alloc: Global, number: u32) -> Result<Edit, Stop> {
+    let credential = Credential {
+        digest: digest(number),
+        expires: None,
+    };
+    let name = name(alloc, "r", number)?;
+    Ok(Edit::NewRecipient { name, credential })
+}
+
+fn bind(alloc: Global, number: u32) -> Result<Edit, Stop> {
+    let binding = Binding {
+        history: false,
+        location: location(alloc, number % 32)?,
+    };
+    let table = TableName {
+        share: name(alloc, "s", number % 1_024)?,
+        schema: name(alloc, "c", number % 7)?,
+        table: name(alloc, "t", number)?,
+    };
+    Ok(Edit::Bind { table, binding })
+}
+
+fn grant(alloc: Global, recipient: u32, share: u32) -> Result<Edit, Stop> {
+    let recipient = name(alloc, "r", recipient)?;
+    let share = name(alloc, "s", share)?;
+    Ok(Edit::Grant { recipient, share })
+}
+
 fn make_holders(alloc: Global, catalog: &mut Catalog) -> Result<(), Stop> {
     for number in 0..1_024u32 {
-        let share = name(alloc, "s", number)?;
-        make(alloc, catalog, Edit::NewShare { name: share })?;
-        let recipient = name(alloc, "r", number)?;
-        let credential = Credential {
-            digest: digest(number),
-            expires: None,
-        };
-        make(
-            alloc,
-            catalog,
-            Edit::NewRecipient {
-                name: recipient,
-                credential,
-            },
-        )?;
+        make(alloc, catalog, new_share(alloc, number)?)?;
+        make(alloc, catalog, new_recipient(alloc, number)?)?;
     }
     Ok(())
 }
 
 fn bind_tables(alloc: Global, catalog: &mut Catalog) -> Result<(), Stop> {
     for number in 0..4_096u32 {
-        let table = TableName {
-            share: name(alloc, "s", number % 1_024)?,
-            schema: name(alloc, "c", number % 7)?,
-            table: name(alloc, "t", number)?,
-        };
-        let binding = Binding {
-            history: false,
-            location: location(alloc, number % 32)?,
-        };
-        make(alloc, catalog, Edit::Bind { table, binding })?;
+        make(alloc, catalog, bind(alloc, number)?)?;
     }
     Ok(())
 }
@@ -107,9 +118,7 @@ fn grant_pairs(alloc: Global, catalog: &mut Catalog, pairs: u32) -> Result<(), S
 {
     for number in 0..pairs {
         let place = number * 10_061 % 16_384;
-        let recipient = name(alloc, "r", place / 16)?;
-        let share = name(alloc, "s", place % 16 * 64)?;
-        make(alloc, catalog, Edit::Grant { recipient, share })?;
+        make(alloc, catalog, grant(alloc, place / 16, place % 16 * 64)?)?;
     }
     Ok(())
 }
@@ -124,74 +133,47 @@ fn expect_full(alloc: Global, catalog: &mut Catalog, edit: Edit, limit: u32) -> 
 
 // One more of each kind where each limit has been reached.
 fn try_more(alloc: Global, catalog: &mut Catalog) -> Result<(), Stop> {
-    let share = name(alloc, "s", 1_024)?;
-    expect_full(alloc, catalog, Edit::NewShare { name: share }, 1_024)?;
-    let credential = Credential {
-        digest: digest(1_024),
-        expires: None,
-    };
-    let recipient = name(alloc, "r", 1_024)?;
-    expect_full(
-        alloc,
-        catalog,
-        Edit::NewRecipient {
-            name: recipient,
-            credential,
-        },
-        1_024,
-    )?;
-    let recipient = name(alloc, "r", 0)?;
-    let share = name(alloc, "s", 1)?;
-    expect_full(alloc, catalog, Edit::Grant { recipient, share }, 16_384)
+    expect_full(alloc, catalog, new_share(alloc, 1_024)?, 1_024)?;
+    expect_full(alloc, catalog, new_recipient(alloc, 1_024)?, 1_024)?;
+    expect_full(alloc, catalog, grant(alloc, 0, 1)?, 16_384)?;
+    expect_full(alloc, catalog, bind(alloc, 4_096)?, 4_096)
 }
 
-fn try_table(alloc: Global, catalog: &mut Catalog) -> Result<(), Stop> {
-    let table = TableName {
-        share: name(alloc, "s", 0)?,
-        schema: name(alloc, "c", 0)?,
-        table: name(alloc, "t", 4_096)?,
-    };
-    let binding = Binding {
-        history: false,
-        location: location(alloc, 0)?,
-    };
-    expect_full(alloc, catalog, Edit::Bind { table, binding }, 4_096)
+fn revoke(alloc: Global, catalog: &mut Catalog) -> Result<(), Stop> {
+    let recipient = name(alloc, "r", 0)?;
+    let share = name(alloc, "s", 0)?;
+    make(alloc, catalog, Edit::Revoke { recipient, share })
 }
 
 // What was granted once is granted again.
 fn grant_again(alloc: Global, catalog: &mut Catalog) -> Result<(), Stop> {
-    let recipient = name(alloc, "r", 0)?;
-    let share = name(alloc, "s", 0)?;
-    make(alloc, catalog, Edit::Revoke { recipient, share })?;
-    let recipient = name(alloc, "r", 0)?;
-    let share = name(alloc, "s", 0)?;
-    make(alloc, catalog, Edit::Grant { recipient, share })
+    revoke(alloc, catalog)?;
+    make(alloc, catalog, grant(alloc, 0, 0)?)
 }
 
-fn fill(alloc: Global, pairs: u32) -> Result<(), Stop>
+fn fill(alloc: Global, catalog: &mut Catalog, pairs: u32) -> Result<(), Stop>
     requires { pairs ≤ 16384 }
 {
-    let mut catalog = Catalog::new(alloc);
-    make_holders(alloc, &mut catalog)?;
-    bind_tables(alloc, &mut catalog)?;
-    grant_pairs(alloc, &mut catalog, pairs)?;
+    make_holders(alloc, catalog)?;
+    bind_tables(alloc, catalog)?;
+    grant_pairs(alloc, catalog, pairs)?;
     if pairs < 16_384 {
         return Ok(());
     }
-    try_more(alloc, &mut catalog)?;
-    try_table(alloc, &mut catalog)?;
-    grant_again(alloc, &mut catalog)
+    try_more(alloc, catalog)?;
+    grant_again(alloc, catalog)
 }
 
-pub(crate) fn run(rt: &HostRuntime) -> io::Result<ExitCode> {
-    let Some(word) = env::args(rt)?.nth(2) else {
-        return Ok(ExitCode::SUCCESS);
-    };
-    let Ok(pairs) = word.parse::<u32>() else {
-        return Ok(ExitCode::SUCCESS);
-    };
-    if pairs > 16_384 {
-        return Ok(ExitCode::SUCCESS);
+fn is_filled(alloc: Global, pairs: u32) -> bool
+    requires { pairs ≤ 16384 }
+{
+    let mut catalog = Catalog::new(alloc);
+    fill(alloc, &mut catalog, pairs).is_ok()
+}
+
+pub(crate) fn run(rt: &HostRuntime, words: &[String]) -> ExitCode {
+    match number_at(words, 0) {
+        Some(pairs) if pairs <= 16_384 => status(is_filled(rt.alloc(), pairs)),
+        _ => ExitCode::SUCCESS,
     }
-    Ok(status(fill(rt.alloc(), pairs).is_ok()))
 }

@@ -6,22 +6,23 @@
 //! it does nothing. It prints nothing: the script has the clock. The status is 1 where an answer was another or memory was wanting,
 //! else 0.
 
-ghost use Rattle.std.specs.Prelude.{◌≡◌, All, false};
+ghost use Rattle.std.specs.Prelude.{◌≡◌, false};
 
-use crate::words::status;
+use crate::opened::{HubWork, done_at_hub};
+use crate::words::{number_at, status, word_at};
 use catalog_log::edit_at;
 use commit_check::{Offer, Reads};
 use edge_core::{MemStore, Name, Store};
 use edge_std::FileStore;
 use json_tree::{Text, Version, tree_of};
 use log_actions::{Action, Actions, CommitTime, action_of_line};
-use share_book::{Ask, Want, Who};
+use share_book::{Ask, Look, Want, Who};
 use share_catalog::Edit;
-use share_hub::{EditEnd, Hub, HubPass, OpenRefusal};
-use std::alloc::Global;
+use share_hub::{EditEnd, Hub, HubPass};
+use std::alloc::{AllocError, Global};
+use std::io;
 use std::process::ExitCode;
 use std::sync::Wait;
-use std::{env, io};
 use step_count::Steps;
 
 // The work of a replay.
@@ -80,8 +81,9 @@ fn make<R: Wait, W: Store>(
     ensures { (pass.new.cell ≡ hub.now) × (pass.new.holds ≡ false) }
 {
     let edit = edit_of(alloc, text)?;
-    hub.edit(rt, alloc, pass, store, &edit).ok()?;
-    Some(())
+    hub.edit(rt, alloc, pass, store, &edit)
+        .is_ok()
+        .then_some(())
 }
 
 // One edit that is refused: Begin and Abort.
@@ -102,6 +104,26 @@ fn refused<R: Wait, W: Store>(
     )
 }
 
+fn repeat_edit<R: Wait, W: Store>(
+    rt: &R,
+    alloc: Global,
+    hub: &Hub,
+    pass: &mut HubPass,
+    store: &mut W,
+    edit: &Edit,
+    times: u32,
+) -> Option<()>
+    requires { (pass.old.cell ≡ hub.now) × (pass.old.holds ≡ false) }
+    ensures { (pass.new.cell ≡ hub.now) × (pass.new.holds ≡ false) }
+{
+    for _ in 0..times {
+        if !refused(rt, alloc, hub, pass, store, edit) {
+            return None;
+        }
+    }
+    Some(())
+}
+
 fn repeat_edits<R: Wait, W: Store>(
     rt: &R,
     alloc: Global,
@@ -114,12 +136,11 @@ fn repeat_edits<R: Wait, W: Store>(
     ensures { (pass.new.cell ≡ hub.now) × (pass.new.holds ≡ false) }
 {
     let edit = edit_of(alloc, SHARE)?;
-    for _ in 0..times {
-        if !refused(rt, alloc, hub, pass, store, &edit) {
-            return None;
-        }
-    }
-    Some(())
+    repeat_edit(rt, alloc, hub, pass, store, &edit, times)
+}
+
+fn is_seen(look: &Result<Look, AllocError>) -> bool {
+    matches!(look, Ok(look) if look.seen.is_some())
 }
 
 fn looked<R: Wait>(rt: &R, alloc: Global, hub: &Hub, pass: &mut HubPass, ask: &Ask) -> bool
@@ -127,10 +148,27 @@ fn looked<R: Wait>(rt: &R, alloc: Global, hub: &Hub, pass: &mut HubPass, ask: &A
     ensures { (pass.new.cell ≡ hub.now) × (pass.new.holds ≡ false) }
 {
     let mut steps: Steps<Replay> = Steps::new();
-    match hub.look(rt, alloc, pass, ask, &mut steps) {
-        Ok(look) => look.seen.is_some(),
-        Err(_) => false,
+    let look = hub.look(rt, alloc, pass, ask, &mut steps);
+    is_seen(&look)
+}
+
+fn repeat_look<R: Wait>(
+    rt: &R,
+    alloc: Global,
+    hub: &Hub,
+    pass: &mut HubPass,
+    ask: &Ask,
+    times: u32,
+) -> Option<()>
+    requires { (pass.old.cell ≡ hub.now) × (pass.old.holds ≡ false) }
+    ensures { (pass.new.cell ≡ hub.now) × (pass.new.holds ≡ false) }
+{
+    for _ in 0..times {
+        if !looked(rt, alloc, hub, pass, ask) {
+            return None;
+        }
     }
+    Some(())
 }
 
 fn repeat_looks<R: Wait>(
@@ -143,17 +181,12 @@ fn repeat_looks<R: Wait>(
     requires { (pass.old.cell ≡ hub.now) × (pass.old.holds ≡ false) }
     ensures { (pass.new.cell ≡ hub.now) × (pass.new.holds ≡ false) }
 {
-    let who = Who::Named(Text::of(String::from_str(alloc, "r").ok()?));
+    let name = String::from_str(alloc, "r").ok()?;
     let ask = Ask {
-        who,
+        who: Who::Named(Text::of(name)),
         want: Want::Names,
     };
-    for _ in 0..times {
-        if !looked(rt, alloc, hub, pass, &ask) {
-            return None;
-        }
-    }
-    Some(())
+    repeat_look(rt, alloc, hub, pass, &ask, times)
 }
 
 // A share is dropped and made again, so often.
@@ -175,20 +208,25 @@ fn repeat_swaps<R: Wait, W: Store>(
     Some(())
 }
 
-fn action_of(alloc: Global, line: &str) -> Option<Action> {
-    action_of_line(alloc, line.as_bytes()).ok()?
+fn push_action(alloc: Global, actions: &mut Vec<Action>, line: &str) -> Option<()> {
+    let action = action_of_line(alloc, line.as_bytes()).ok()??;
+    actions.push(action).ok()
 }
 
 // What the commit of a version has: what begins a table, or a file of its own.
-fn actions_of(alloc: Global, version: u32) -> Option<Actions> {
-    let mut actions = Vec::new(alloc);
+fn push_actions(alloc: Global, actions: &mut Vec<Action>, version: u32) -> Option<()> {
     if version == 0 {
-        actions.push(action_of(alloc, PROTOCOL)?).ok()?;
-        actions.push(action_of(alloc, META)?).ok()?;
+        push_action(alloc, actions, PROTOCOL)?;
+        push_action(alloc, actions, META)
     } else {
         let add = format!(in alloc; "{{\"add\":{{\"path\":\"f{version}\",\"size\":1}}}}").ok()?;
-        actions.push(action_of(alloc, add.as_str())?).ok()?;
+        push_action(alloc, actions, add.as_str())
     }
+}
+
+fn actions_of(alloc: Global, version: u32) -> Option<Actions> {
+    let mut actions = Vec::new(alloc);
+    push_actions(alloc, &mut actions, version)?;
     Some(Actions::of(actions))
 }
 
@@ -223,8 +261,9 @@ fn commit<R: Wait, W: Store>(
 {
     let now = CommitTime::of(NOW)?;
     let offer = offer_of(alloc, version)?;
-    hub.commit(rt, alloc, pass, store, now, &offer).ok()?;
-    Some(())
+    hub.commit(rt, alloc, pass, store, now, &offer)
+        .is_ok()
+        .then_some(())
 }
 
 fn repeat_commits<R: Wait, W: Store>(
@@ -244,59 +283,55 @@ fn repeat_commits<R: Wait, W: Store>(
     Some(())
 }
 
-fn work<R: Wait, W: Store>(
-    rt: &R,
-    alloc: Global,
-    hub: &Hub,
-    passes: &mut [HubPass],
-    store: &mut W,
-    load: Load,
-) -> Option<()>
-    requires { All (λ p. (p.cell ≡ hub.now) × (p.holds ≡ false)) passes.old }
-{
-    let (pass, _) = passes.split_first_mut()?;
-    make(rt, alloc, hub, pass, store, SHARE)?;
-    make(rt, alloc, hub, pass, store, RECIPIENT)?;
-    make(rt, alloc, hub, pass, store, GRANT)?;
-    let half = load.entries / 2;
-    match load.kind {
-        Kind::Edit => {
-            repeat_edits(rt, alloc, hub, pass, store, half)?;
-            repeat_edits(rt, alloc, hub, pass, store, load.times)
-        }
-        Kind::Look => {
-            repeat_edits(rt, alloc, hub, pass, store, half)?;
-            repeat_looks(rt, alloc, hub, pass, load.times)
-        }
-        Kind::Catalogue => {
-            repeat_swaps(rt, alloc, hub, pass, store, half)?;
-            repeat_edits(rt, alloc, hub, pass, store, load.times)
-        }
-        Kind::Commit => {
-            make(rt, alloc, hub, pass, store, BIND)?;
-            repeat_edits(rt, alloc, hub, pass, store, half)?;
-            repeat_commits(rt, alloc, hub, pass, store, load.times)
+impl HubWork for Load {
+    fn done<R: Wait, W: Store>(
+        &self,
+        rt: &R,
+        alloc: Global,
+        hub: &Hub,
+        pass: &mut HubPass,
+        store: &mut W,
+    ) -> Option<()> {
+        make(rt, alloc, hub, pass, store, SHARE)?;
+        make(rt, alloc, hub, pass, store, RECIPIENT)?;
+        make(rt, alloc, hub, pass, store, GRANT)?;
+        let half = self.entries / 2;
+        match self.kind {
+            Kind::Edit => {
+                repeat_edits(rt, alloc, hub, pass, store, half)?;
+                repeat_edits(rt, alloc, hub, pass, store, self.times)
+            }
+            Kind::Look => {
+                repeat_edits(rt, alloc, hub, pass, store, half)?;
+                repeat_looks(rt, alloc, hub, pass, self.times)
+            }
+            Kind::Catalogue => {
+                repeat_swaps(rt, alloc, hub, pass, store, half)?;
+                repeat_edits(rt, alloc, hub, pass, store, self.times)
+            }
+            Kind::Commit => {
+                make(rt, alloc, hub, pass, store, BIND)?;
+                repeat_edits(rt, alloc, hub, pass, store, half)?;
+                repeat_commits(rt, alloc, hub, pass, store, self.times)
+            }
         }
     }
 }
 
-fn serve<R: Wait, W: Store>(
-    rt: &R,
-    alloc: Global,
-    store: &mut W,
-    load: Load,
-) -> Result<Option<()>, OpenRefusal> {
-    let (hub, mut passes) = Hub::open(alloc, store, 1)?;
-    Ok(work(rt, alloc, &hub, passes.as_mut_slice(), store, load))
-}
-
 fn run_over_memory<R: Wait>(rt: &R, alloc: Global, load: Load) -> Option<()> {
     let mut store = MemStore::new(alloc, 50_000, 10_000_000, Vec::new(alloc)).ok()?;
-    serve(rt, alloc, &mut store, load).ok()?
+    done_at_hub(rt, alloc, &mut store, &load)
 }
 
-fn run_over_files<R: Wait>(rt: &R, alloc: Global, mut store: FileStore, load: Load) -> Option<()> {
-    serve(rt, alloc, &mut store, load).ok()?
+fn run_over_files<R: Wait>(
+    rt: &R,
+    host: &HostRuntime,
+    folder: &str,
+    load: Load,
+) -> io::Result<Option<()>> {
+    let folder = String::from_str(host.alloc(), folder)?;
+    let mut store = FileStore::new(host.clone()?, folder);
+    Ok(done_at_hub(rt, host.alloc(), &mut store, &load))
 }
 
 fn kind_of(word: &str) -> Option<Kind> {
@@ -309,28 +344,20 @@ fn kind_of(word: &str) -> Option<Kind> {
     }
 }
 
-fn load_of(word: &str, entries: &str, times: &str) -> Option<Load> {
+fn load_of(words: &[String]) -> Option<Load> {
     Some(Load {
-        kind: kind_of(word)?,
-        entries: entries.parse::<u32>().ok()?,
-        times: times.parse::<u32>().ok()?,
+        kind: kind_of(word_at(words, 0)?)?,
+        entries: number_at(words, 1)?,
+        times: number_at(words, 2)?,
     })
 }
 
-// Only `main`'s handle can wait, so it is passed beside the runtime.
-pub(crate) fn run<R: Wait>(rt: &R, host: &HostRuntime) -> io::Result<ExitCode> {
-    let mut words = env::args(host)?.skip(2);
-    let (Some(word), Some(before), Some(times)) = (words.next(), words.next(), words.next()) else {
+pub(crate) fn run<R: Wait>(rt: &R, host: &HostRuntime, words: &[String]) -> io::Result<ExitCode> {
+    let Some(load) = load_of(words) else {
         return Ok(ExitCode::SUCCESS);
     };
-    let Some(load) = load_of(word.as_str(), before.as_str(), times.as_str()) else {
-        return Ok(ExitCode::SUCCESS);
-    };
-    let done = match words.next() {
-        Some(folder) => {
-            let store = FileStore::new(host.clone()?, folder);
-            run_over_files(rt, host.alloc(), store, load)
-        }
+    let done = match word_at(words, 3) {
+        Some(folder) => run_over_files(rt, host, folder, load)?,
         None => run_over_memory(rt, host.alloc(), load),
     };
     Ok(status(done.is_some()))

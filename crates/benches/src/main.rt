@@ -9,6 +9,7 @@ mod bodies;
 mod catalogue;
 mod hubs;
 mod messages;
+mod opened;
 mod parsing;
 mod replies;
 mod requests;
@@ -17,24 +18,36 @@ mod sessions;
 mod turns;
 mod words;
 
-use crate::words::status;
+use crate::words::{status, words_of};
+use std::io;
 use std::process::ExitCode;
-use std::{env, io};
+use std::sync::Wait;
+use std::thread::Threads;
 
-fn main(rt: HostRuntime) -> io::Result<ExitCode> {
-    let Some(bench) = env::args(&rt)?.nth(1) else {
-        return Ok(status(messages::show_small(&rt)? && requests::show_small(&rt)?));
+// Only `main`'s handle can wait and start threads, so it is passed beside the runtime.
+fn run<R: Threads + Wait + Sync>(
+    rt: &R,
+    host: &HostRuntime,
+    words: &[String],
+) -> io::Result<ExitCode> {
+    let Some((bench, words)) = words.split_first() else {
+        return Ok(status(messages::show_small(host)? && requests::show_small(host)?));
     };
     match bench.as_str() {
-        "bodies" => bodies::run(&rt),
-        "catalogue" => catalogue::run(&rt),
-        "hub" => hubs::run(&rt, &rt),
-        "parse" => parsing::run(&rt),
-        "replies" => replies::run(&rt),
-        "requests" => requests::run(&rt),
-        "sessions" => sessions::run(&rt, &rt),
-        "turns" => turns::run(&rt, &rt),
-        "wire" => messages::run(&rt),
+        "bodies" => bodies::run(host),
+        "catalogue" => Ok(catalogue::run(host, words)),
+        "hub" => hubs::run(rt, host, words),
+        "parse" => parsing::run(host, words),
+        "replies" => Ok(replies::run(host, words)),
+        "requests" => requests::run(host, words),
+        "sessions" => Ok(sessions::run(rt, host, words)),
+        "turns" => turns::run(rt, host, words),
+        "wire" => messages::run(host, words),
         _ => Ok(ExitCode::SUCCESS),
     }
+}
+
+fn main(rt: HostRuntime) -> io::Result<ExitCode> {
+    let words = words_of(&rt)?;
+    run(&rt, &rt, &words)
 }

@@ -16,15 +16,15 @@ mod stream;
 
 use crate::messages::read::{Seen, read_all};
 use crate::messages::stream::{Kind, source_of};
-use crate::words::status;
+use crate::words::{status, word_at};
+use edge_core::MemSource;
+use std::io;
 use std::process::ExitCode;
 use std::time::Instant;
-use std::{env, io};
 
-// Reads a stream, and prints what was seen.
-fn show(rt: &HostRuntime, kind: Kind, number: usize) -> io::Result<bool> {
-    let (mut source, length) = source_of(rt.alloc(), kind, number)?;
-    match read_all(rt.alloc(), &mut source) {
+// Reads a stream of that length, and prints what was seen.
+fn show_read(rt: &HostRuntime, source: &mut MemSource, length: usize) -> io::Result<bool> {
+    match read_all(rt.alloc(), source) {
         Ok(Seen { requests, bytes }) => println!(rt; "{length} {requests} {bytes}")?,
         Err(_) => return Ok(false),
     }
@@ -32,10 +32,9 @@ fn show(rt: &HostRuntime, kind: Kind, number: usize) -> io::Result<bool> {
 }
 
 // The same with the time that the reading took.
-fn time(rt: &HostRuntime, kind: Kind, number: usize) -> io::Result<bool> {
-    let (mut source, length) = source_of(rt.alloc(), kind, number)?;
+fn time_read(rt: &HostRuntime, source: &mut MemSource, length: usize) -> io::Result<bool> {
     let start = Instant::now(rt)?;
-    let seen = read_all(rt.alloc(), &mut source);
+    let seen = read_all(rt.alloc(), source);
     let took = start.elapsed(rt)?.as_nanos();
     match seen {
         Ok(Seen { requests, bytes }) => println!(rt; "{length} {requests} {bytes} {took}")?,
@@ -44,16 +43,21 @@ fn time(rt: &HostRuntime, kind: Kind, number: usize) -> io::Result<bool> {
     Ok(true)
 }
 
+fn show(rt: &HostRuntime, kind: Kind, number: usize) -> io::Result<bool> {
+    let (mut source, length) = source_of(rt.alloc(), kind, number)?;
+    show_read(rt, &mut source, length)
+}
+
+fn time(rt: &HostRuntime, kind: Kind, number: usize) -> io::Result<bool> {
+    let (mut source, length) = source_of(rt.alloc(), kind, number)?;
+    time_read(rt, &mut source, length)
+}
+
 // What the words ask for.
-fn asked(rt: &HostRuntime) -> io::Result<Option<(Kind, usize)>> {
-    let mut words = env::args(rt)?.skip(2);
-    let (Some(kind), Some(number)) = (words.next(), words.next()) else {
-        return Ok(None);
-    };
-    let (Some(kind), Ok(number)) = (Kind::of(kind.as_str()), number.parse::<usize>()) else {
-        return Ok(None);
-    };
-    Ok(Some((kind, number)))
+fn asked(words: &[String]) -> Option<(Kind, usize)> {
+    let kind = Kind::of(word_at(words, 0)?)?;
+    let number = word_at(words, 1)?.parse::<usize>().ok()?;
+    Some((kind, number))
 }
 
 /// Reads a small stream of each kind, and prints what was seen.
@@ -66,8 +70,8 @@ pub(crate) fn show_small(rt: &HostRuntime) -> io::Result<bool> {
     )
 }
 
-pub(crate) fn run(rt: &HostRuntime) -> io::Result<ExitCode> {
-    let good = match asked(rt)? {
+pub(crate) fn run(rt: &HostRuntime, words: &[String]) -> io::Result<ExitCode> {
+    let good = match asked(words) {
         Some((kind, number)) => time(rt, kind, number)?,
         None => show_small(rt)?,
     };

@@ -4,12 +4,12 @@
 //! With another word, or none, the input is only read. It prints nothing: the script has the clock. The status is 1 where a line
 //! is no text or no JSON value, or memory was wanting, else 0.
 
-use crate::words::status;
+use crate::words::{status, word_at};
 use json_tree::tree_of;
 use std::alloc::Global;
+use std::io;
 use std::io::Read;
 use std::process::ExitCode;
-use std::{env, io};
 
 fn are_texts(bytes: &[u8]) -> bool {
     bytes
@@ -23,13 +23,13 @@ fn are_values(alloc: Global, bytes: &[u8]) -> bool {
         .all(|line| line.is_empty() || tree_of(alloc, line).is_ok())
 }
 
-pub(crate) fn run(rt: &HostRuntime) -> io::Result<ExitCode> {
-    let Some(word) = env::args(rt)?.nth(2) else {
+pub(crate) fn run(rt: &HostRuntime, words: &[String]) -> io::Result<ExitCode> {
+    let Some(word) = word_at(words, 0) else {
         return Ok(ExitCode::SUCCESS);
     };
     let mut bytes = Vec::new(rt.alloc());
     rt.stdin().read_to_end(&mut bytes)?;
-    let good = match word.as_str() {
+    let good = match word {
         "text" => are_texts(&bytes),
         "json" => are_values(rt.alloc(), &bytes),
         _ => true,

@@ -8,14 +8,14 @@
 mod printed;
 mod table;
 
-use crate::replies::printed::{bare, planned, printed};
+use crate::replies::printed::{bare, page};
 use crate::replies::table::{query, seen_of, state_of};
-use crate::words::{status, words_of};
-use share_book::{Seen, SharedSnapshot};
+use crate::words::status;
+use log_replay::Snapshot;
+use share_book::Seen;
 use share_reply::ReplyKeys;
 use share_request::Request;
 use std::alloc::Global;
-use std::io;
 use std::process::ExitCode;
 
 // What is measured.
@@ -40,13 +40,18 @@ fn count(load: Load) -> u64 {
     load.files.saturating_sub(load.place).min(load.most)
 }
 
-fn repeat_bare(alloc: Global, state: &SharedSnapshot, load: Load) -> Option<()> {
+fn repeat_lines(alloc: Global, state: &Snapshot, load: Load) -> Option<()> {
     for _ in 0..load.times {
-        if bare(alloc, state.get(), load.place, load.most)? != count(load) {
+        if bare(alloc, state, load.place, load.most)? != count(load) {
             return None;
         }
     }
     Some(())
+}
+
+fn repeat_bare(alloc: Global, load: Load) -> Option<()> {
+    let state = state_of(alloc, load.files)?;
+    repeat_lines(alloc, state.get(), load)
 }
 
 fn repeat_pages(
@@ -56,11 +61,11 @@ fn repeat_pages(
     seen: &Option<Seen>,
     load: Load,
 ) -> Option<()> {
+    // Nothing is seen where memory is wanting.
+    seen.as_ref()?;
+    let prints = matches!(load.kind, Kind::Lines);
     for _ in 0..load.times {
-        let told = match load.kind {
-            Kind::Lines => printed(alloc, keys, request, seen)?,
-            Kind::Plan | Kind::Bare => planned(alloc, keys, request, seen)?,
-        };
+        let told = page(alloc, keys, request, seen, prints)?;
         // The protocol, the metaData and the end stand beside the files.
         if told.saturating_sub(3) != count(load) {
             return None;
@@ -70,27 +75,22 @@ fn repeat_pages(
 }
 
 // What is seen is much to drop, so it is made in a function of its own.
-fn repeat_shown(
-    alloc: Global,
-    keys: &ReplyKeys,
-    request: &Request,
-    state: SharedSnapshot,
-    load: Load,
-) -> Option<()> {
-    repeat_pages(alloc, keys, request, &seen_of(alloc, state)?, load)
+fn repeat_shown(alloc: Global, keys: &ReplyKeys, request: &Request, load: Load) -> Option<()> {
+    let state = state_of(alloc, load.files)?;
+    let seen = seen_of(alloc, state);
+    repeat_pages(alloc, keys, request, &seen, load)
 }
 
-fn repeat_query(alloc: Global, state: SharedSnapshot, load: Load) -> Option<()> {
+fn repeat_query(alloc: Global, load: Load) -> Option<()> {
     let keys = table::keys(alloc)?;
     let request = query(alloc, &keys, load.place, load.most)?;
-    repeat_shown(alloc, &keys, &request, state, load)
+    repeat_shown(alloc, &keys, &request, load)
 }
 
 fn repeat(alloc: Global, load: Load) -> Option<()> {
-    let state = state_of(alloc, load.files)?;
     match load.kind {
-        Kind::Bare => repeat_bare(alloc, &state, load),
-        Kind::Plan | Kind::Lines => repeat_query(alloc, state, load),
+        Kind::Bare => repeat_bare(alloc, load),
+        Kind::Plan | Kind::Lines => repeat_query(alloc, load),
     }
 }
 
@@ -116,10 +116,9 @@ fn load_of(words: &[String]) -> Option<Load> {
     })
 }
 
-pub(crate) fn run(rt: &HostRuntime) -> io::Result<ExitCode> {
-    let words = words_of(rt)?;
-    let Some(load) = load_of(&words) else {
-        return Ok(ExitCode::SUCCESS);
-    };
-    Ok(status(repeat(rt.alloc(), load).is_some()))
+pub(crate) fn run(rt: &HostRuntime, words: &[String]) -> ExitCode {
+    match load_of(words) {
+        Some(load) => status(repeat(rt.alloc(), load).is_some()),
+        None => ExitCode::SUCCESS,
+    }
 }

@@ -4,16 +4,16 @@
 //! 100,000). It prints how many bytes the head's target and fields have, and the nanoseconds that the reading took. With no
 //! words, or others, it reads a small head and prints the bytes alone. The status is 1 where the request isn't read, else 0.
 
-use crate::words::status;
+use crate::words::{status, word_at};
 use http_message::field::Fields;
 use http_message::head::Head;
 use json_tree::Text;
 use share_request::{Request, request_of};
 use std::alloc::{AllocError, Global};
+use std::io;
 use std::process::ExitCode;
 use std::sync::Arc;
 use std::time::Instant;
-use std::{env, io};
 
 const NAME: &[u8] = b"x-forwarded-for-";
 
@@ -87,51 +87,48 @@ fn is_read(alloc: Global, head: &Head) -> bool {
 }
 
 // Reads a request, and prints how large it is.
-fn show(rt: &HostRuntime, load: Load) -> io::Result<bool> {
-    let head = head_of(rt.alloc(), load)?;
-    println!(rt; "{}", bytes_of(&head))?;
-    Ok(is_read(rt.alloc(), &head))
+fn show(rt: &HostRuntime, head: &Head) -> io::Result<bool> {
+    println!(rt; "{}", bytes_of(head))?;
+    Ok(is_read(rt.alloc(), head))
 }
 
 // The same with the time that the reading took.
-fn time(rt: &HostRuntime, load: Load) -> io::Result<bool> {
-    let head = head_of(rt.alloc(), load)?;
+fn time(rt: &HostRuntime, head: &Head) -> io::Result<bool> {
     let start = Instant::now(rt)?;
-    let read = is_read(rt.alloc(), &head);
+    let read = is_read(rt.alloc(), head);
     let took = start.elapsed(rt)?.as_nanos();
-    println!(rt; "{} {took}", bytes_of(&head))?;
+    println!(rt; "{} {took}", bytes_of(head))?;
     Ok(read)
 }
 
 // What the words ask for.
-fn asked(rt: &HostRuntime) -> io::Result<Option<Load>> {
-    let mut words = env::args(rt)?.skip(2);
-    let (Some(parameters), Some(fields)) = (words.next(), words.next()) else {
-        return Ok(None);
-    };
-    let (Ok(parameters), Ok(fields)) = (parameters.parse::<usize>(), fields.parse::<usize>()) else {
-        return Ok(None);
-    };
-    Ok(Some(Load {
+fn load_of(words: &[String]) -> Option<Load> {
+    let parameters = word_at(words, 0)?.parse::<usize>().ok()?;
+    let fields = word_at(words, 1)?.parse::<usize>().ok()?;
+    Some(Load {
         parameters: parameters.min(100_000),
         fields: fields.min(100_000),
-    }))
+    })
 }
 
 /// Reads a small head, and prints how large it is.
 pub(crate) fn show_small(rt: &HostRuntime) -> io::Result<bool> {
-    show(
-        rt,
-        Load {
-            parameters: 8,
-            fields: 2,
-        },
-    )
+    let load = Load {
+        parameters: 8,
+        fields: 2,
+    };
+    let head = head_of(rt.alloc(), load)?;
+    show(rt, &head)
 }
 
-pub(crate) fn run(rt: &HostRuntime) -> io::Result<ExitCode> {
-    let read = match asked(rt)? {
-        Some(load) => time(rt, load)?,
+fn time_large(rt: &HostRuntime, load: Load) -> io::Result<bool> {
+    let head = head_of(rt.alloc(), load)?;
+    time(rt, &head)
+}
+
+pub(crate) fn run(rt: &HostRuntime, words: &[String]) -> io::Result<ExitCode> {
+    let read = match load_of(words) {
+        Some(load) => time_large(rt, load)?,
         None => show_small(rt)?,
     };
     Ok(status(read))

@@ -8,16 +8,16 @@
 mod dropped;
 mod world;
 
-ghost use Rattle.std.specs.Prelude.{◌≡◌, All, false};
+ghost use Rattle.std.specs.Prelude.{◌≡◌, false};
 
+use crate::opened::{HubWork, done_at_hub};
 use crate::sessions::dropped::Dropped;
-use crate::sessions::world::{Kind, requests, server, stocked};
-use crate::words::{status, words_of};
-use edge_core::{MemClock, MemSource, MemStore, OpenGate};
+use crate::sessions::world::{Kind, requests, server, stock};
+use crate::words::status;
+use edge_core::{MemClock, MemSource, MemStore, OpenGate, Store};
 use share_hub::{Hub, HubPass};
 use share_serve::{Server, SessionEnd, serve_conn};
 use std::alloc::Global;
-use std::io;
 use std::process::ExitCode;
 use std::sync::Wait;
 use step_count::Steps;
@@ -34,20 +34,22 @@ struct Load {
     times: u32,
 }
 
-fn session<R: Wait>(
+fn session<R: Wait, W: Store>(
     rt: &R,
     alloc: Global,
     hub: &Hub,
     server: &Server,
     pass: &mut HubPass,
-    store: &mut MemStore,
+    store: &mut W,
     load: Load,
 ) -> Option<()>
     requires { (pass.old.cell ≡ hub.now) × (pass.old.holds ≡ false) }
 {
-    let mut source = MemSource::new(alloc, requests(alloc, load.kind, load.times)?);
+    let moments = vec![in alloc; NOW; 1].ok()?;
+    let asked = requests(alloc, load.kind, load.times)?;
+    let mut clock = MemClock::new(moments);
+    let mut source = MemSource::new(alloc, asked);
     let mut sink = Dropped { bytes: 0 };
-    let mut clock = MemClock::new(vec![in alloc; NOW; 1].ok()?);
     let mut steps: Steps<Replay> = Steps::new();
     let end = serve_conn(
         rt,
@@ -67,25 +69,28 @@ fn session<R: Wait>(
     (end == SessionEnd::Done { served } && sink.bytes >= least).then_some(())
 }
 
-fn work<R: Wait>(
-    rt: &R,
-    alloc: Global,
-    hub: &Hub,
-    passes: &mut [HubPass],
-    store: &mut MemStore,
-    load: Load,
-) -> Option<()>
-    requires { All (λ p. (p.cell ≡ hub.now) × (p.holds ≡ false)) passes.old }
-{
-    let server = server(alloc)?;
-    let (pass, _) = passes.split_first_mut()?;
-    session(rt, alloc, hub, &server, pass, store, load)
+impl HubWork for Load {
+    fn done<R: Wait, W: Store>(
+        &self,
+        rt: &R,
+        alloc: Global,
+        hub: &Hub,
+        pass: &mut HubPass,
+        store: &mut W,
+    ) -> Option<()> {
+        let server = server(alloc)?;
+        session(rt, alloc, hub, &server, pass, store, *self)
+    }
+}
+
+fn run_stocked<R: Wait>(rt: &R, alloc: Global, store: &mut MemStore, load: Load) -> Option<()> {
+    stock(alloc, store)?;
+    done_at_hub(rt, alloc, store, &load)
 }
 
 fn run_over_memory<R: Wait>(rt: &R, alloc: Global, load: Load) -> Option<()> {
-    let mut store = stocked(alloc)?;
-    let (hub, mut passes) = Hub::open(alloc, &mut store, 1).ok()?;
-    work(rt, alloc, &hub, passes.as_mut_slice(), &mut store, load)
+    let mut store = MemStore::new(alloc, 10, 40_000_000, Vec::new(alloc)).ok()?;
+    run_stocked(rt, alloc, &mut store, load)
 }
 
 fn load_of(words: &[String]) -> Option<Load> {
@@ -98,11 +103,9 @@ fn load_of(words: &[String]) -> Option<Load> {
     })
 }
 
-// Only `main`'s handle can wait, so it is passed beside the runtime.
-pub(crate) fn run<R: Wait>(rt: &R, host: &HostRuntime) -> io::Result<ExitCode> {
-    let words = words_of(host)?;
-    let Some(load) = load_of(&words) else {
-        return Ok(ExitCode::SUCCESS);
-    };
-    Ok(status(run_over_memory(rt, host.alloc(), load).is_some()))
+pub(crate) fn run<R: Wait>(rt: &R, host: &HostRuntime, words: &[String]) -> ExitCode {
+    match load_of(words) {
+        Some(load) => status(run_over_memory(rt, host.alloc(), load).is_some()),
+        None => ExitCode::SUCCESS,
+    }
 }

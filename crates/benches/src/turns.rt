@@ -3,16 +3,17 @@
 //! Words: `cell` or `lock`, the number of threads (1 to 65), the number of turns of each. With other words, or none, it does
 //! nothing. It prints nothing: the script has the clock.
 
-ghost use Rattle.std.specs.Prelude.{◌≡◌, ◌<◌, ◌≤◌, length, All, false};
+ghost use Rattle.std.specs.Prelude.{◌≡◌, ◌<◌, ◌≤◌, IfSome, length, All, false};
 
 mod page;
 
 use crate::turns::page::Page;
+use crate::words::{number_at, word_at};
 use std::alloc::{AllocError, Global};
 use std::process::ExitCode;
 use std::sync::{Mutex, Wait};
 use std::thread::Threads;
-use std::{env, io, thread};
+use std::{io, thread};
 use turn_cell::{Pass, TurnCell};
 
 // How many threads there are, and how many turns each takes.
@@ -98,22 +99,27 @@ fn run_lock<R: Threads + Wait + Sync>(rt: &R, alloc: Global, load: Load) -> Resu
     Ok(())
 }
 
-// Only `main`'s handle can start threads, so it is passed beside the runtime.
-pub(crate) fn run<R: Threads + Wait + Sync>(rt: &R, host: &HostRuntime) -> io::Result<ExitCode> {
-    let mut words = env::args(host)?.skip(2);
-    let (Some(kind), Some(threads), Some(turns)) = (words.next(), words.next(), words.next()) else {
-        return Ok(ExitCode::SUCCESS);
-    };
-    let (Ok(threads), Ok(turns)) = (threads.parse::<u32>(), turns.parse::<u32>()) else {
-        return Ok(ExitCode::SUCCESS);
-    };
+fn load_of(words: &[String]) -> Option<Load>
+    ensures { IfSome result (λ load. (1 ≤ load.threads) × (load.threads ≤ 65)) }
+{
+    let (threads, turns) = (number_at(words, 1)?, number_at(words, 2)?);
     if threads < 1 || threads > 65 {
-        return Ok(ExitCode::SUCCESS);
+        return None;
     }
-    let load = Load { threads, turns };
-    match kind.as_str() {
-        "cell" => run_cell(rt, host.alloc(), load)?,
-        "lock" => run_lock(rt, host.alloc(), load)?,
+    Some(Load { threads, turns })
+}
+
+pub(crate) fn run<R: Threads + Wait + Sync>(
+    rt: &R,
+    host: &HostRuntime,
+    words: &[String],
+) -> io::Result<ExitCode> {
+    let Some(load) = load_of(words) else {
+        return Ok(ExitCode::SUCCESS);
+    };
+    match word_at(words, 0) {
+        Some("cell") => run_cell(rt, host.alloc(), load)?,
+        Some("lock") => run_lock(rt, host.alloc(), load)?,
         _ => {}
     }
     Ok(ExitCode::SUCCESS)

@@ -1,4 +1,6 @@
 // A stream, read to its end.
+ghost use Rattle.std.specs.Prelude.{◌≡◌, true};
+
 use edge_core::Source;
 use http_wire::{Message, Wire};
 use std::alloc::{AllocError, Global};
@@ -27,9 +29,32 @@ impl From<AllocError> for Stop {
     }
 }
 
-/// Reads requests up to the end of the source.
-pub fn read_all<S: Source>(alloc: Global, source: &mut S) -> Result<Seen, Stop> {
-    let mut wire = Wire::new(alloc);
+// Counts a request. The answer is whether another message may follow.
+fn count(seen: &mut Seen, message: &Message) -> Result<bool, Stop> {
+    match message {
+        Message::Request { body, .. } => {
+            seen.requests = seen.requests.saturating_add(1);
+            seen.bytes = seen.bytes.saturating_add(body.len() as u64);
+            Ok(true)
+        }
+        Message::End => Ok(false),
+        _ => Err(Stop::Other),
+    }
+}
+
+fn read_next<S: Source>(
+    alloc: Global,
+    wire: &mut Wire,
+    source: &mut S,
+    seen: &mut Seen,
+) -> Result<bool, Stop>
+    requires { wire.old.is_open ≡ true }
+{
+    let message = wire.next(alloc, source)?;
+    count(seen, &message)
+}
+
+fn read_each<S: Source>(alloc: Global, wire: &mut Wire, source: &mut S) -> Result<Seen, Stop> {
     let mut seen = Seen {
         requests: 0,
         bytes: 0,
@@ -38,14 +63,15 @@ pub fn read_all<S: Source>(alloc: Global, source: &mut S) -> Result<Seen, Stop> 
         if !wire.is_open() {
             break;
         }
-        match wire.next(alloc, source)? {
-            Message::Request { body, .. } => {
-                seen.requests = seen.requests.saturating_add(1);
-                seen.bytes = seen.bytes.saturating_add(body.len() as u64);
-            }
-            Message::End => return Ok(seen),
-            _ => return Err(Stop::Other),
+        if !read_next(alloc, wire, source, &mut seen)? {
+            return Ok(seen);
         }
     }
     Err(Stop::Other)
+}
+
+/// Reads requests up to the end of the source.
+pub fn read_all<S: Source>(alloc: Global, source: &mut S) -> Result<Seen, Stop> {
+    let mut wire = Wire::new(alloc);
+    read_each(alloc, &mut wire, source)
 }

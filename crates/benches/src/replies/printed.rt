@@ -6,23 +6,10 @@ use share_book::Seen;
 use share_lines::{FileKind, FileParts, push_file_parts};
 use share_reply::{LinePlan, Plan, ReplyKeys, plan_of};
 use share_request::Request;
-use std::alloc::Global;
+use std::alloc::{AllocError, Global};
 
 // A day in 2023.
 const NOW: u64 = 1_700_000_000_000;
-
-/// Of a page that is planned.
-pub(crate) fn planned(
-    alloc: Global,
-    keys: &ReplyKeys,
-    request: &Request,
-    seen: &Option<Seen>,
-) -> Option<u64> {
-    match plan_of(alloc, keys, request, Millis::of(NOW)?, seen) {
-        Ok(Plan::Lines(_, lines)) => Some(lines.count()),
-        _ => None,
-    }
-}
 
 fn print(alloc: Global, lines: &LinePlan) -> Option<u64> {
     let bytes = lines.len(alloc).ok()?;
@@ -40,17 +27,30 @@ fn print(alloc: Global, lines: &LinePlan) -> Option<u64> {
     }
 }
 
-/// Of a page that is planned, counted and printed.
-pub(crate) fn printed(
+fn planned(alloc: Global, plan: &Result<Plan, AllocError>, prints: bool) -> Option<u64> {
+    match plan {
+        Ok(Plan::Lines(_, lines)) => {
+            if prints {
+                print(alloc, lines)
+            } else {
+                Some(lines.count())
+            }
+        }
+        _ => None,
+    }
+}
+
+/// Of a page that is planned, and counted and printed too where that is asked for.
+pub(crate) fn page(
     alloc: Global,
     keys: &ReplyKeys,
     request: &Request,
     seen: &Option<Seen>,
+    prints: bool,
 ) -> Option<u64> {
-    match plan_of(alloc, keys, request, Millis::of(NOW)?, seen) {
-        Ok(Plan::Lines(_, lines)) => print(alloc, &lines),
-        _ => None,
-    }
+    let now = Millis::of(NOW)?;
+    let plan = plan_of(alloc, keys, request, now, seen);
+    planned(alloc, &plan, prints)
 }
 
 fn push_bare(alloc: Global, out: &mut Vec<u8>, expires: Millis, file: &AddFile) -> Option<()> {

@@ -8,7 +8,7 @@ use hmac_core::HmacKey;
 use json_tree::{Edition, Place, Text, Version};
 use log_actions::Commit;
 use log_commit::commit_of;
-use log_replay::{Snapshot, replay};
+use log_replay::replay;
 use page_token::{Asked, Cursor, FilesCursor, TableAccess, spell};
 use query_body::QueryBody;
 use share_book::{Found, PartFound, Seen, SharedSnapshot, Spot};
@@ -25,12 +25,14 @@ struct Work;
 
 /// Keys, and links that hold for an hour.
 pub(crate) fn keys(alloc: Global) -> Option<ReplyKeys> {
+    let ttl = LinkTtl::of(3_600)?;
     let endpoint = String::from_str(alloc, "https://sharing.example.com/delta-sharing").ok()?;
+    let endpoint = Endpoint::of(endpoint)?;
     Some(ReplyKeys {
         token: HmacKey::of(&[1; 32]),
         link: HmacKey::of(&[2; 32]),
-        ttl: LinkTtl::of(3_600)?,
-        endpoint: Endpoint::of(endpoint)?,
+        ttl,
+        endpoint,
     })
 }
 
@@ -48,58 +50,60 @@ fn begun(alloc: Global, files: u64) -> Option<Arc<Commit>> {
     }
 }
 
-fn replayed(alloc: Global, log: &[Arc<Commit>]) -> Option<Snapshot>
+fn replayed(alloc: Global, log: &[Arc<Commit>]) -> Option<SharedSnapshot>
     requires { 0 < length log.now }
 {
     let mut steps: Steps<Work> = Steps::new();
-    match replay(alloc, log, &mut steps) {
-        Ok(state) => Some(state),
-        Err(_) => None,
-    }
+    let state = replay(alloc, log, &mut steps).ok()?;
+    Some(SharedSnapshot::of(Arc::new(alloc, state).ok()?))
 }
 
 /// A table of one version that has so many files.
 pub(crate) fn state_of(alloc: Global, files: u64) -> Option<SharedSnapshot> {
-    let mut log = Vec::new(alloc);
-    log.push(begun(alloc, files)?).ok()?;
-    if log.is_empty() {
-        return None;
-    }
-    let state = Arc::new(alloc, replayed(alloc, &log)?).ok()?;
-    Some(SharedSnapshot::of(state))
+    let log = [begun(alloc, files)?];
+    replayed(alloc, &log)
+}
+
+fn spot(alloc: Global) -> Option<Spot> {
+    let edition = Edition::of(1)?;
+    let location = Name::of(String::from_str(alloc, "tables/t1").ok()?)?;
+    Some(Spot::of(edition, edition, true, location))
 }
 
 /// What the recipient is shown of it.
-pub(crate) fn seen_of(alloc: Global, state: SharedSnapshot) -> Option<Option<Seen>> {
-    let location = Name::of(String::from_str(alloc, "tables/t1").ok()?)?;
-    let spot = Spot::of(Edition::of(1)?, Edition::of(1)?, true, location);
-    Some(Some(Seen {
-        recipient: text(alloc, "r1")?,
+pub(crate) fn seen_of(alloc: Global, state: SharedSnapshot) -> Option<Seen> {
+    let recipient = text(alloc, "r1")?;
+    let spot = spot(alloc)?;
+    Some(Seen {
+        recipient,
         expires: None,
         found: Found::Table(spot, PartFound::Files(0, state)),
-    }))
+    })
 }
 
 // ---- what is asked
 
 fn access(alloc: Global) -> Option<TableAccess> {
+    let edition = Edition::of(1)?;
     Some(TableAccess {
         recipient: text(alloc, "r1")?,
         share: text(alloc, "s1")?,
         schema: text(alloc, "sc")?,
         table: text(alloc, "t1")?,
-        grant: Edition::of(1)?,
-        binding: Edition::of(1)?,
+        grant: edition,
+        binding: edition,
     })
 }
 
 fn token(alloc: Global, keys: &ReplyKeys, place: u64) -> Option<Text> {
+    let version = Version::of(0)?;
+    let place = Place::of(place)?;
     let cursor = Cursor::Files(FilesCursor {
         access: access(alloc)?,
         asked: Asked::Latest,
-        version: Version::of(0)?,
+        version,
         hint: None,
-        place: Place::of(place)?,
+        place,
     });
     spell(alloc, &keys.token, &cursor).ok()
 }
@@ -120,14 +124,15 @@ pub(crate) fn query(
     place: u64,
     most: u64,
 ) -> Option<Arc<Request>> {
+    let table = table(alloc)?;
+    let token = token(alloc, keys, place)?;
     let body = QueryBody {
         version: None,
         moment: None,
         hint: None,
         max: Some(most),
-        token: Some(token(alloc, keys, place)?),
+        token: Some(token),
     };
-    let table = table(alloc)?;
     let request = Request::ByToken(ByToken {
         digest: [0; 32],
         route: Route::Query,

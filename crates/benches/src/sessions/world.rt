@@ -25,7 +25,7 @@ const CONFIG: &str =
 \"providerDigests\":[],\"linkTtlSeconds\":3600,\"endpoint\":\"http://localhost/delta-sharing\"}";
 
 // The edits of the catalogue, in order. The digest is that of the bearer token `token`.
-const EDITS: [&str; 4] = [
+const EDITS: &[&str] = &[
     "{\"newShare\":{\"name\":\"s\"}}",
     "{\"newRecipient\":{\"digest\":\"3c469e9d6c5875d37a43f353d4f88e61fcf812c66eee3457465a40b0da4153e0\",\"expires\":null,\"name\":\"r\"}}",
     "{\"grant\":{\"recipient\":\"r\",\"share\":\"s\"}}",
@@ -88,37 +88,47 @@ fn commit(alloc: Global) -> Option<Vec<u8>> {
     Vec::from_slice(alloc, text.as_bytes()).ok()
 }
 
-/// The catalogue's records, the table's log, and the object.
-pub(crate) fn stocked(alloc: Global) -> Option<MemStore> {
-    let mut store = MemStore::new(alloc, 10, 40_000_000, Vec::new(alloc)).ok()?;
+fn stock_records(alloc: Global, store: &mut MemStore) -> Option<()> {
     let mut number = 0u64;
     for edit in EDITS {
         store.stock(record(alloc, number, edit)?);
         number = number.saturating_add(1);
     }
-    store.stock(object(
-        alloc,
-        "t/_delta_log/00000000000000000000.json",
-        commit(alloc)?,
-    )?);
-    store.stock(object(alloc, "t/o", vec![in alloc; 7u8; OBJECT].ok()?)?);
-    Some(store)
+    Some(())
+}
+
+/// Stores the catalogue's records, the table's log, and the object.
+pub(crate) fn stock(alloc: Global, store: &mut MemStore) -> Option<()> {
+    stock_records(alloc, store)?;
+    let log = commit(alloc)?;
+    store.stock(object(alloc, "t/_delta_log/00000000000000000000.json", log)?);
+    let bytes = vec![in alloc; 7u8; OBJECT].ok()?;
+    store.stock(object(alloc, "t/o", bytes)?);
+    Some(())
 }
 
 // ---- the requests
 
+fn table(alloc: Global) -> Option<TableName> {
+    Some(TableName {
+        share: name(alloc, "s")?,
+        schema: name(alloc, "d")?,
+        table: name(alloc, "t")?,
+    })
+}
+
 fn target_of_object(alloc: Global) -> Option<Text> {
+    let edition = Edition::of(1)?;
+    let expires = Millis::of(EXPIRES)?;
+    let path = Text::of(String::from_str(alloc, "o").ok()?);
+    let recipient = name(alloc, "r")?;
     let parts = LinkParts {
-        table: TableName {
-            share: name(alloc, "s")?,
-            schema: name(alloc, "d")?,
-            table: name(alloc, "t")?,
-        },
-        path: Text::of(String::from_str(alloc, "o").ok()?),
-        binding: Edition::of(1)?,
-        expires: Millis::of(EXPIRES)?,
-        grant: Edition::of(1)?,
-        recipient: name(alloc, "r")?,
+        table: table(alloc)?,
+        path,
+        binding: edition,
+        expires,
+        grant: edition,
+        recipient,
     };
     link(alloc, &HmacKey::of(&[2; 32]), "", &parts.lent()).ok()
 }
