@@ -31,8 +31,15 @@ pub fn head(alloc: Global, method: &str, target: &str, authorization: &str) -> O
     })
 }
 
-/// The request of a head with these parts, and a body. It is shared, since a function that drops a request of its own takes long to
-/// prove.
+/// The request of a head and a body. It is shared, since a function that drops a request of its own takes long to prove.
+pub fn request_with(alloc: Global, head: &Head, body: &str) -> Option<Arc<Request>> {
+    match request_of(alloc, head, body.as_bytes()) {
+        Ok(request) => Arc::new(alloc, request).ok(),
+        Err(_) => None,
+    }
+}
+
+/// The request of a head with these parts, and a body.
 pub fn request(
     alloc: Global,
     method: &str,
@@ -41,6 +48,5 @@ pub fn request(
     body: &str,
 ) -> Option<Arc<Request>> {
     let head = head(alloc, method, target, authorization)?;
-    let request = request_of(alloc, &head, body.as_bytes()).ok()?;
-    Arc::new(alloc, request).ok()
+    request_with(alloc, &head, body)
 }

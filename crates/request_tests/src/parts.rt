@@ -1,8 +1,8 @@
 // What a link asks of its file: all, a part, or the head alone.
-use crate::made::head;
+use crate::made::{head, request_with};
 use file_ranges::span::Span;
 use http_message::head::Head;
-use share_request::{ByLink, Request, request_of};
+use share_request::Request;
 use std::alloc::Global;
 
 // A head that asks for a file, with these fields besides.
@@ -14,18 +14,18 @@ fn head_with(alloc: Global, method: &str, fields: &[(&str, &str)]) -> Option<Hea
     Some(head)
 }
 
-fn by_link(alloc: Global, method: &str, fields: &[(&str, &str)]) -> Option<ByLink> {
-    let head = head_with(alloc, method, fields)?;
-    match request_of(alloc, &head, b"").ok()? {
-        Request::ByLink(by) => Some(by),
+// Whether the head alone is asked for, and of which part.
+fn asked_by_link(request: &Request) -> Option<(bool, Option<Span>)> {
+    match request {
+        Request::ByLink(by) => Some((by.head, by.span)),
         _ => None,
     }
 }
 
-// Whether the head alone is asked for, and of which part.
 fn asked(alloc: Global, method: &str, fields: &[(&str, &str)]) -> Option<(bool, Option<Span>)> {
-    let by = by_link(alloc, method, fields)?;
-    Some((by.head, by.span))
+    let head = head_with(alloc, method, fields)?;
+    let request = request_with(alloc, &head, "")?;
+    asked_by_link(&request)
 }
 
 #[test]
