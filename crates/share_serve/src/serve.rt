@@ -9,6 +9,7 @@ ghost use Rattle.share_serve.specs.Sessions.{HasCause, IsSession};
 ghost use Rattle.share_serve.specs.Sides.{held, side, state_at};
 ghost use Rattle.share_serve.specs.Turned.{IsGiven, IsTurned, RefusalEnds, Steps as Stepped, TurnCause, message, turned_of};
 ghost use Rattle.share_serve.specs.Turns.{Grew, Hold, closes_after, is_head};
+ghost use Rattle.share_request.specs.Requests.{request_in};
 ghost use Rattle.share_request.specs.declared.asked.Request.{Request as Asked};
 ghost use Rattle.share_serve.specs.declared.server.Server.{Server as ServerView};
 
@@ -27,7 +28,7 @@ use share_hub::{Hub, HubPass};
 use share_reply::{ReplyKeys, ask_of};
 use share_request::{Request, request_of};
 use std::alloc::{AllocError, Global};
-use std::sync::Wait;
+use std::sync::{Arc, Wait};
 use step_count::Steps;
 
 // The most requests of a connection.
@@ -206,6 +207,14 @@ fn serve_known<R: Wait, W: Store, G: Gate, K: Sink, L>(
     }
 }
 
+// The request that a message makes. It is shared, since a function that drops one of its own takes long to prove.
+fn shared_request(alloc: Global, head: &Head, body: &[u8]) -> Result<Arc<Request>, AllocError>
+    ensures { IfOk result (λ r. r.value ≡ request_in head.now body.now) }
+{
+    let request = request_of(alloc, head, body)?;
+    Ok(Arc::new(alloc, request)?)
+}
+
 // Answers the request of that number.
 fn serve_request<R: Wait, W: Store, C: Clock, G: Gate, K: Sink, L>(
     rt: &R,
@@ -236,7 +245,7 @@ fn serve_request<R: Wait, W: Store, C: Clock, G: Gate, K: Sink, L>(
         closes: closes_after(served, closes),
         to_head: is_head(head),
     };
-    let Ok(request) = request_of(alloc, head, body) else {
+    let Ok(request) = shared_request(alloc, head, body) else {
         return Turned::NoMemory;
     };
     let delivered = serve_known(

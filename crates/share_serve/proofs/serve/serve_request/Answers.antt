@@ -1,4 +1,4 @@
-use Rattle.std.proofs.Common.{◌≡◌, sym, subst}
+use Rattle.std.proofs.Common.{◌≡◌, ◌∙◌, sym, subst}
 use Rattle.share_request.specs.declared.asked.Request.{Request}
 use Rattle.share_serve.specs.Callers.{by_request}
 use Rattle.share_serve.specs.Sides.{held, side}
@@ -21,4 +21,4 @@ returns-clause-turned g c = λ at.
     subst (λ (z : Turned). IsTurned z c.args.server.now c.args.served m (side (g.C.Clock.coming c.args.clock.now) old w) (side (g.C.Clock.coming c.now-moment.new.self) new w')) (sym c.turned_by.ensures)
     (turned c.args.server.now c.args.served m c.now-moment.result (g.C.Clock.coming c.args.clock.now) (g.C.Clock.coming c.now-moment.new.self) old new w w' c.now-moment.ensures.told c.serve_known-delivered.ensures.grew
     c.serve_known-delivered.result d is
-    (subst (λ (q : Request). IsGiven c.serve_known-delivered.result c.args.server.now q (by_request c.args.server.now q) d old new w w') c.in-Ok.ensures c.serve_known-delivered.ensures.given))
+    (subst (λ (q : Request). IsGiven c.serve_known-delivered.result c.args.server.now q (by_request c.args.server.now q) d old new w w') (c.deref.ensures ∙ c.in-Ok.ensures) c.serve_known-delivered.ensures.given))
