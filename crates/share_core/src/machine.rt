@@ -2,8 +2,10 @@
 ghost use Rattle.std.specs.Prelude.{◌≡◌, ◌++◌, ◌∷◌, [], List, None, OnOk, Some, IfOk, option_map, option_to_list};
 ghost use Rattle.share_core.specs.Answers.{asks_by, chosen_replies, replies_of, replies_to};
 ghost use Rattle.share_core.specs.Asks.{asked_by, asks_of};
-ghost use Rattle.share_core.specs.Seen.{is_chosen_by};
+ghost use Rattle.share_core.specs.Seen.{chosen_reply, is_chosen_by};
+ghost use Rattle.share_reply.specs.Asking.{ask_of};
 ghost use Rattle.share_world.specs.Standing.{Stands};
+ghost use Rattle.share_world.specs.Worlds.{shown};
 ghost use Rattle.share_world.specs.declared.event.Event.{Event as OneEvent};
 ghost use Rattle.share_world.specs.declared.event.Event.TheVariants as event_is;
 
@@ -28,6 +30,38 @@ fn is_chosen(recipient: Option<&str>, seen: &Option<Seen>) -> bool
     }
 }
 
+// What is seen for a request.
+fn seen_by(
+    alloc: Global,
+    keys: &ReplyKeys,
+    world: &mut World,
+    request: &Request,
+) -> Result<Option<Seen>, AllocError>
+    ensures same { world.new ≡ world.old }
+    ensures seen { (before : List OneEvent) → Stands world.old before → IfOk result (λ s. s ≡ shown before (ask_of keys.now request.now)) }
+{
+    let ask = ask_of(alloc, keys, request)?;
+    world.see(alloc, &ask)
+}
+
+// The reply by what is seen, none where that isn't the recipient's.
+fn chosen_reply(
+    alloc: Global,
+    keys: &ReplyKeys,
+    request: &Request,
+    now: Millis,
+    recipient: Option<&str>,
+    seen: &Option<Seen>,
+) -> Result<Option<Reply>, AllocError>
+    ensures { IfOk result (λ r. r ≡ chosen_reply keys.now (option_map (λ r. r.now) recipient.entry) request.now now seen.now) }
+{
+    if !is_chosen(recipient, seen) {
+        return Ok(None);
+    }
+    let plan = plan_of(alloc, keys, request, now, seen)?;
+    Ok(Some(reply_by(alloc, plan)?))
+}
+
 // The reply to a request, none where it isn't the recipient's.
 fn reply_in(
     alloc: Global,
@@ -40,13 +74,8 @@ fn reply_in(
     ensures same { world.new ≡ world.old }
     ensures reply { (before : List OneEvent) → Stands world.old before → IfOk result (λ r. option_to_list r ≡ chosen_replies keys.now (option_map (λ r. r.now) recipient.entry) (option_to_list (asked_by keys.now before (event_is.Ask request.now now)))) }
 {
-    let ask = ask_of(alloc, keys, request)?;
-    let seen = world.see(alloc, &ask)?;
-    if !is_chosen(recipient, &seen) {
-        return Ok(None);
-    }
-    let plan = plan_of(alloc, keys, request, now, &seen)?;
-    Ok(Some(reply_by(alloc, plan)?))
+    let seen = seen_by(alloc, keys, world, request)?;
+    chosen_reply(alloc, keys, request, now, recipient, &seen)
 }
 
 // The reply to an event, none where it is none of the recipient's requests.

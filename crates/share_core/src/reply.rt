@@ -116,6 +116,13 @@ fn text_of(alloc: Global, lines: &LinePlan<'_>) -> Result<Bytes, AllocError>
     Ok(Bytes::of(text))
 }
 
+fn lines_reply(alloc: Global, version: u64, lines: &LinePlan<'_>) -> Result<Reply, AllocError>
+    ensures { IfOk result (λ r. r ≡ sent (plan_is.Lines version lines.now)) }
+{
+    let text = text_of(alloc, lines)?;
+    Ok(given(Some(version), Body::Lines(text)))
+}
+
 /// The reply that a plan comes to. The error is want of memory.
 pub(crate) fn reply_by(alloc: Global, plan: Plan<'_>) -> Result<Reply, AllocError>
     ensures { IfOk result (λ r. r ≡ sent plan.entry) }
@@ -125,10 +132,7 @@ pub(crate) fn reply_by(alloc: Global, plan: Plan<'_>) -> Result<Reply, AllocErro
         Plan::Only(allowed) => only_reply(alloc, allowed),
         Plan::Json(text) => Ok(given(None, Body::Json(text))),
         Plan::Version(version) => Ok(given(Some(version), Body::Empty)),
-        Plan::Lines(version, lines) => {
-            let text = text_of(alloc, &lines)?;
-            Ok(given(Some(version), Body::Lines(text)))
-        }
+        Plan::Lines(version, lines) => lines_reply(alloc, version, &lines),
         Plan::File(name, span) => Ok(given(None, Body::File(name, span))),
     }
 }
