@@ -10,49 +10,49 @@ ghost use Rattle.share_catalog.specs.Catalogue.{refusal_of};
 use crate::catalog_turns::{
     Checked, Opened, Published, abort_in, begin_in, check_in, own_in, publish_in,
 };
-use crate::hub::{Hub, HubPass};
+use crate::hub::{Caller, HubPass};
 use share_book::{ReadyLog, SharedEdit};
 use share_catalog::Edit;
 use std::alloc::Global;
 use std::sync::Wait;
 use std::thread;
 
-impl Hub {
+impl<'a, R: Wait> Caller<'a, R> {
     // How many edits there are.
-    pub(crate) fn edit_count<R: Wait>(&self, rt: &R, pass: &mut HubPass) -> u64
-        requires cell { (pass.old.cell ≡ self.now) × (pass.old.holds ≡ false) }
+    pub(crate) fn edit_count(&self, pass: &mut HubPass) -> u64
+        requires cell { (pass.old.cell ≡ self.now.cell.now) × (pass.old.holds ≡ false) }
         ensures same { IsIdle pass.old pass.new }
         ensures added { Adds pass.old pass.new [] }
         ensures count { result ≡ length (edits pass.new.seen) }
     {
-        let turn = self.cell.take(rt, pass);
+        let turn = self.cell.take(self.rt, pass);
         let count = turn.value.edit_count();
         self.cell.give(pass, turn);
         count
     }
 
     // One turn, in which the Begin is added unless another is open.
-    fn try_begin<R: Wait>(&self, rt: &R, alloc: Global, pass: &mut HubPass) -> Opened
-        requires cell { (pass.old.cell ≡ self.now) × (pass.old.holds ≡ false) }
+    fn try_begin(&self, pass: &mut HubPass) -> Opened
+        requires cell { (pass.old.cell ≡ self.now.cell.now) × (pass.old.holds ≡ false) }
         ensures same { IsIdle pass.old pass.new }
         ensures begun { Begins result pass.old pass.new }
     {
         let number = pass.number();
-        let mut turn = self.cell.take(rt, pass);
-        let opened = begin_in(alloc, &mut turn.value, number);
+        let mut turn = self.cell.take(self.rt, pass);
+        let opened = begin_in(self.alloc, &mut turn.value, number);
         self.cell.give(pass, turn);
         opened
     }
 
     // Begins on the catalogue, and waits where another caller has begun. It answers how many edits there are, or None for
     // want of memory.
-    pub(crate) fn begin<R: Wait>(&self, rt: &R, alloc: Global, pass: &mut HubPass) -> Option<u64>
-        requires cell { (pass.old.cell ≡ self.now) × (pass.old.holds ≡ false) }
+    pub(crate) fn begin(&self, pass: &mut HubPass) -> Option<u64>
+        requires cell { (pass.old.cell ≡ self.now.cell.now) × (pass.old.holds ≡ false) }
         ensures same { IsIdle pass.old pass.new }
         ensures begun { Starts result pass.old pass.new }
     {
-        for _ in rt.forever() {
-            match self.try_begin(rt, alloc, pass) {
+        for _ in self.rt.forever() {
+            match self.try_begin(pass) {
                 Opened::Open(count) => return Some(count),
                 Opened::NoMemory => return None,
                 Opened::Held => thread::yield_now(),
@@ -62,27 +62,27 @@ impl Hub {
     }
 
     // Ends what the caller began.
-    pub(crate) fn abort<R: Wait>(&self, rt: &R, pass: &mut HubPass)
-        requires cell { (pass.old.cell ≡ self.now) × (pass.old.holds ≡ false) }
+    pub(crate) fn abort(&self, pass: &mut HubPass)
+        requires cell { (pass.old.cell ≡ self.now.cell.now) × (pass.old.holds ≡ false) }
         requires begun { open_on 0 pass.old.seen ≡ Some pass.old.number }
         ensures same { IsIdle pass.old pass.new }
         ensures ended { Stops pass.old pass.new [] None act.Abort }
     {
         let number = pass.number();
-        let mut turn = self.cell.take(rt, pass);
+        let mut turn = self.cell.take(self.rt, pass);
         turn.value.len();
         abort_in(&mut turn.value, number);
         self.cell.give(pass, turn);
     }
 
     // Whether an edit may be published.
-    pub(crate) fn check<R: Wait>(&self, rt: &R, pass: &mut HubPass, edit: &Edit) -> Checked
-        requires cell { (pass.old.cell ≡ self.now) × (pass.old.holds ≡ false) }
+    pub(crate) fn check(&self, pass: &mut HubPass, edit: &Edit) -> Checked
+        requires cell { (pass.old.cell ≡ self.now.cell.now) × (pass.old.holds ≡ false) }
         requires begun { open_on 0 pass.old.seen ≡ Some pass.old.number }
         ensures same { IsIdle pass.old pass.new }
         ensures checked { Checks result edit.now pass.old pass.new }
     {
-        let turn = self.cell.take(rt, pass);
+        let turn = self.cell.take(self.rt, pass);
         turn.value.len();
         let checked = check_in(&turn.value, edit);
         self.cell.give(pass, turn);
@@ -90,16 +90,14 @@ impl Hub {
     }
 
     // Publishes an edit that the store had. For want of memory the caller has ended what it began.
-    pub(crate) fn publish_found<R: Wait>(
+    pub(crate) fn publish_found(
         &self,
-        rt: &R,
-        alloc: Global,
         pass: &mut HubPass,
         edit: Edit,
         shared: SharedEdit,
         load: Option<ReadyLog>,
     ) -> Published
-        requires cell { (pass.old.cell ≡ self.now) × (pass.old.holds ≡ false) }
+        requires cell { (pass.old.cell ≡ self.now.cell.now) × (pass.old.holds ≡ false) }
         requires begun { open_on 0 pass.old.seen ≡ Some pass.old.number }
         requires same { shared ≡ edit }
         requires admitted { refusal_of (edits pass.old.seen) edit ≡ None }
@@ -108,23 +106,22 @@ impl Hub {
         ensures found { Finds result (record { load = load; edit = edit }) pass.old pass.new }
     {
         let number = pass.number();
-        let mut turn = self.cell.take(rt, pass);
+        let mut turn = self.cell.take(self.rt, pass);
         turn.value.len();
-        let published = publish_in(alloc, &mut turn.value, number, edit, shared, load);
+        let published = publish_in(self.alloc, &mut turn.value, number, edit, shared, load);
         self.cell.give(pass, turn);
         published
     }
 
     // Publishes the caller's own edit.
-    pub(crate) fn publish_own<R: Wait>(
+    pub(crate) fn publish_own(
         &self,
-        rt: &R,
         pass: &mut HubPass,
         edit: Edit,
         shared: SharedEdit,
         load: Option<ReadyLog>,
     )
-        requires cell { (pass.old.cell ≡ self.now) × (pass.old.holds ≡ false) }
+        requires cell { (pass.old.cell ≡ self.now.cell.now) × (pass.old.holds ≡ false) }
         requires begun { open_on 0 pass.old.seen ≡ Some pass.old.number }
         requires same { shared ≡ edit }
         requires admitted { refusal_of (edits pass.old.seen) edit ≡ None }
@@ -133,7 +130,7 @@ impl Hub {
         ensures ended { Stops pass.old pass.new [] load (act.OwnEdit edit) }
     {
         let number = pass.number();
-        let mut turn = self.cell.take(rt, pass);
+        let mut turn = self.cell.take(self.rt, pass);
         turn.value.len();
         own_in(&mut turn.value, number, edit, shared, load);
         self.cell.give(pass, turn);

@@ -17,7 +17,7 @@ ghost use Rattle.share_hub.specs.TableRounds.{HoldsHead};
 ghost use Rattle.share_hub.specs.TableTurns.{IsLog};
 
 use crate::admission::{admission, states_of};
-use crate::hub::{Hub, HubPass};
+use crate::hub::{Caller, Hub, HubPass};
 use crate::refresh::MOST_LOCATION;
 use crate::table_rounds::{LogEnd, LogHead, NextCommit};
 use crate::table_turns::KnownLog;
@@ -121,30 +121,27 @@ fn turned_down(refused: NotAdmitted) -> CommitRefusal
     }
 }
 
-impl Hub {
+impl<'a, R: Wait> Caller<'a, R> {
     // Ends what the caller began.
-    fn end_commit<R: Wait>(
+    fn end_commit(
         &self,
-        rt: &R,
         pass: &mut HubPass,
         log: u32,
         refusal: CommitRefusal,
     ) -> Option<Result<u64, CommitRefusal>>
-        requires cell { (pass.old.cell ≡ self.now) × (pass.old.holds ≡ false) }
+        requires cell { (pass.old.cell ≡ self.now.cell.now) × (pass.old.holds ≡ false) }
         requires begun { HoldsSome pass.old log }
         ensures same { IsIdle pass.old pass.new }
         ensures told { result ≡ Some (Err refusal) }
         ensures ended { StopsOn pass.old pass.new log [] (act.Abort ∷ []) }
     {
-        self.abort_log(rt, pass, log);
+        self.abort_log(pass, log);
         Some(Err(refusal))
     }
 
     // Puts a commit that the log takes as its next version, and publishes it.
-    fn place<R: Wait, W: Store>(
+    fn place<W: Store>(
         &self,
-        rt: &R,
-        alloc: Global,
         pass: &mut HubPass,
         store: &mut W,
         location: &Name,
@@ -152,7 +149,7 @@ impl Hub {
         head: &LogHead,
         commit: Commit,
     ) -> PlaceEnd
-        requires cell { (pass.old.cell ≡ self.now) × (pass.old.holds ≡ false) }
+        requires cell { (pass.old.cell ≡ self.now.cell.now) × (pass.old.holds ≡ false) }
         requires short { length location.now ≤ 256 }
         requires begun { HoldsHead pass.old log head.now }
         requires fits { There (table_on log pass.old.seen) (λ t. IsFit t.commits commit) }
@@ -163,21 +160,21 @@ impl Hub {
     {
         let len = text_len(&commit);
         if len > MOST_LOG_BYTES - head.bytes {
-            self.abort_log(rt, pass, log);
+            self.abort_log(pass, log);
             return PlaceEnd::Limit;
         }
-        let Ok(own) = prepare(alloc, location, head.support.versions(), commit) else {
-            self.abort_log(rt, pass, log);
+        let Ok(own) = prepare(self.alloc, location, head.support.versions(), commit) else {
+            self.abort_log(pass, log);
             return PlaceEnd::NoMemory;
         };
         match store.put_absent(&own.name, &own.bytes) {
             Put::Stored => {
-                self.own_commit(rt, pass, log, own.held, own.shared, len);
+                self.own_commit(pass, log, own.held, own.shared, len);
                 PlaceEnd::Done
             }
             Put::Exists => PlaceEnd::Exists,
             Put::Failed => {
-                self.abort_log(rt, pass, log);
+                self.abort_log(pass, log);
                 PlaceEnd::StoreFault
             }
         }
@@ -185,17 +182,15 @@ impl Hub {
 
     // The commit that the store has as the next version, since a put answered that it has one. Where it isn't found then, it
     // isn't kept.
-    fn again_on_log<R: Wait, W: Store>(
+    fn again_on_log<W: Store>(
         &self,
-        rt: &R,
-        alloc: Global,
         pass: &mut HubPass,
         store: &mut W,
         location: &Name,
         log: u32,
         head: &mut LogHead,
     ) -> Option<LogEnd>
-        requires cell { (pass.old.cell ≡ self.now) × (pass.old.holds ≡ false) }
+        requires cell { (pass.old.cell ≡ self.now.cell.now) × (pass.old.holds ≡ false) }
         requires short { length location.now ≤ 256 }
         requires begun { HoldsHead pass.old log head.old }
         requires exists { HasName (commit_name location.now head.old.support.versions) (W.objects store.old) }
@@ -204,10 +199,10 @@ impl Hub {
         ensures looked { Looked (W.objects store.old) (W.objects store.new) (W.alone store.old) (W.alone store.new) }
         ensures cause { Cause (W.faults store.old) (W.faults store.new) (failed_again result) }
     {
-        match self.next_commit(rt, alloc, pass, store, location, log, head) {
+        match self.next_commit(pass, store, location, log, head) {
             NextCommit::Found => None,
             NextCommit::Absent => {
-                self.block_log(rt, pass, log);
+                self.block_log(pass, log);
                 Some(LogEnd::Blocked)
             }
             NextCommit::End(end) => Some(end),
@@ -215,35 +210,31 @@ impl Hub {
     }
 
     // What the offer comes to after the commits of the log on which the caller has begun.
-    fn admit_next<R: Wait>(
+    fn admit_next(
         &self,
-        rt: &R,
-        alloc: Global,
         pass: &mut HubPass,
         now: CommitTime,
         offer: &Offer,
         log: u32,
     ) -> Result<Commit, NotAdmitted>
-        requires cell { (pass.old.cell ≡ self.now) × (pass.old.holds ≡ false) }
+        requires cell { (pass.old.cell ≡ self.now.cell.now) × (pass.old.holds ≡ false) }
         requires begun { HoldsSome pass.old log }
         ensures same { IsIdle pass.old pass.new }
         ensures goes { GoesOn pass.old pass.new log [] }
         ensures told { There (table_on log pass.old.seen) (λ t. Answers result (admitted t.commits now offer.now)) }
     {
-        let Ok(found) = self.offer_log(rt, alloc, pass, log, offer) else {
+        let Ok(found) = self.offer_log(pass, log, offer) else {
             return Err(NotAdmitted::NoMemory);
         };
-        let Ok(states) = states_of(alloc, &found) else {
+        let Ok(states) = states_of(self.alloc, &found) else {
             return Err(NotAdmitted::NoMemory);
         };
-        admission(alloc, &found, &states, now, offer)
+        admission(self.alloc, &found, &states, now, offer)
     }
 
     // The caller's own commit, where no further was there.
-    fn own_commit_round<R: Wait, W: Store>(
+    fn own_commit_round<W: Store>(
         &self,
-        rt: &R,
-        alloc: Global,
         pass: &mut HubPass,
         store: &mut W,
         now: CommitTime,
@@ -251,7 +242,7 @@ impl Hub {
         log: u32,
         head: &mut LogHead,
     ) -> Option<Result<u64, CommitRefusal>>
-        requires cell { (pass.old.cell ≡ self.now) × (pass.old.holds ≡ false) }
+        requires cell { (pass.old.cell ≡ self.now.cell.now) × (pass.old.holds ≡ false) }
         requires short { length offer.now.location ≤ 256 }
         requires begun { HoldsHead pass.old log head.old }
         requires absent { There (table_on log pass.old.seen) (λ t. LacksNext offer.now (W.objects store.old) t.commits) }
@@ -261,20 +252,12 @@ impl Hub {
         ensures cause { Cause (W.faults store.old) (W.faults store.new) (failed_round result) }
     {
         let version = head.support.versions();
-        match self.admit_next(rt, alloc, pass, now, offer, log) {
+        match self.admit_next(pass, now, offer, log) {
             Ok(commit) => {
-                match self.place(rt, alloc, pass, store, &offer.location, log, head, commit) {
+                match self.place(pass, store, &offer.location, log, head, commit) {
                     PlaceEnd::Done => Some(Ok(version)),
                     PlaceEnd::Exists => {
-                        match self.again_on_log(
-                            rt,
-                            alloc,
-                            pass,
-                            store,
-                            &offer.location,
-                            log,
-                            head,
-                        ) {
+                        match self.again_on_log(pass, store, &offer.location, log, head) {
                             None => None,
                             Some(end) => Some(Err(refused(end, version))),
                         }
@@ -284,15 +267,13 @@ impl Hub {
                     PlaceEnd::NoMemory => Some(Err(CommitRefusal::NoMemory)),
                 }
             }
-            Err(refused) => self.end_commit(rt, pass, log, turned_down(refused)),
+            Err(refused) => self.end_commit(pass, log, turned_down(refused)),
         }
     }
 
     // One commit more of the store's, or the caller's own.
-    fn commit_round<R: Wait, W: Store>(
+    fn commit_round<W: Store>(
         &self,
-        rt: &R,
-        alloc: Global,
         pass: &mut HubPass,
         store: &mut W,
         now: CommitTime,
@@ -300,7 +281,7 @@ impl Hub {
         log: u32,
         head: &mut LogHead,
     ) -> Option<Result<u64, CommitRefusal>>
-        requires cell { (pass.old.cell ≡ self.now) × (pass.old.holds ≡ false) }
+        requires cell { (pass.old.cell ≡ self.now.cell.now) × (pass.old.holds ≡ false) }
         requires short { length offer.now.location ≤ 256 }
         requires begun { HoldsHead pass.old log head.old }
         ensures same { IsIdle pass.old pass.new }
@@ -309,20 +290,16 @@ impl Hub {
         ensures cause { Cause (W.faults store.old) (W.faults store.new) (failed_round result) }
     {
         let version = head.support.versions();
-        match self.next_commit(rt, alloc, pass, store, &offer.location, log, head) {
+        match self.next_commit(pass, store, &offer.location, log, head) {
             NextCommit::Found => None,
-            NextCommit::Absent => {
-                self.own_commit_round(rt, alloc, pass, store, now, offer, log, head)
-            }
+            NextCommit::Absent => { self.own_commit_round(pass, store, now, offer, log, head) }
             NextCommit::End(end) => Some(Err(refused(end, version))),
         }
     }
 
     // Up to 64 rounds.
-    fn commit_rounds<R: Wait, W: Store>(
+    fn commit_rounds<W: Store>(
         &self,
-        rt: &R,
-        alloc: Global,
         pass: &mut HubPass,
         store: &mut W,
         now: CommitTime,
@@ -330,7 +307,7 @@ impl Hub {
         log: u32,
         head: &mut LogHead,
     ) -> Result<u64, CommitRefusal>
-        requires cell { (pass.old.cell ≡ self.now) × (pass.old.holds ≡ false) }
+        requires cell { (pass.old.cell ≡ self.now.cell.now) × (pass.old.holds ≡ false) }
         requires short { length offer.now.location ≤ 256 }
         requires begun { HoldsHead pass.old log head.old }
         ensures same { IsIdle pass.old pass.new }
@@ -339,20 +316,18 @@ impl Hub {
         ensures cause { Cause (W.faults store.old) (W.faults store.new) (failed_commit result) }
     {
         for found in 0..64u32 {
-            match self.commit_round(rt, alloc, pass, store, now, offer, log, head) {
+            match self.commit_round(pass, store, now, offer, log, head) {
                 None => {}
                 Some(end) => return end,
             }
         }
-        self.abort_log(rt, pass, log);
+        self.abort_log(pass, log);
         Err(CommitRefusal::Contended)
     }
 
     // A commit that has begun.
-    fn commit_open<R: Wait, W: Store>(
+    fn commit_open<W: Store>(
         &self,
-        rt: &R,
-        alloc: Global,
         pass: &mut HubPass,
         store: &mut W,
         now: CommitTime,
@@ -360,7 +335,7 @@ impl Hub {
         log: u32,
         state: LogState,
     ) -> Result<u64, CommitRefusal>
-        requires cell { (pass.old.cell ≡ self.now) × (pass.old.holds ≡ false) }
+        requires cell { (pass.old.cell ≡ self.now.cell.now) × (pass.old.holds ≡ false) }
         requires short { length offer.now.location ≤ 256 }
         requires opened { OpensOn pass.old log state }
         ensures same { IsIdle pass.old pass.new }
@@ -370,15 +345,13 @@ impl Hub {
     {
         match state.block {
             Some(version) => {
-                self.abort_log(rt, pass, log);
+                self.abort_log(pass, log);
                 Err(CommitRefusal::Blocked { version })
             }
-            None => match self.log_head(rt, alloc, pass, log, state) {
-                Ok(mut head) => {
-                    self.commit_rounds(rt, alloc, pass, store, now, offer, log, &mut head)
-                }
+            None => match self.log_head(pass, log, state) {
+                Ok(mut head) => { self.commit_rounds(pass, store, now, offer, log, &mut head) }
                 Err(_) => {
-                    self.abort_log(rt, pass, log);
+                    self.abort_log(pass, log);
                     Err(CommitRefusal::NoMemory)
                 }
             },
@@ -386,17 +359,15 @@ impl Hub {
     }
 
     // Begins on a log.
-    fn commit_log<R: Wait, W: Store>(
+    fn commit_log<W: Store>(
         &self,
-        rt: &R,
-        alloc: Global,
         pass: &mut HubPass,
         store: &mut W,
         now: CommitTime,
         offer: &Offer,
         log: u32,
     ) -> Result<u64, CommitRefusal>
-        requires cell { (pass.old.cell ≡ self.now) × (pass.old.holds ≡ false) }
+        requires cell { (pass.old.cell ≡ self.now.cell.now) × (pass.old.holds ≡ false) }
         requires short { length offer.now.location ≤ 256 }
         requires there { IsLog log pass.old.seen }
         ensures same { IsIdle pass.old pass.new }
@@ -404,12 +375,14 @@ impl Hub {
         ensures store { CommitLeft result now offer.now log (W.objects store.old) (W.objects store.new) (W.alone store.old) (W.alone store.new) pass.new }
         ensures cause { Cause (W.faults store.old) (W.faults store.new) (failed_commit result) }
     {
-        match self.begin_log(rt, pass, log) {
-            Some(state) => { self.commit_open(rt, alloc, pass, store, now, offer, log, state) }
+        match self.begin_log(pass, log) {
+            Some(state) => { self.commit_open(pass, store, now, offer, log, state) }
             None => Err(CommitRefusal::NoMemory),
         }
     }
+}
 
+impl Hub {
     /// Adds the commit of an offer to a table's log, as its next version, and answers the version: a commitInfo of the moment
     /// `now`, and then the offer's actions. Where another caller has begun on the log, it waits.
     ///
@@ -436,10 +409,9 @@ impl Hub {
         if offer.location.as_str().len() > MOST_LOCATION {
             return Err(CommitRefusal::NotLoaded);
         }
-        match self.find_log(rt, pass, offer.location.as_str()) {
-            Some(KnownLog { log, .. }) => {
-                self.commit_log(rt, alloc, pass, store, now, offer, log)
-            }
+        let caller = self.caller(rt, alloc);
+        match caller.find_log(pass, offer.location.as_str()) {
+            Some(KnownLog { log, .. }) => caller.commit_log(pass, store, now, offer, log),
             None => Err(CommitRefusal::NotLoaded),
         }
     }

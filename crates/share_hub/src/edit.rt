@@ -16,7 +16,7 @@ ghost use Rattle.share_hub.specs.Rounds.{OwnRounds, RoundStore, Rounds, RunsOn, 
 ghost use Rattle.share_hub.specs.declared.edit.Round.TheVariants as round;
 
 use crate::found::{CatalogRefusal, Next};
-use crate::hub::{Hub, HubPass};
+use crate::hub::{Caller, Hub, HubPass};
 use crate::new_log::Allowed;
 use catalog_log::{bytes_of_edit, record_name};
 use edge_core::{Name, Put, Store};
@@ -104,31 +104,29 @@ fn failed(refusal: LoadRefusal) -> EditEnd
     }
 }
 
-impl Hub {
+impl<'a, R: Wait> Caller<'a, R> {
     // Ends what the caller began.
-    fn end_edit<R: Wait>(&self, rt: &R, pass: &mut HubPass, end: EditEnd) -> Round
-        requires cell { (pass.old.cell ≡ self.now) × (pass.old.holds ≡ false) }
+    fn end_edit(&self, pass: &mut HubPass, end: EditEnd) -> Round
+        requires cell { (pass.old.cell ≡ self.now.cell.now) × (pass.old.holds ≡ false) }
         requires begun { open_on 0 pass.old.seen ≡ Some pass.old.number }
         ensures same { IsIdle pass.old pass.new }
         ensures ended { (result ≡ round.End end) × Stops pass.old pass.new [] None act.Abort }
     {
-        self.abort(rt, pass);
+        self.abort(pass);
         Round::End(end)
     }
 
     // Puts the record of an edit that may be added, and publishes the edit after the log that it needs. That log is lent, and taken
     // where the record was stored.
-    fn put_own<R: Wait, W: Store>(
+    fn put_own<W: Store>(
         &self,
-        rt: &R,
-        alloc: Global,
         pass: &mut HubPass,
         store: &mut W,
         edit: &Edit,
         load: &mut Option<ReadyLog>,
         number: u64,
     ) -> Tried
-        requires cell { (pass.old.cell ≡ self.now) × (pass.old.holds ≡ false) }
+        requires cell { (pass.old.cell ≡ self.now.cell.now) × (pass.old.holds ≡ false) }
         requires begun { HasBegun pass.old number }
         requires admitted { refusal_of (edits pass.old.seen) edit.now ≡ None }
         requires fits { LoadFits pass.old.seen edit.now load.old }
@@ -137,34 +135,26 @@ impl Hub {
         ensures store { TriedStore result edit.now number (W.objects store.old) (W.objects store.new) (W.alone store.old) (W.alone store.new) pass.new }
         ensures cause { Cause (W.faults store.old) (W.faults store.new) (failed_tried result) }
     {
-        let Ok(own) = prepare(alloc, edit, number) else {
-            self.abort(rt, pass);
+        let Ok(own) = prepare(self.alloc, edit, number) else {
+            self.abort(pass);
             return Tried::NoMemory;
         };
         match store.put_absent(&own.name, &own.bytes) {
             Put::Stored => {
-                self.publish_own(rt, pass, own.edit, own.shared, load.take());
+                self.publish_own(pass, own.edit, own.shared, load.take());
                 Tried::Done
             }
             Put::Exists => Tried::Exists,
             Put::Failed => {
-                self.abort(rt, pass);
+                self.abort(pass);
                 Tried::StoreFault
             }
         }
     }
 
     // The record that the store has, since a put answered that it has one.
-    fn again<R: Wait, W: Store>(
-        &self,
-        rt: &R,
-        alloc: Global,
-        pass: &mut HubPass,
-        store: &mut W,
-        edit: &Edit,
-        number: u64,
-    ) -> Round
-        requires cell { (pass.old.cell ≡ self.now) × (pass.old.holds ≡ false) }
+    fn again<W: Store>(&self, pass: &mut HubPass, store: &mut W, edit: &Edit, number: u64) -> Round
+        requires cell { (pass.old.cell ≡ self.now.cell.now) × (pass.old.holds ≡ false) }
         requires begun { HasBegun pass.old number }
         requires exists { IfSome (W.objects store.old) (λ os. IsSome (finmap.get os (record_name_of number))) }
         ensures same { IsIdle pass.old pass.new }
@@ -172,25 +162,23 @@ impl Hub {
         ensures store { RoundStore result edit.now number (W.objects store.old) (W.objects store.new) (W.alone store.old) (W.alone store.new) pass.new }
         ensures cause { Cause (W.faults store.old) (W.faults store.new) (failed_round result) }
     {
-        match self.next_record(rt, alloc, pass, store, number) {
+        match self.next_record(pass, store, number) {
             Next::Found(count) => Round::Found(count),
-            Next::Absent => self.end_edit(rt, pass, EditEnd::CatalogBlocked { number }),
+            Next::Absent => self.end_edit(pass, EditEnd::CatalogBlocked { number }),
             Next::End(refusal) => Round::End(end_of(refusal)),
         }
     }
 
     // The caller's own record, or the one that the store has instead.
-    fn own<R: Wait, W: Store>(
+    fn own<W: Store>(
         &self,
-        rt: &R,
-        alloc: Global,
         pass: &mut HubPass,
         store: &mut W,
         edit: &Edit,
         load: &mut Option<ReadyLog>,
         number: u64,
     ) -> Round
-        requires cell { (pass.old.cell ≡ self.now) × (pass.old.holds ≡ false) }
+        requires cell { (pass.old.cell ≡ self.now.cell.now) × (pass.old.holds ≡ false) }
         requires begun { HasBegun pass.old number }
         requires admitted { refusal_of (edits pass.old.seen) edit.now ≡ None }
         requires fits { LoadFits pass.old.seen edit.now load.old }
@@ -199,25 +187,23 @@ impl Hub {
         ensures store { RoundStore result edit.now number (W.objects store.old) (W.objects store.new) (W.alone store.old) (W.alone store.new) pass.new }
         ensures cause { Cause (W.faults store.old) (W.faults store.new) (failed_round result) }
     {
-        match self.put_own(rt, alloc, pass, store, edit, load, number) {
+        match self.put_own(pass, store, edit, load, number) {
             Tried::Done => Round::Done,
-            Tried::Exists => self.again(rt, alloc, pass, store, edit, number),
+            Tried::Exists => self.again(pass, store, edit, number),
             Tried::StoreFault => Round::End(EditEnd::StoreFault),
             Tried::NoMemory => Round::End(EditEnd::NoMemory),
         }
     }
 
     // The caller's own record, where no other is there.
-    fn own_round<R: Wait, W: Store>(
+    fn own_round<W: Store>(
         &self,
-        rt: &R,
-        alloc: Global,
         pass: &mut HubPass,
         store: &mut W,
         edit: &Edit,
         number: u64,
     ) -> Round
-        requires cell { (pass.old.cell ≡ self.now) × (pass.old.holds ≡ false) }
+        requires cell { (pass.old.cell ≡ self.now.cell.now) × (pass.old.holds ≡ false) }
         requires begun { HasBegun pass.old number }
         requires absent { Lacks (record_name_of number) (W.objects store.old) }
         ensures same { IsIdle pass.old pass.new }
@@ -225,48 +211,38 @@ impl Hub {
         ensures store { RoundStore result edit.now number (W.objects store.old) (W.objects store.new) (W.alone store.old) (W.alone store.new) pass.new }
         ensures cause { Cause (W.faults store.old) (W.faults store.new) (failed_round result) }
     {
-        match self.allow(rt, alloc, pass, store, edit) {
-            Allowed::Fits(mut load) => { self.own(rt, alloc, pass, store, edit, &mut load, number) }
-            Allowed::Refused(refusal) => self.end_edit(rt, pass, EditEnd::Refused(refusal)),
-            Allowed::Failed(refusal) => self.end_edit(rt, pass, failed(refusal)),
+        match self.allow(pass, store, edit) {
+            Allowed::Fits(mut load) => { self.own(pass, store, edit, &mut load, number) }
+            Allowed::Refused(refusal) => self.end_edit(pass, EditEnd::Refused(refusal)),
+            Allowed::Failed(refusal) => self.end_edit(pass, failed(refusal)),
         }
     }
 
     // One record more of the store's, or the caller's own.
-    fn round<R: Wait, W: Store>(
-        &self,
-        rt: &R,
-        alloc: Global,
-        pass: &mut HubPass,
-        store: &mut W,
-        edit: &Edit,
-        number: u64,
-    ) -> Round
-        requires cell { (pass.old.cell ≡ self.now) × (pass.old.holds ≡ false) }
+    fn round<W: Store>(&self, pass: &mut HubPass, store: &mut W, edit: &Edit, number: u64) -> Round
+        requires cell { (pass.old.cell ≡ self.now.cell.now) × (pass.old.holds ≡ false) }
         requires begun { HasBegun pass.old number }
         ensures same { IsIdle pass.old pass.new }
         ensures round { Rounds result edit.now number (W.objects store.old) (W.objects store.new) pass.old pass.new }
         ensures store { RoundStore result edit.now number (W.objects store.old) (W.objects store.new) (W.alone store.old) (W.alone store.new) pass.new }
         ensures cause { Cause (W.faults store.old) (W.faults store.new) (failed_round result) }
     {
-        match self.next_record(rt, alloc, pass, store, number) {
+        match self.next_record(pass, store, number) {
             Next::Found(count) => Round::Found(count),
-            Next::Absent => self.own_round(rt, alloc, pass, store, edit, number),
+            Next::Absent => self.own_round(pass, store, edit, number),
             Next::End(refusal) => Round::End(end_of(refusal)),
         }
     }
 
     // Up to 64 rounds.
-    fn rounds<R: Wait, W: Store>(
+    fn rounds<W: Store>(
         &self,
-        rt: &R,
-        alloc: Global,
         pass: &mut HubPass,
         store: &mut W,
         edit: &Edit,
         first: u64,
     ) -> Result<u64, EditEnd>
-        requires cell { (pass.old.cell ≡ self.now) × (pass.old.holds ≡ false) }
+        requires cell { (pass.old.cell ≡ self.now.cell.now) × (pass.old.holds ≡ false) }
         requires begun { HasBegun pass.old first }
         ensures same { IsIdle pass.old pass.new }
         ensures run { RunsOn result edit.now (W.objects store.old) (W.objects store.new) pass.old pass.new }
@@ -275,16 +251,18 @@ impl Hub {
     {
         let mut number = first;
         for turn in 0..64u32 {
-            match self.round(rt, alloc, pass, store, edit, number) {
+            match self.round(pass, store, edit, number) {
                 Round::Found(count) => number = count,
                 Round::Done => return Ok(number),
                 Round::End(end) => return Err(end),
             }
         }
-        self.abort(rt, pass);
+        self.abort(pass);
         Err(EditEnd::Contended)
     }
+}
 
+impl Hub {
     /// Makes an edit of the catalogue as the next record of the store, and answers the record's number. Where another caller
     /// has begun on the catalogue, it waits.
     ///
@@ -306,8 +284,9 @@ impl Hub {
         ensures store { Leaves result edit.now (W.objects store.old) (W.objects store.new) (W.alone store.old) (W.alone store.new) pass.new }
         ensures cause { Cause (W.faults store.old) (W.faults store.new) (failed_edit result) }
     {
-        match self.begin(rt, alloc, pass) {
-            Some(first) => self.rounds(rt, alloc, pass, store, edit, first),
+        let caller = self.caller(rt, alloc);
+        match caller.begin(pass) {
+            Some(first) => caller.rounds(pass, store, edit, first),
             None => Err(EditEnd::NoMemory),
         }
     }

@@ -14,7 +14,7 @@ ghost use Rattle.share_hub.specs.Rounds.{Nexts, PublishesNext, failed_next, refu
 ghost use Rattle.share_hub.specs.declared.found.Next.TheVariants as next;
 
 use crate::catalog_turns::Published;
-use crate::hub::{Hub, HubPass};
+use crate::hub::{Caller, HubPass};
 use crate::new_log::{Allowed, allow};
 use crate::record::{Read, read_record};
 use edge_core::Store;
@@ -56,17 +56,10 @@ pub fn refused(refusal: LoadRefusal) -> CatalogRefusal
     }
 }
 
-impl Hub {
+impl<'a, R: Wait> Caller<'a, R> {
     // Whether an edit may be published, and the log that it needs, which is loaded outside the turn.
-    pub(crate) fn allow<R: Wait, W: Store>(
-        &self,
-        rt: &R,
-        alloc: Global,
-        pass: &mut HubPass,
-        store: &mut W,
-        edit: &Edit,
-    ) -> Allowed
-        requires cell { (pass.old.cell ≡ self.now) × (pass.old.holds ≡ false) }
+    pub(crate) fn allow<W: Store>(&self, pass: &mut HubPass, store: &mut W, edit: &Edit) -> Allowed
+        requires cell { (pass.old.cell ≡ self.now.cell.now) × (pass.old.holds ≡ false) }
         requires begun { open_on 0 pass.old.seen ≡ Some pass.old.number }
         ensures same { IsIdle pass.old pass.new }
         ensures goes { Goes pass.old pass.new [] }
@@ -74,57 +67,42 @@ impl Hub {
         ensures looked { Looked (W.objects store.old) (W.objects store.new) (W.alone store.old) (W.alone store.new) }
         ensures cause { Cause (W.faults store.old) (W.faults store.new) (failed_allowed result) }
     {
-        let checked = self.check(rt, pass, edit);
-        allow(alloc, store, edit, checked)
+        let checked = self.check(pass, edit);
+        allow(self.alloc, store, edit, checked)
     }
 
     // Ends what the caller began.
-    fn end<R: Wait>(&self, rt: &R, pass: &mut HubPass, refusal: CatalogRefusal) -> Next
-        requires cell { (pass.old.cell ≡ self.now) × (pass.old.holds ≡ false) }
+    fn end(&self, pass: &mut HubPass, refusal: CatalogRefusal) -> Next
+        requires cell { (pass.old.cell ≡ self.now.cell.now) × (pass.old.holds ≡ false) }
         requires begun { open_on 0 pass.old.seen ≡ Some pass.old.number }
         ensures same { IsIdle pass.old pass.new }
         ensures ended { (result ≡ next.End refusal) × Stops pass.old pass.new [] None act.Abort }
     {
-        self.abort(rt, pass);
+        self.abort(pass);
         Next::End(refusal)
     }
 
     // Publishes an edit that the store had, after the log that it needs.
-    fn publish<R: Wait>(
-        &self,
-        rt: &R,
-        alloc: Global,
-        pass: &mut HubPass,
-        edit: Edit,
-        load: Option<ReadyLog>,
-    ) -> Next
-        requires cell { (pass.old.cell ≡ self.now) × (pass.old.holds ≡ false) }
+    fn publish(&self, pass: &mut HubPass, edit: Edit, load: Option<ReadyLog>) -> Next
+        requires cell { (pass.old.cell ≡ self.now.cell.now) × (pass.old.holds ≡ false) }
         requires begun { open_on 0 pass.old.seen ≡ Some pass.old.number }
         requires admitted { refusal_of (edits pass.old.seen) edit ≡ None }
         requires fits { LoadFits pass.old.seen edit load }
         ensures same { IsIdle pass.old pass.new }
         ensures published { PublishesNext result (record { load = load; edit = edit }) pass.old pass.new }
     {
-        let Ok(held) = SharedEdit::copied(alloc, &edit) else {
-            return self.end(rt, pass, CatalogRefusal::NoMemory);
+        let Ok(held) = SharedEdit::copied(self.alloc, &edit) else {
+            return self.end(pass, CatalogRefusal::NoMemory);
         };
-        match self.publish_found(rt, alloc, pass, edit, held, load) {
+        match self.publish_found(pass, edit, held, load) {
             Published::Open(count) => Next::Found(count),
             Published::NoMemory => Next::End(CatalogRefusal::NoMemory),
         }
     }
 
     // Publishes a record that the store has.
-    fn found<R: Wait, W: Store>(
-        &self,
-        rt: &R,
-        alloc: Global,
-        pass: &mut HubPass,
-        store: &mut W,
-        edit: Edit,
-        number: u64,
-    ) -> Next
-        requires cell { (pass.old.cell ≡ self.now) × (pass.old.holds ≡ false) }
+    fn found<W: Store>(&self, pass: &mut HubPass, store: &mut W, edit: Edit, number: u64) -> Next
+        requires cell { (pass.old.cell ≡ self.now.cell.now) × (pass.old.holds ≡ false) }
         requires begun { HasBegun pass.old number }
         requires stored { HasRecord (W.objects store.old) number edit }
         ensures same { IsIdle pass.old pass.new }
@@ -132,34 +110,32 @@ impl Hub {
         ensures looked { Looked (W.objects store.old) (W.objects store.new) (W.alone store.old) (W.alone store.new) }
         ensures cause { Cause (W.faults store.old) (W.faults store.new) (failed_next result) }
     {
-        match self.allow(rt, alloc, pass, store, &edit) {
-            Allowed::Fits(load) => self.publish(rt, alloc, pass, edit, load),
-            Allowed::Refused(_) => self.end(rt, pass, CatalogRefusal::Blocked { number }),
-            Allowed::Failed(refusal) => self.end(rt, pass, refused(refusal)),
+        match self.allow(pass, store, &edit) {
+            Allowed::Fits(load) => self.publish(pass, edit, load),
+            Allowed::Refused(_) => self.end(pass, CatalogRefusal::Blocked { number }),
+            Allowed::Failed(refusal) => self.end(pass, refused(refusal)),
         }
     }
 
     // Publishes the record of that number, where the store has one.
-    pub(crate) fn next_record<R: Wait, W: Store>(
+    pub(crate) fn next_record<W: Store>(
         &self,
-        rt: &R,
-        alloc: Global,
         pass: &mut HubPass,
         store: &mut W,
         number: u64,
     ) -> Next
-        requires cell { (pass.old.cell ≡ self.now) × (pass.old.holds ≡ false) }
+        requires cell { (pass.old.cell ≡ self.now.cell.now) × (pass.old.holds ≡ false) }
         requires begun { HasBegun pass.old number }
         ensures same { IsIdle pass.old pass.new }
         ensures next { Nexts result number (W.objects store.old) (W.objects store.new) pass.old pass.new }
         ensures looked { Looked (W.objects store.old) (W.objects store.new) (W.alone store.old) (W.alone store.new) }
         ensures cause { Cause (W.faults store.old) (W.faults store.new) (failed_next result) }
     {
-        match read_record(alloc, store, number) {
-            Ok(Read::Edit(edit)) => self.found(rt, alloc, pass, store, edit, number),
+        match read_record(self.alloc, store, number) {
+            Ok(Read::Edit(edit)) => self.found(pass, store, edit, number),
             Ok(Read::Absent) => Next::Absent,
-            Ok(Read::Bad(_)) => self.end(rt, pass, CatalogRefusal::Blocked { number }),
-            Err(refusal) => self.end(rt, pass, refused(refusal)),
+            Ok(Read::Bad(_)) => self.end(pass, CatalogRefusal::Blocked { number }),
+            Err(refusal) => self.end(pass, refused(refusal)),
         }
     }
 }

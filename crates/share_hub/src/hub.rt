@@ -1,5 +1,8 @@
 // The hub.
+ghost use Rattle.std.specs.Prelude.{◌≡◌};
+
 use share_book::Book;
+use std::alloc::Global;
 use std::marker::Model;
 use turn_cell::{Pass, TurnCell};
 
@@ -10,6 +13,27 @@ pub type HubPass = Pass<Book>;
 #[derive(Drop)]
 pub struct Hub {
     pub(crate) cell: TurnCell<Book>,
+}
+
+// The hub as one caller uses it: its cell, the handle with which the caller waits for its turns, and the memory that it takes.
+#[derive(Drop)]
+pub(crate) struct Caller<'a, R> {
+    pub cell: &'a TurnCell<Book>,
+    pub rt: &'a R,
+    pub alloc: Global,
+}
+
+impl Hub {
+    // The hub as the caller with this handle and this memory uses it.
+    pub(crate) fn caller<'a, R>(&'a self, rt: &'a R, alloc: Global) -> Caller<'a, R>
+        ensures { result.cell.now ≡ self.now }
+    {
+        Caller {
+            cell: &self.cell,
+            rt,
+            alloc,
+        }
+    }
 }
 
 impl Model for Hub {

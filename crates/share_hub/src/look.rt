@@ -6,11 +6,31 @@ ghost use Rattle.share_book.specs.Views.{view_by};
 ghost use Rattle.share_hub.specs.Calls.{Adds, IsIdle};
 ghost use Rattle.share_hub.specs.Replays.{Replayed};
 
-use crate::hub::{Hub, HubPass};
+use crate::hub::{Caller, Hub, HubPass};
 use share_book::{Ask, Look, Pinned};
 use std::alloc::{AllocError, Global};
 use std::sync::Wait;
 use step_count::Steps;
+
+impl<'a, R: Wait> Caller<'a, R> {
+    // What a further turn gives of a look, in which the state of the files that were found is kept. One that finds no memory isn't.
+    fn keep_and_pin(&self, pass: &mut HubPass, ask: &Ask, look: &Look) -> Result<Pinned, AllocError>
+        requires cell { (pass.old.cell ≡ self.now.cell.now) × (pass.old.holds ≡ false) }
+        requires found { IfSome look.now.seen (λ s. FilesStand pass.old.seen s.found) }
+        ensures same { IsIdle pass.old pass.new }
+        ensures added { Adds pass.old pass.new [] }
+        ensures at { IfOk result (λ p. p.look.at ≡ length pass.new.seen) }
+        ensures seen { IfOk result (λ p. p.look.seen ≡ glance_of (view_by pass.new.seen (who_of ask.now.who)) ask.now.want) }
+        ensures makes { IfOk result (λ p. MakesFound (commits_of (view_by pass.new.seen (who_of ask.now.who)) ask.now.want) p.replay) }
+        ensures fits { IfOk result (λ p. IfSome p.replay CanReplay) }
+    {
+        let mut turn = self.cell.take(self.rt, pass);
+        turn.value.keep(look).ok();
+        let pinned = turn.value.pin(self.alloc, ask);
+        self.cell.give(pass, turn);
+        pinned
+    }
+}
 
 impl Hub {
     /// What one turn gives of a look: all of it but the files, and what makes these. The state with which they begin is the one used
@@ -35,31 +55,6 @@ impl Hub {
         if let Ok(pinned) = &pinned {
             turn.value.touch(pinned);
         }
-        self.cell.give(pass, turn);
-        pinned
-    }
-
-    // What a further turn gives of it, in which the state of the files that were found is kept. A state that finds no memory isn't.
-    fn keep_and_pin<R: Wait>(
-        &self,
-        rt: &R,
-        alloc: Global,
-        pass: &mut HubPass,
-        ask: &Ask,
-        look: &Look,
-    ) -> Result<Pinned, AllocError>
-        requires cell { (pass.old.cell ≡ self.now) × (pass.old.holds ≡ false) }
-        requires found { IfSome look.now.seen (λ s. FilesStand pass.old.seen s.found) }
-        ensures same { IsIdle pass.old pass.new }
-        ensures added { Adds pass.old pass.new [] }
-        ensures at { IfOk result (λ p. p.look.at ≡ length pass.new.seen) }
-        ensures seen { IfOk result (λ p. p.look.seen ≡ glance_of (view_by pass.new.seen (who_of ask.now.who)) ask.now.want) }
-        ensures makes { IfOk result (λ p. MakesFound (commits_of (view_by pass.new.seen (who_of ask.now.who)) ask.now.want) p.replay) }
-        ensures fits { IfOk result (λ p. IfSome p.replay CanReplay) }
-    {
-        let mut turn = self.cell.take(rt, pass);
-        turn.value.keep(look).ok();
-        let pinned = turn.value.pin(alloc, ask);
         self.cell.give(pass, turn);
         pinned
     }
@@ -91,7 +86,8 @@ impl Hub {
         if !is_behind {
             return Ok(look);
         }
-        let pinned = self.keep_and_pin(rt, alloc, pass, ask, &look)?;
+        let caller = self.caller(rt, alloc);
+        let pinned = caller.keep_and_pin(pass, ask, &look)?;
         pinned.complete(alloc, steps)
     }
 }

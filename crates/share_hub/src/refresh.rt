@@ -10,7 +10,7 @@ ghost use Rattle.share_hub.specs.RefreshRounds.{OpensOn, RefreshRuns, RefreshesO
 ghost use Rattle.share_hub.specs.TableRounds.{HoldsHead};
 ghost use Rattle.share_hub.specs.TableTurns.{IsLog};
 
-use crate::hub::{Hub, HubPass};
+use crate::hub::{Caller, Hub, HubPass};
 use crate::table_rounds::{LogEnd, LogHead, NextCommit, VersionObject, has_version};
 use crate::table_turns::KnownLog;
 use edge_core::{Name, Store};
@@ -78,32 +78,30 @@ fn ended(end: LogEnd, kept: u64, found: u32) -> Result<Refreshed, RefreshRefusal
     }
 }
 
-impl Hub {
+impl<'a, R: Wait> Caller<'a, R> {
     // What is known of a log for its next version. The state after its commits is kept for the next time. The error is want of memory.
-    pub(crate) fn log_head<R: Wait>(
+    pub(crate) fn log_head(
         &self,
-        rt: &R,
-        alloc: Global,
         pass: &mut HubPass,
         log: u32,
         state: LogState,
     ) -> Result<LogHead, AllocError>
-        requires cell { (pass.old.cell ≡ self.now) × (pass.old.holds ≡ false) }
+        requires cell { (pass.old.cell ≡ self.now.cell.now) × (pass.old.holds ≡ false) }
         requires opened { OpensOn pass.old log state }
         requires free { state.block ≡ None }
         ensures same { IsIdle pass.old pass.new }
         ensures goes { GoesOn pass.old pass.new log [] }
         ensures head { IfOk result (λ h. HoldsHead pass.new log h) }
     {
-        let Some(replay) = self.log_replay(rt, alloc, pass, log)? else {
+        let Some(replay) = self.log_replay(pass, log)? else {
             return Ok(LogHead {
                 support: Support::new(),
                 bytes: state.bytes,
             });
         };
-        let head = replay.made(alloc)?;
-        self.keep_made(rt, pass, log, &replay, &head);
-        let support = Support::of(alloc, head.get())?;
+        let head = replay.made(self.alloc)?;
+        self.keep_made(pass, log, &replay, &head);
+        let support = Support::of(self.alloc, head.get())?;
         Ok(LogHead {
             support,
             bytes: state.bytes,
@@ -111,17 +109,15 @@ impl Hub {
     }
 
     // Up to 64 found commits. The head is lent: one that is owned here would be dropped where each round may end.
-    fn refresh_rounds<R: Wait, W: Store>(
+    fn refresh_rounds<W: Store>(
         &self,
-        rt: &R,
-        alloc: Global,
         pass: &mut HubPass,
         store: &mut W,
         location: &Name,
         log: u32,
         head: &mut LogHead,
     ) -> Result<Refreshed, RefreshRefusal>
-        requires cell { (pass.old.cell ≡ self.now) × (pass.old.holds ≡ false) }
+        requires cell { (pass.old.cell ≡ self.now.cell.now) × (pass.old.holds ≡ false) }
         requires short { length location.now ≤ 256 }
         requires begun { HoldsHead pass.old log head.old }
         ensures same { IsIdle pass.old pass.new }
@@ -131,10 +127,10 @@ impl Hub {
     {
         for found in 0..64u32 {
             let kept = head.support.versions();
-            match self.next_commit(rt, alloc, pass, store, location, log, head) {
+            match self.next_commit(pass, store, location, log, head) {
                 NextCommit::Found => {}
                 NextCommit::Absent => {
-                    self.abort_log(rt, pass, log);
+                    self.abort_log(pass, log);
                     return Ok(Refreshed {
                         kept,
                         block: None,
@@ -144,7 +140,7 @@ impl Hub {
                 NextCommit::End(end) => return ended(end, kept, found),
             }
         }
-        self.abort_log(rt, pass, log);
+        self.abort_log(pass, log);
         Ok(Refreshed {
             kept: head.support.versions(),
             block: None,
@@ -153,17 +149,15 @@ impl Hub {
     }
 
     // A refresh that has begun.
-    fn refresh_open<R: Wait, W: Store>(
+    fn refresh_open<W: Store>(
         &self,
-        rt: &R,
-        alloc: Global,
         pass: &mut HubPass,
         store: &mut W,
         location: &Name,
         log: u32,
         state: LogState,
     ) -> Result<Refreshed, RefreshRefusal>
-        requires cell { (pass.old.cell ≡ self.now) × (pass.old.holds ≡ false) }
+        requires cell { (pass.old.cell ≡ self.now.cell.now) × (pass.old.holds ≡ false) }
         requires short { length location.now ≤ 256 }
         requires opened { OpensOn pass.old log state }
         ensures same { IsIdle pass.old pass.new }
@@ -173,15 +167,13 @@ impl Hub {
     {
         match state.block {
             Some(_) => {
-                self.abort_log(rt, pass, log);
+                self.abort_log(pass, log);
                 Ok(known(state))
             }
-            None => match self.log_head(rt, alloc, pass, log, state) {
-                Ok(mut head) => {
-                    self.refresh_rounds(rt, alloc, pass, store, location, log, &mut head)
-                }
+            None => match self.log_head(pass, log, state) {
+                Ok(mut head) => { self.refresh_rounds(pass, store, location, log, &mut head) }
                 Err(_) => {
-                    self.abort_log(rt, pass, log);
+                    self.abort_log(pass, log);
                     Err(RefreshRefusal::NoMemory)
                 }
             },
@@ -189,16 +181,14 @@ impl Hub {
     }
 
     // Begins on a log whose next version is there.
-    fn refresh_log<R: Wait, W: Store>(
+    fn refresh_log<W: Store>(
         &self,
-        rt: &R,
-        alloc: Global,
         pass: &mut HubPass,
         store: &mut W,
         location: &Name,
         log: u32,
     ) -> Result<Refreshed, RefreshRefusal>
-        requires cell { (pass.old.cell ≡ self.now) × (pass.old.holds ≡ false) }
+        requires cell { (pass.old.cell ≡ self.now.cell.now) × (pass.old.holds ≡ false) }
         requires short { length location.now ≤ 256 }
         requires there { IsLog log pass.old.seen }
         ensures same { IsIdle pass.old pass.new }
@@ -206,12 +196,14 @@ impl Hub {
         ensures looked { Looked (W.objects store.old) (W.objects store.new) (W.alone store.old) (W.alone store.new) }
         ensures cause { Cause (W.faults store.old) (W.faults store.new) (failed_refresh result) }
     {
-        match self.begin_log(rt, pass, log) {
-            Some(state) => self.refresh_open(rt, alloc, pass, store, location, log, state),
+        match self.begin_log(pass, log) {
+            Some(state) => self.refresh_open(pass, store, location, log, state),
             None => Err(RefreshRefusal::NoMemory),
         }
     }
+}
 
+impl Hub {
     /// Publishes the commits that the store has beyond those of the log that was loaded from a location, at most 64 in a call
     /// (Delta Lake PROTOCOL.md, "Delta Log Entries"). An object there that isn't kept blocks the log: one that is no commit, one
     /// with which the table isn't read, or with which the log's printed texts pass 64 MiB.
@@ -236,7 +228,8 @@ impl Hub {
         if location.as_str().len() > MOST_LOCATION {
             return Err(RefreshRefusal::NotLoaded);
         }
-        let Some(KnownLog { log, state }) = self.find_log(rt, pass, location.as_str()) else {
+        let caller = self.caller(rt, alloc);
+        let Some(KnownLog { log, state }) = caller.find_log(pass, location.as_str()) else {
             return Err(RefreshRefusal::NotLoaded);
         };
         if state.block.is_some() {
@@ -244,7 +237,7 @@ impl Hub {
         }
         match has_version(alloc, store, location, state.kept) {
             Ok(VersionObject::Absent) => Ok(known(state)),
-            Ok(VersionObject::There) => self.refresh_log(rt, alloc, pass, store, location, log),
+            Ok(VersionObject::There) => caller.refresh_log(pass, store, location, log),
             Err(refusal) => Err(refused(refusal)),
         }
     }

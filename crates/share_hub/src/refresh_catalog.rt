@@ -10,7 +10,7 @@ ghost use Rattle.share_hub.specs.CatalogCalls.{HasBegun};
 ghost use Rattle.share_hub.specs.Refreshes.{IsAhead, failed_ahead, Refreshes, RefreshesBegun, RefreshesOn, failed_refresh};
 
 use crate::found::{CatalogRefusal, Next, refused};
-use crate::hub::{Hub, HubPass};
+use crate::hub::{Caller, Hub, HubPass};
 use catalog_log::record_name;
 use edge_core::{Measured, Store};
 use log_store::LoadRefusal;
@@ -50,17 +50,15 @@ fn look_ahead<W: Store>(alloc: Global, store: &mut W, number: u64) -> Ahead
     }
 }
 
-impl Hub {
+impl<'a, R: Wait> Caller<'a, R> {
     // Publishes up to 64 records that the store has, and ends what the caller began.
-    fn refresh_on<R: Wait, W: Store>(
+    fn refresh_on<W: Store>(
         &self,
-        rt: &R,
-        alloc: Global,
         pass: &mut HubPass,
         store: &mut W,
         first: u64,
     ) -> Result<RefreshedCatalog, CatalogRefusal>
-        requires cell { (pass.old.cell ≡ self.now) × (pass.old.holds ≡ false) }
+        requires cell { (pass.old.cell ≡ self.now.cell.now) × (pass.old.holds ≡ false) }
         requires begun { HasBegun pass.old first }
         ensures same { IsIdle pass.old pass.new }
         ensures run { RefreshesOn result (W.objects store.old) (W.objects store.new) pass.old pass.new }
@@ -69,10 +67,10 @@ impl Hub {
     {
         let mut number = first;
         for turn in 0..64u32 {
-            match self.next_record(rt, alloc, pass, store, number) {
+            match self.next_record(pass, store, number) {
                 Next::Found(count) => number = count,
                 Next::Absent => {
-                    self.abort(rt, pass);
+                    self.abort(pass);
                     return Ok(RefreshedCatalog {
                         edits: number,
                         found: turn,
@@ -81,7 +79,7 @@ impl Hub {
                 Next::End(refusal) => return Err(refusal),
             }
         }
-        self.abort(rt, pass);
+        self.abort(pass);
         Ok(RefreshedCatalog {
             edits: number,
             found: 64,
@@ -89,25 +87,25 @@ impl Hub {
     }
 
     // Begins on the catalogue, and publishes.
-    fn refresh_begun<R: Wait, W: Store>(
+    fn refresh_begun<W: Store>(
         &self,
-        rt: &R,
-        alloc: Global,
         pass: &mut HubPass,
         store: &mut W,
     ) -> Result<RefreshedCatalog, CatalogRefusal>
-        requires cell { (pass.old.cell ≡ self.now) × (pass.old.holds ≡ false) }
+        requires cell { (pass.old.cell ≡ self.now.cell.now) × (pass.old.holds ≡ false) }
         ensures same { IsIdle pass.old pass.new }
         ensures run { RefreshesBegun result (W.objects store.old) (W.objects store.new) pass.old pass.new }
         ensures looked { Looked (W.objects store.old) (W.objects store.new) (W.alone store.old) (W.alone store.new) }
         ensures cause { Cause (W.faults store.old) (W.faults store.new) (failed_refresh result) }
     {
-        match self.begin(rt, alloc, pass) {
-            Some(first) => self.refresh_on(rt, alloc, pass, store, first),
+        match self.begin(pass) {
+            Some(first) => self.refresh_on(pass, store, first),
             None => Err(CatalogRefusal::NoMemory),
         }
     }
+}
 
+impl Hub {
     /// Takes over records of the catalogue that others have stored, at most 64 in a call, each with the log that it needs.
     ///
     /// The next record is looked for before anything is begun; where none is there, nothing is added to the history. Where
@@ -125,9 +123,10 @@ impl Hub {
         ensures looked { Looked (W.objects store.old) (W.objects store.new) (W.alone store.old) (W.alone store.new) }
         ensures cause { Cause (W.faults store.old) (W.faults store.new) (failed_refresh result) }
     {
-        let edits = self.edit_count(rt, pass);
+        let caller = self.caller(rt, alloc);
+        let edits = caller.edit_count(pass);
         match look_ahead(alloc, store, edits) {
-            Ahead::There => self.refresh_begun(rt, alloc, pass, store),
+            Ahead::There => caller.refresh_begun(pass, store),
             Ahead::Absent => Ok(RefreshedCatalog { edits, found: 0 }),
             Ahead::Failed(refusal) => Err(refused(refusal)),
         }

@@ -11,7 +11,7 @@ ghost use Rattle.share_hub.specs.OfferLogs.{IsOfferLog};
 ghost use Rattle.share_hub.specs.TableCalls.{BeginsLog, BlocksLog, FindsCommit, GoesOn, StartsLog, StopsOn};
 ghost use Rattle.share_hub.specs.TableTurns.{FindsLog, IsLog};
 
-use crate::hub::{Hub, HubPass};
+use crate::hub::{Caller, HubPass};
 use crate::offer_log::{OfferLog, offer_log_in};
 use crate::table_turns::{
     CommitPublished, KnownLog, LogOpened, abort_log_in, begin_log_in, block_log_in, find_in,
@@ -24,34 +24,29 @@ use std::alloc::{AllocError, Global};
 use std::sync::{Arc, Wait};
 use std::thread;
 
-impl Hub {
+impl<'a, R: Wait> Caller<'a, R> {
     // The log of the table at a location.
-    pub(crate) fn find_log<R: Wait>(
-        &self,
-        rt: &R,
-        pass: &mut HubPass,
-        location: &str,
-    ) -> Option<KnownLog>
-        requires cell { (pass.old.cell ≡ self.now) × (pass.old.holds ≡ false) }
+    pub(crate) fn find_log(&self, pass: &mut HubPass, location: &str) -> Option<KnownLog>
+        requires cell { (pass.old.cell ≡ self.now.cell.now) × (pass.old.holds ≡ false) }
         ensures same { IsIdle pass.old pass.new }
         ensures added { Adds pass.old pass.new [] }
         ensures found { FindsLog result location.now pass.new.seen }
     {
-        let turn = self.cell.take(rt, pass);
+        let turn = self.cell.take(self.rt, pass);
         let found = find_in(&turn.value, location);
         self.cell.give(pass, turn);
         found
     }
 
     // One turn, in which the Begin is added unless another is open on the log.
-    fn try_begin_log<R: Wait>(&self, rt: &R, pass: &mut HubPass, log: u32) -> LogOpened
-        requires cell { (pass.old.cell ≡ self.now) × (pass.old.holds ≡ false) }
+    fn try_begin_log(&self, pass: &mut HubPass, log: u32) -> LogOpened
+        requires cell { (pass.old.cell ≡ self.now.cell.now) × (pass.old.holds ≡ false) }
         requires there { IsLog log pass.old.seen }
         ensures same { IsIdle pass.old pass.new }
         ensures begun { BeginsLog result log pass.old pass.new }
     {
         let number = pass.number();
-        let mut turn = self.cell.take(rt, pass);
+        let mut turn = self.cell.take(self.rt, pass);
         let opened = begin_log_in(&mut turn.value, number, log);
         self.cell.give(pass, turn);
         opened
@@ -59,19 +54,14 @@ impl Hub {
 
     // Begins on a table's log, and waits where another caller has begun on it. It answers how far the log is known, or None
     // for want of memory.
-    pub(crate) fn begin_log<R: Wait>(
-        &self,
-        rt: &R,
-        pass: &mut HubPass,
-        log: u32,
-    ) -> Option<LogState>
-        requires cell { (pass.old.cell ≡ self.now) × (pass.old.holds ≡ false) }
+    pub(crate) fn begin_log(&self, pass: &mut HubPass, log: u32) -> Option<LogState>
+        requires cell { (pass.old.cell ≡ self.now.cell.now) × (pass.old.holds ≡ false) }
         requires there { IsLog log pass.old.seen }
         ensures same { IsIdle pass.old pass.new }
         ensures begun { StartsLog result log pass.old pass.new }
     {
-        for _ in rt.forever() {
-            match self.try_begin_log(rt, pass, log) {
+        for _ in self.rt.forever() {
+            match self.try_begin_log(pass, log) {
                 LogOpened::Open(state) => return Some(state),
                 LogOpened::NoMemory => return None,
                 LogOpened::Held => thread::yield_now(),
@@ -81,38 +71,34 @@ impl Hub {
     }
 
     // What an offer is judged by, of a table's log on which the caller has begun. The error is want of memory.
-    pub(crate) fn offer_log<R: Wait>(
+    pub(crate) fn offer_log(
         &self,
-        rt: &R,
-        alloc: Global,
         pass: &mut HubPass,
         log: u32,
         offer: &Offer,
     ) -> Result<OfferLog, AllocError>
-        requires cell { (pass.old.cell ≡ self.now) × (pass.old.holds ≡ false) }
+        requires cell { (pass.old.cell ≡ self.now.cell.now) × (pass.old.holds ≡ false) }
         requires there { IsLog log pass.old.seen }
         requires begun { open_on log pass.old.seen ≡ Some pass.old.number }
         ensures same { IsIdle pass.old pass.new }
         ensures goes { GoesOn pass.old pass.new log [] }
         ensures offered { IfOk result (λ o. There (table_on log pass.old.seen) (λ t. IsOfferLog offer.now.read t.commits o)) }
     {
-        let turn = self.cell.take(rt, pass);
+        let turn = self.cell.take(self.rt, pass);
         turn.value.len();
-        let found = offer_log_in(&turn.value, alloc, log, offer);
+        let found = offer_log_in(&turn.value, self.alloc, log, offer);
         self.cell.give(pass, turn);
         found
     }
 
     // What makes the state after a table's commits, on whose log the caller has begun, none where it has none. The error is want of
     // memory.
-    pub(crate) fn log_replay<R: Wait>(
+    pub(crate) fn log_replay(
         &self,
-        rt: &R,
-        alloc: Global,
         pass: &mut HubPass,
         log: u32,
     ) -> Result<Option<Replay>, AllocError>
-        requires cell { (pass.old.cell ≡ self.now) × (pass.old.holds ≡ false) }
+        requires cell { (pass.old.cell ≡ self.now.cell.now) × (pass.old.holds ≡ false) }
         requires there { IsLog log pass.old.seen }
         requires begun { open_on log pass.old.seen ≡ Some pass.old.number }
         ensures same { IsIdle pass.old pass.new }
@@ -120,44 +106,37 @@ impl Hub {
         ensures makes { IfOk result (λ r. There (table_on log pass.old.seen) (λ t. MakesHead t.commits r)) }
         ensures fits { IfOk result (λ r. IfSome r CanReplay) }
     {
-        let turn = self.cell.take(rt, pass);
+        let turn = self.cell.take(self.rt, pass);
         turn.value.len();
-        let head = head_in(&turn.value, alloc, log);
+        let head = head_in(&turn.value, self.alloc, log);
         self.cell.give(pass, turn);
         head
     }
 
     // Keeps a state of a table's log on which the caller has begun, where memory is there for it.
-    pub(crate) fn keep_state<R: Wait>(
-        &self,
-        rt: &R,
-        pass: &mut HubPass,
-        log: u32,
-        state: &SharedSnapshot,
-    )
-        requires cell { (pass.old.cell ≡ self.now) × (pass.old.holds ≡ false) }
+    pub(crate) fn keep_state(&self, pass: &mut HubPass, log: u32, state: &SharedSnapshot)
+        requires cell { (pass.old.cell ≡ self.now.cell.now) × (pass.old.holds ≡ false) }
         requires there { IsLog log pass.old.seen }
         requires begun { open_on log pass.old.seen ≡ Some pass.old.number }
         requires state { There (table_on log pass.old.seen) (λ t. IsStateIn t.commits state.now) }
         ensures same { IsIdle pass.old pass.new }
         ensures goes { GoesOn pass.old pass.new log [] }
     {
-        let mut turn = self.cell.take(rt, pass);
+        let mut turn = self.cell.take(self.rt, pass);
         turn.value.len();
         keep_in(&mut turn.value, log, state);
         self.cell.give(pass, turn);
     }
 
     // Keeps the state that a replay made, unless it was at hand.
-    pub(crate) fn keep_made<R: Wait>(
+    pub(crate) fn keep_made(
         &self,
-        rt: &R,
         pass: &mut HubPass,
         log: u32,
         replay: &Replay,
         state: &SharedSnapshot,
     )
-        requires cell { (pass.old.cell ≡ self.now) × (pass.old.holds ≡ false) }
+        requires cell { (pass.old.cell ≡ self.now.cell.now) × (pass.old.holds ≡ false) }
         requires there { IsLog log pass.old.seen }
         requires begun { open_on log pass.old.seen ≡ Some pass.old.number }
         requires state { There (table_on log pass.old.seen) (λ t. IsStateIn t.commits state.now) }
@@ -167,27 +146,27 @@ impl Hub {
         if replay.commits.items().is_empty() {
             return;
         }
-        self.keep_state(rt, pass, log, state);
+        self.keep_state(pass, log, state);
     }
 
     // Ends what the caller began.
-    pub(crate) fn abort_log<R: Wait>(&self, rt: &R, pass: &mut HubPass, log: u32)
-        requires cell { (pass.old.cell ≡ self.now) × (pass.old.holds ≡ false) }
+    pub(crate) fn abort_log(&self, pass: &mut HubPass, log: u32)
+        requires cell { (pass.old.cell ≡ self.now.cell.now) × (pass.old.holds ≡ false) }
         requires there { IsLog log pass.old.seen }
         requires begun { open_on log pass.old.seen ≡ Some pass.old.number }
         ensures same { IsIdle pass.old pass.new }
         ensures ended { StopsOn pass.old pass.new log [] (act.Abort ∷ []) }
     {
         let number = pass.number();
-        let mut turn = self.cell.take(rt, pass);
+        let mut turn = self.cell.take(self.rt, pass);
         turn.value.len();
         abort_log_in(&mut turn.value, number, log);
         self.cell.give(pass, turn);
     }
 
     // Says that the next version isn't kept, and ends what the caller began.
-    pub(crate) fn block_log<R: Wait>(&self, rt: &R, pass: &mut HubPass, log: u32)
-        requires cell { (pass.old.cell ≡ self.now) × (pass.old.holds ≡ false) }
+    pub(crate) fn block_log(&self, pass: &mut HubPass, log: u32)
+        requires cell { (pass.old.cell ≡ self.now.cell.now) × (pass.old.holds ≡ false) }
         requires there { IsLog log pass.old.seen }
         requires begun { open_on log pass.old.seen ≡ Some pass.old.number }
         requires free { There (table_on log pass.old.seen) (λ t. t.block ≡ None) }
@@ -195,23 +174,22 @@ impl Hub {
         ensures blocked { BlocksLog log pass.old pass.new }
     {
         let number = pass.number();
-        let mut turn = self.cell.take(rt, pass);
+        let mut turn = self.cell.take(self.rt, pass);
         turn.value.len();
         block_log_in(&mut turn.value, number, log);
         self.cell.give(pass, turn);
     }
 
     // Publishes a commit that the store had. For want of memory the caller has ended what it began after it.
-    pub(crate) fn publish_commit<R: Wait>(
+    pub(crate) fn publish_commit(
         &self,
-        rt: &R,
         pass: &mut HubPass,
         log: u32,
         commit: Arc<Commit>,
         shared: SharedCommit,
         bytes: u64,
     ) -> CommitPublished
-        requires cell { (pass.old.cell ≡ self.now) × (pass.old.holds ≡ false) }
+        requires cell { (pass.old.cell ≡ self.now.cell.now) × (pass.old.holds ≡ false) }
         requires there { IsLog log pass.old.seen }
         requires begun { open_on log pass.old.seen ≡ Some pass.old.number }
         requires same { shared ≡ commit.value }
@@ -221,7 +199,7 @@ impl Hub {
         ensures found { FindsCommit result log commit.value pass.old pass.new }
     {
         let number = pass.number();
-        let mut turn = self.cell.take(rt, pass);
+        let mut turn = self.cell.take(self.rt, pass);
         turn.value.len();
         let published = publish_commit_in(&mut turn.value, number, log, commit, shared, bytes);
         self.cell.give(pass, turn);
@@ -229,16 +207,15 @@ impl Hub {
     }
 
     // Publishes the caller's own commit.
-    pub(crate) fn own_commit<R: Wait>(
+    pub(crate) fn own_commit(
         &self,
-        rt: &R,
         pass: &mut HubPass,
         log: u32,
         commit: Arc<Commit>,
         shared: SharedCommit,
         bytes: u64,
     )
-        requires cell { (pass.old.cell ≡ self.now) × (pass.old.holds ≡ false) }
+        requires cell { (pass.old.cell ≡ self.now.cell.now) × (pass.old.holds ≡ false) }
         requires there { IsLog log pass.old.seen }
         requires begun { open_on log pass.old.seen ≡ Some pass.old.number }
         requires same { shared ≡ commit.value }
@@ -249,7 +226,7 @@ impl Hub {
         ensures ended { StopsOn pass.old pass.new log [] (act.Own commit.value ∷ []) }
     {
         let number = pass.number();
-        let mut turn = self.cell.take(rt, pass);
+        let mut turn = self.cell.take(self.rt, pass);
         turn.value.len();
         own_commit_in(&mut turn.value, number, log, commit, shared, bytes);
         self.cell.give(pass, turn);

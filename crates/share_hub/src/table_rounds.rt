@@ -11,7 +11,7 @@ ghost use Rattle.log_store.specs.Refusals.{failed_load};
 ghost use Rattle.share_hub.specs.Calls.{IsIdle};
 ghost use Rattle.share_hub.specs.TableRounds.{HoldsHead, IsHeadOf, IsThere, Nexts, PublishesNext, TakesNext, failed_next_commit};
 
-use crate::hub::{Hub, HubPass};
+use crate::hub::{Caller, HubPass};
 use crate::table_turns::CommitPublished;
 use edge_core::{Measured, Name, Store};
 use log_actions::Commit;
@@ -129,55 +129,49 @@ pub fn has_version<W: Store>(
     }
 }
 
-impl Hub {
+impl<'a, R: Wait> Caller<'a, R> {
     // Publishes a commit that the store has as the next version, or blocks the log.
-    fn publish_next<R: Wait>(
+    fn publish_next(
         &self,
-        rt: &R,
-        alloc: Global,
         pass: &mut HubPass,
         log: u32,
         head: &mut LogHead,
         commit: Commit,
         bytes: u64,
     ) -> NextCommit
-        requires cell { (pass.old.cell ≡ self.now) × (pass.old.holds ≡ false) }
+        requires cell { (pass.old.cell ≡ self.now.cell.now) × (pass.old.holds ≡ false) }
         requires begun { HoldsHead pass.old log head.old }
         requires small { head.old.support.versions < 2 ^ 63 }
         requires counted { IsCounted (probed.Found commit bytes) }
         ensures same { IsIdle pass.old pass.new }
         ensures published { PublishesNext result log commit head.new pass.old pass.new }
     {
-        match take_next(alloc, head, commit, bytes) {
-            Taken::Kept(held, other) => match self.publish_commit(
-                rt, pass, log, held, other, bytes,
-            ) {
+        match take_next(self.alloc, head, commit, bytes) {
+            Taken::Kept(held, other) => match self.publish_commit(pass, log, held, other, bytes) {
                 CommitPublished::Open => NextCommit::Found,
                 CommitPublished::NoMemory => NextCommit::End(LogEnd::NoMemory),
             },
             Taken::Unkept => {
-                self.block_log(rt, pass, log);
+                self.block_log(pass, log);
                 NextCommit::End(LogEnd::Blocked)
             }
             Taken::NoMemory => {
-                self.abort_log(rt, pass, log);
+                self.abort_log(pass, log);
                 NextCommit::End(LogEnd::NoMemory)
             }
         }
     }
 
     // Publishes the commit that the store has as the next version; an object there that isn't kept blocks the log.
-    pub(crate) fn next_commit<R: Wait, W: Store>(
+    pub(crate) fn next_commit<W: Store>(
         &self,
-        rt: &R,
-        alloc: Global,
         pass: &mut HubPass,
         store: &mut W,
         location: &Name,
         log: u32,
         head: &mut LogHead,
     ) -> NextCommit
-        requires cell { (pass.old.cell ≡ self.now) × (pass.old.holds ≡ false) }
+        requires cell { (pass.old.cell ≡ self.now.cell.now) × (pass.old.holds ≡ false) }
         requires short { length location.now ≤ 256 }
         requires begun { HoldsHead pass.old log head.old }
         ensures same { IsIdle pass.old pass.new }
@@ -185,21 +179,21 @@ impl Hub {
         ensures looked { Looked (W.objects store.old) (W.objects store.new) (W.alone store.old) (W.alone store.new) }
         ensures cause { Cause (W.faults store.old) (W.faults store.new) (failed_next_commit result) }
     {
-        match look_next(alloc, store, location, head.support.versions()) {
+        match look_next(self.alloc, store, location, head.support.versions()) {
             Ok(Probed::Found(commit, bytes)) => {
-                self.publish_next(rt, alloc, pass, log, head, commit, bytes)
+                self.publish_next(pass, log, head, commit, bytes)
             }
             Ok(Probed::Absent) => NextCommit::Absent,
             Ok(Probed::Unreadable(_)) => {
-                self.block_log(rt, pass, log);
+                self.block_log(pass, log);
                 NextCommit::End(LogEnd::Blocked)
             }
             Err(LoadRefusal::StoreFault) => {
-                self.abort_log(rt, pass, log);
+                self.abort_log(pass, log);
                 NextCommit::End(LogEnd::StoreFault)
             }
             Err(LoadRefusal::NoMemory) => {
-                self.abort_log(rt, pass, log);
+                self.abort_log(pass, log);
                 NextCommit::End(LogEnd::NoMemory)
             }
         }
