@@ -15,7 +15,7 @@ use Rattle.share_reply.specs.declared.plan.Plan.{Plan}
 use Rattle.share_reply.specs.declared.plan.Plan.TheVariants as plan
 use Rattle.share_serve.specs.Callers.{by_party, by_request}
 use Rattle.share_serve.specs.Callers as by
-use Rattle.share_serve.specs.Entitled.{GivesObject, ObjectsAreGiven, PartsAreGiven, TurnsAreGiven, TurnsGiveTheDefined, request_for}
+use Rattle.share_serve.specs.Entitled.{ObjectsAreGiven, PartsAreGiven, TurnsAreGiven, TurnsGiveTheDefined, request_for}
 use Rattle.share_serve.specs.Laws.{answer_at, request_of}
 use Rattle.share_serve.specs.Responses.{object_response, out_response, picked_response, response_of}
 use Rattle.share_serve.specs.Turns.{ObjectIs, ReplyIs, Shelf}

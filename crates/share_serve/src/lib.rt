@@ -12,6 +12,7 @@ mod response;
 mod send;
 mod serve;
 mod server;
+mod session;
 
 pub use law::{
     ends_the_same, equal_views_write_the_same, reads_its_requests, refusals_have_causes,

@@ -13,19 +13,19 @@ ghost use Rattle.share_request.specs.Requests.{request_in};
 ghost use Rattle.share_request.specs.declared.asked.Request.{Request as Asked};
 ghost use Rattle.share_serve.specs.declared.server.Server.{Server as ServerView};
 
-use crate::call::answer;
 use crate::caller::{By, Call, by_request};
 use crate::plan::{reply, send_whole};
 use crate::response::{Delivery, refusal_response};
 use crate::send::{Delivered, Sent, send_response};
 use crate::server::Server;
+use crate::session::Session;
 use edge_core::{Clock, Gate, Sink, Source, Store};
 use http_message::head::Head;
 use http_message::refusal::Flaw;
 use http_wire::{Message, Wire};
 use share_book::Seen;
 use share_hub::{Hub, HubPass};
-use share_reply::{ReplyKeys, ask_of};
+use share_reply::ask_of;
 use share_request::{Request, request_of};
 use std::alloc::{AllocError, Global};
 use std::sync::{Arc, Wait};
@@ -92,166 +92,12 @@ fn is_head(head: &Head) -> bool
     head.method.as_str() == "HEAD"
 }
 
-// What is seen for a request: that of the view of whom it asks for, at what the pass has seen then.
-fn look<R: Wait, L>(
-    rt: &R,
-    alloc: Global,
-    hub: &Hub,
-    keys: &ReplyKeys,
-    pass: &mut HubPass,
-    steps: &mut Steps<L>,
-    request: &Request,
-) -> Result<Option<Seen>, AllocError>
-    requires cell { (pass.old.cell ≡ hub.now) × (pass.old.holds ≡ false) }
-    ensures same { IsIdle pass.old pass.new }
-    ensures added { Adds pass.old pass.new [] }
-    ensures seen { IfOk result (λ s. s ≡ seen_for keys.now request.now (view_for keys.now request.now pass.new.seen)) }
-{
-    match ask_of(alloc, keys, request)? {
-        Some(ask) => Ok(hub.look(rt, alloc, pass, &ask, steps)?.seen),
-        None => Ok(None),
-    }
-}
-
-// Answers a request of a recipient, a link, or what no route has.
-fn serve_view<R: Wait, W: Store, G: Gate, K: Sink, L>(
-    rt: &R,
-    alloc: Global,
-    hub: &Hub,
-    server: &Server,
-    pass: &mut HubPass,
-    store: &mut W,
-    gate: &G,
-    sink: &mut K,
-    steps: &mut Steps<L>,
-    served: u64,
-    delivery: Delivery,
-    request: &Request,
-) -> Delivered
-    requires cell { (pass.old.cell ≡ hub.now) × (pass.old.holds ≡ false) }
-    requires dated { delivery.moment ≤ 253_402_300_799_999 }
-    ensures grew { Grew (held W.objects W.alone W.faults pass.old store.old) (held W.objects W.alone W.faults pass.new store.new) }
-    ensures later { K.faults sink.old ≤ K.faults sink.new }
-    ensures given { IsGiven result server.now request.now by.view delivery (held W.objects W.alone W.faults pass.old store.old) (held W.objects W.alone W.faults pass.new store.new) (K.holds sink.old) (K.holds sink.new) }
-    ensures cause { DeliveryCause result (W.objects store.old) (W.faults store.old) (W.faults store.new) (K.faults sink.old) (K.faults sink.new) }
-{
-    let caller = pass.number();
-    let Ok(seen) = look(rt, alloc, hub, &server.keys, pass, steps, request) else {
-        return Delivered::NoMemory;
-    };
-    gate.pass(rt, caller, served);
-    let delivered = reply(alloc, &server.keys, request, &seen, store, sink, delivery);
-    gate.done(rt, caller, served);
-    delivered
-}
-
-// Answers a request of a provider or of the administrator.
-fn serve_call<R: Wait, W: Store, G: Gate, K: Sink>(
-    rt: &R,
-    alloc: Global,
-    hub: &Hub,
-    pass: &mut HubPass,
-    store: &mut W,
-    gate: &G,
-    sink: &mut K,
-    served: u64,
-    delivery: Delivery,
-    call: Call<'_>,
-) -> Delivered
-    requires cell { (pass.old.cell ≡ hub.now) × (pass.old.holds ≡ false) }
-    requires dated { delivery.moment ≤ 253_402_300_799_999 }
-    ensures grew { Grew (held W.objects W.alone W.faults pass.old store.old) (held W.objects W.alone W.faults pass.new store.new) }
-    ensures later { K.faults sink.old ≤ K.faults sink.new }
-    ensures given { (server : ServerView) (asked : Asked) → IsGiven result server asked (by_call call.entry) delivery (held W.objects W.alone W.faults pass.old store.old) (held W.objects W.alone W.faults pass.new store.new) (K.holds sink.old) (K.holds sink.new) }
-    ensures cause { DeliveryCause result (W.objects store.old) (W.faults store.old) (W.faults store.new) (K.faults sink.old) (K.faults sink.new) }
-{
-    let caller = pass.number();
-    let response = answer(rt, alloc, hub, pass, store, delivery.moment, call);
-    gate.pass(rt, caller, served);
-    let delivered = send_whole(alloc, sink, delivery, response);
-    gate.done(rt, caller, served);
-    delivered
-}
-
-// Answers a request that is known.
-fn serve_known<R: Wait, W: Store, G: Gate, K: Sink, L>(
-    rt: &R,
-    alloc: Global,
-    hub: &Hub,
-    server: &Server,
-    pass: &mut HubPass,
-    store: &mut W,
-    gate: &G,
-    sink: &mut K,
-    steps: &mut Steps<L>,
-    served: u64,
-    delivery: Delivery,
-    request: &Request,
-) -> Delivered
-    requires cell { (pass.old.cell ≡ hub.now) × (pass.old.holds ≡ false) }
-    requires dated { delivery.moment ≤ 253_402_300_799_999 }
-    ensures grew { Grew (held W.objects W.alone W.faults pass.old store.old) (held W.objects W.alone W.faults pass.new store.new) }
-    ensures later { K.faults sink.old ≤ K.faults sink.new }
-    ensures given { IsGiven result server.now request.now (by.by_request server.now request.now) delivery (held W.objects W.alone W.faults pass.old store.old) (held W.objects W.alone W.faults pass.new store.new) (K.holds sink.old) (K.holds sink.new) }
-    ensures cause { DeliveryCause result (W.objects store.old) (W.faults store.old) (W.faults store.new) (K.faults sink.old) (K.faults sink.new) }
-{
-    match by_request(server, request) {
-        By::View => serve_view(
-            rt, alloc, hub, server, pass, store, gate, sink, steps, served, delivery, request,
-        ),
-        By::Call(call) => {
-            serve_call(
-                rt, alloc, hub, pass, store, gate, sink, served, delivery, call,
-            )
-        }
-    }
-}
-
 // The request that a message makes. It is shared, since a function that drops one of its own takes long to prove.
 fn shared_request(alloc: Global, head: &Head, body: &[u8]) -> Result<Arc<Request>, AllocError>
     ensures { IfOk result (λ r. r.value ≡ request_in head.now body.now) }
 {
     let request = request_of(alloc, head, body)?;
     Ok(Arc::new(alloc, request)?)
-}
-
-// Answers the request of that number.
-fn serve_request<R: Wait, W: Store, C: Clock, G: Gate, K: Sink, L>(
-    rt: &R,
-    alloc: Global,
-    hub: &Hub,
-    server: &Server,
-    pass: &mut HubPass,
-    store: &mut W,
-    clock: &mut C,
-    gate: &G,
-    sink: &mut K,
-    steps: &mut Steps<L>,
-    served: u64,
-    head: &Head,
-    body: &[u8],
-    closes: bool,
-) -> Turned
-    requires cell { (pass.old.cell ≡ hub.now) × (pass.old.holds ≡ false) }
-    requires served { served < 10_000 }
-    ensures grew { Grew (held W.objects W.alone W.faults pass.old store.old) (held W.objects W.alone W.faults pass.new store.new) }
-    ensures later { (K.faults sink.old ≤ K.faults sink.new) × (C.faults clock.old ≤ C.faults clock.new) }
-    ensures turned { (at : ℕ) → IsTurned result server.now served (message at head.now body.now closes) (side (C.coming clock.old) (held W.objects W.alone W.faults pass.old store.old) (K.holds sink.old)) (side (C.coming clock.new) (held W.objects W.alone W.faults pass.new store.new) (K.holds sink.new)) }
-    ensures cause { TurnCause result (K.faults sink.old) (K.faults sink.new) (W.objects store.old) (W.faults store.old) (W.faults store.new) }
-{
-    let moment = clock.now();
-    let delivery = Delivery {
-        moment,
-        closes: closes_after(served, closes),
-        to_head: is_head(head),
-    };
-    let Ok(request) = shared_request(alloc, head, body) else {
-        return Turned::NoMemory;
-    };
-    let delivered = serve_known(
-        rt, alloc, hub, server, pass, store, gate, sink, steps, served, delivery, &request,
-    );
-    turned_by(delivered, delivery.closes)
 }
 
 // Answers a message that is refused, and ends the session. What the pass has seen and the store stand there for those who call:
@@ -283,55 +129,190 @@ fn refuse<C: Clock, K: Sink>(
     }
 }
 
-// Reads the next message, and answers it: the session goes on, or this is its end.
-fn serve_next<R: Wait, W: Store, C: Clock, G: Gate, S: Source, K: Sink, L>(
-    rt: &R,
-    alloc: Global,
-    hub: &Hub,
-    server: &Server,
-    pass: &mut HubPass,
-    store: &mut W,
-    clock: &mut C,
-    gate: &G,
-    source: &mut S,
-    sink: &mut K,
-    steps: &mut Steps<L>,
-    wire: &mut Wire,
-    served: u64,
-) -> Option<SessionEnd>
-    requires cell { (pass.old.cell ≡ hub.now) × (pass.old.holds ≡ false) }
-    requires open { wire.old.is_open ≡ true }
-    requires served { served < 10_000 }
-    ensures grew { Grew (held W.objects W.alone W.faults pass.old store.old) (held W.objects W.alone W.faults pass.new store.new) }
-    ensures later { (S.faults source.old ≤ S.faults source.new) × (K.faults sink.old ≤ K.faults sink.new) × (C.faults clock.old ≤ C.faults clock.new) }
-    ensures goes { MatchOption result ((wire.new.is_open ≡ true) × (served + 1 < 10_000)) (λ e. HasCause e (S.faults source.old) (S.faults source.new) (K.faults sink.old) (K.faults sink.new) (W.objects store.old) (W.faults store.old) (W.faults store.new)) }
-    ensures steps { Stepped server.now (state_at wire.old.buffer (S.left source.old) served (side (C.coming clock.old) (held W.objects W.alone W.faults pass.old store.old) (K.holds sink.old))) (state_at wire.new.buffer (S.left source.new) (served + 1) (side (C.coming clock.new) (held W.objects W.alone W.faults pass.new store.new) (K.holds sink.new))) result }
-{
-    match wire.next(alloc, source) {
-        Ok(
-            Message::Request {
-                head,
-                body,
-                closes,
-                ..
-            },
-        ) => {
-            match serve_request(
-                rt, alloc, hub, server, pass, store, clock, gate, sink, steps, served, &head,
-                &body, closes,
-            ) {
-                Turned::On => None,
-                Turned::Last => Some(SessionEnd::Done { served: served + 1 }),
-                Turned::WriteFault => Some(SessionEnd::WriteFault { served }),
-                Turned::NoMemory => Some(SessionEnd::NoMemory { served }),
-                Turned::BodyCut(sent) => Some(SessionEnd::BodyCut { served, sent }),
-            }
+impl<'a, R: Wait, G: Gate> Session<'a, R, G> {
+    // What is seen for a request: that of the view of whom it asks for, at what the pass has seen then.
+    fn look<L>(
+        &self,
+        pass: &mut HubPass,
+        steps: &mut Steps<L>,
+        request: &Request,
+    ) -> Result<Option<Seen>, AllocError>
+        requires cell { (pass.old.cell ≡ self.now.hub.now) × (pass.old.holds ≡ false) }
+        ensures same { IsIdle pass.old pass.new }
+        ensures added { Adds pass.old pass.new [] }
+        ensures seen { IfOk result (λ s. s ≡ seen_for self.now.server.now.keys request.now (view_for self.now.server.now.keys request.now pass.new.seen)) }
+    {
+        match ask_of(self.alloc, &self.server.keys, request)? {
+            Some(ask) => Ok(self.hub.look(self.rt, self.alloc, pass, &ask, steps)?.seen),
+            None => Ok(None),
         }
-        Ok(Message::End) => Some(SessionEnd::Done { served }),
-        Ok(Message::Truncated { at }) => Some(SessionEnd::Truncated { at, served }),
-        Ok(Message::Bad { at, flaw }) => Some(refuse(alloc, clock, sink, at, flaw, served)),
-        Ok(Message::ReadFault) => Some(SessionEnd::ReadFault { served }),
-        Err(_) => Some(SessionEnd::NoMemory { served }),
+    }
+
+    // Answers a request of a recipient, a link, or what no route has.
+    fn serve_view<W: Store, K: Sink, L>(
+        &self,
+        pass: &mut HubPass,
+        store: &mut W,
+        sink: &mut K,
+        steps: &mut Steps<L>,
+        served: u64,
+        delivery: Delivery,
+        request: &Request,
+    ) -> Delivered
+        requires cell { (pass.old.cell ≡ self.now.hub.now) × (pass.old.holds ≡ false) }
+        requires dated { delivery.moment ≤ 253_402_300_799_999 }
+        ensures grew { Grew (held W.objects W.alone W.faults pass.old store.old) (held W.objects W.alone W.faults pass.new store.new) }
+        ensures later { K.faults sink.old ≤ K.faults sink.new }
+        ensures given { IsGiven result self.now.server.now request.now by.view delivery (held W.objects W.alone W.faults pass.old store.old) (held W.objects W.alone W.faults pass.new store.new) (K.holds sink.old) (K.holds sink.new) }
+        ensures cause { DeliveryCause result (W.objects store.old) (W.faults store.old) (W.faults store.new) (K.faults sink.old) (K.faults sink.new) }
+    {
+        let caller = pass.number();
+        let Ok(seen) = self.look(pass, steps, request) else {
+            return Delivered::NoMemory;
+        };
+        self.gate.pass(self.rt, caller, served);
+        let delivered = reply(
+            self.alloc,
+            &self.server.keys,
+            request,
+            &seen,
+            store,
+            sink,
+            delivery,
+        );
+        self.gate.done(self.rt, caller, served);
+        delivered
+    }
+
+    // Answers a request of a provider or of the administrator.
+    fn serve_call<W: Store, K: Sink>(
+        &self,
+        pass: &mut HubPass,
+        store: &mut W,
+        sink: &mut K,
+        served: u64,
+        delivery: Delivery,
+        call: Call<'_>,
+    ) -> Delivered
+        requires cell { (pass.old.cell ≡ self.now.hub.now) × (pass.old.holds ≡ false) }
+        requires dated { delivery.moment ≤ 253_402_300_799_999 }
+        ensures grew { Grew (held W.objects W.alone W.faults pass.old store.old) (held W.objects W.alone W.faults pass.new store.new) }
+        ensures later { K.faults sink.old ≤ K.faults sink.new }
+        ensures given { (server : ServerView) (asked : Asked) → IsGiven result server asked (by_call call.entry) delivery (held W.objects W.alone W.faults pass.old store.old) (held W.objects W.alone W.faults pass.new store.new) (K.holds sink.old) (K.holds sink.new) }
+        ensures cause { DeliveryCause result (W.objects store.old) (W.faults store.old) (W.faults store.new) (K.faults sink.old) (K.faults sink.new) }
+    {
+        let caller = pass.number();
+        let response = self.answer(pass, store, delivery.moment, call);
+        self.gate.pass(self.rt, caller, served);
+        let delivered = send_whole(self.alloc, sink, delivery, response);
+        self.gate.done(self.rt, caller, served);
+        delivered
+    }
+
+    // Answers a request that is known.
+    fn serve_known<W: Store, K: Sink, L>(
+        &self,
+        pass: &mut HubPass,
+        store: &mut W,
+        sink: &mut K,
+        steps: &mut Steps<L>,
+        served: u64,
+        delivery: Delivery,
+        request: &Request,
+    ) -> Delivered
+        requires cell { (pass.old.cell ≡ self.now.hub.now) × (pass.old.holds ≡ false) }
+        requires dated { delivery.moment ≤ 253_402_300_799_999 }
+        ensures grew { Grew (held W.objects W.alone W.faults pass.old store.old) (held W.objects W.alone W.faults pass.new store.new) }
+        ensures later { K.faults sink.old ≤ K.faults sink.new }
+        ensures given { IsGiven result self.now.server.now request.now (by.by_request self.now.server.now request.now) delivery (held W.objects W.alone W.faults pass.old store.old) (held W.objects W.alone W.faults pass.new store.new) (K.holds sink.old) (K.holds sink.new) }
+        ensures cause { DeliveryCause result (W.objects store.old) (W.faults store.old) (W.faults store.new) (K.faults sink.old) (K.faults sink.new) }
+    {
+        match by_request(self.server, request) {
+            By::View => self.serve_view(pass, store, sink, steps, served, delivery, request),
+            By::Call(call) => { self.serve_call(pass, store, sink, served, delivery, call) }
+        }
+    }
+
+    // Answers the request of that number.
+    fn serve_request<W: Store, C: Clock, K: Sink, L>(
+        &self,
+        pass: &mut HubPass,
+        store: &mut W,
+        clock: &mut C,
+        sink: &mut K,
+        steps: &mut Steps<L>,
+        served: u64,
+        head: &Head,
+        body: &[u8],
+        closes: bool,
+    ) -> Turned
+        requires cell { (pass.old.cell ≡ self.now.hub.now) × (pass.old.holds ≡ false) }
+        requires served { served < 10_000 }
+        ensures grew { Grew (held W.objects W.alone W.faults pass.old store.old) (held W.objects W.alone W.faults pass.new store.new) }
+        ensures later { (K.faults sink.old ≤ K.faults sink.new) × (C.faults clock.old ≤ C.faults clock.new) }
+        ensures turned { (at : ℕ) → IsTurned result self.now.server.now served (message at head.now body.now closes) (side (C.coming clock.old) (held W.objects W.alone W.faults pass.old store.old) (K.holds sink.old)) (side (C.coming clock.new) (held W.objects W.alone W.faults pass.new store.new) (K.holds sink.new)) }
+        ensures cause { TurnCause result (K.faults sink.old) (K.faults sink.new) (W.objects store.old) (W.faults store.old) (W.faults store.new) }
+    {
+        let moment = clock.now();
+        let delivery = Delivery {
+            moment,
+            closes: closes_after(served, closes),
+            to_head: is_head(head),
+        };
+        let Ok(request) = shared_request(self.alloc, head, body) else {
+            return Turned::NoMemory;
+        };
+        let delivered = self.serve_known(pass, store, sink, steps, served, delivery, &request);
+        turned_by(delivered, delivery.closes)
+    }
+
+    // Reads the next message, and answers it: the session goes on, or this is its end.
+    fn serve_next<W: Store, C: Clock, S: Source, K: Sink, L>(
+        &self,
+        pass: &mut HubPass,
+        store: &mut W,
+        clock: &mut C,
+        source: &mut S,
+        sink: &mut K,
+        steps: &mut Steps<L>,
+        wire: &mut Wire,
+        served: u64,
+    ) -> Option<SessionEnd>
+        requires cell { (pass.old.cell ≡ self.now.hub.now) × (pass.old.holds ≡ false) }
+        requires open { wire.old.is_open ≡ true }
+        requires served { served < 10_000 }
+        ensures grew { Grew (held W.objects W.alone W.faults pass.old store.old) (held W.objects W.alone W.faults pass.new store.new) }
+        ensures later { (S.faults source.old ≤ S.faults source.new) × (K.faults sink.old ≤ K.faults sink.new) × (C.faults clock.old ≤ C.faults clock.new) }
+        ensures goes { MatchOption result ((wire.new.is_open ≡ true) × (served + 1 < 10_000)) (λ e. HasCause e (S.faults source.old) (S.faults source.new) (K.faults sink.old) (K.faults sink.new) (W.objects store.old) (W.faults store.old) (W.faults store.new)) }
+        ensures steps { Stepped self.now.server.now (state_at wire.old.buffer (S.left source.old) served (side (C.coming clock.old) (held W.objects W.alone W.faults pass.old store.old) (K.holds sink.old))) (state_at wire.new.buffer (S.left source.new) (served + 1) (side (C.coming clock.new) (held W.objects W.alone W.faults pass.new store.new) (K.holds sink.new))) result }
+    {
+        match wire.next(self.alloc, source) {
+            Ok(
+                Message::Request {
+                    head,
+                    body,
+                    closes,
+                    ..
+                },
+            ) => {
+                match self.serve_request(
+                    pass, store, clock, sink, steps, served, &head, &body, closes,
+                ) {
+                    Turned::On => None,
+                    Turned::Last => Some(SessionEnd::Done { served: served + 1 }),
+                    Turned::WriteFault => Some(SessionEnd::WriteFault { served }),
+                    Turned::NoMemory => Some(SessionEnd::NoMemory { served }),
+                    Turned::BodyCut(sent) => Some(SessionEnd::BodyCut { served, sent }),
+                }
+            }
+            Ok(Message::End) => Some(SessionEnd::Done { served }),
+            Ok(Message::Truncated { at }) => Some(SessionEnd::Truncated { at, served }),
+            Ok(Message::Bad { at, flaw }) => Some(refuse(
+                self.alloc, clock, sink, at, flaw, served,
+            )),
+            Ok(Message::ReadFault) => Some(SessionEnd::ReadFault { served }),
+            Err(_) => Some(SessionEnd::NoMemory { served }),
+        }
     }
 }
 
@@ -364,12 +345,16 @@ pub fn serve_conn<R: Wait, W: Store, C: Clock, G: Gate, S: Source, K: Sink, L>(
     ensures cause { HasCause result (S.faults source.old) (S.faults source.new) (K.faults sink.old) (K.faults sink.new) (W.objects store.old) (W.faults store.old) (W.faults store.new) }
     ensures session { IsSession server.now (S.left source.old) (side (C.coming clock.old) (held W.objects W.alone W.faults pass.old store.old) (K.holds sink.old)) (side (C.coming clock.new) (held W.objects W.alone W.faults pass.new store.new) (K.holds sink.new)) result }
 {
+    let session = Session {
+        rt,
+        alloc,
+        hub,
+        server,
+        gate,
+    };
     let mut wire = Wire::new(alloc);
     for served in 0..MOST {
-        match serve_next(
-            rt, alloc, hub, server, pass, store, clock, gate, source, sink, steps, &mut wire,
-            served,
-        ) {
+        match session.serve_next(pass, store, clock, source, sink, steps, &mut wire, served) {
             None => {}
             Some(end) => return end,
         }

@@ -1,7 +1,7 @@
 use Rattle.share_serve.specs.CallerViews.{by_call}
 use Rattle.share_serve.specs.Sides.{held}
 use Rattle.share_serve.proofs.Requests.{given_whole}
-use Rattle.share_serve.proofs.serve.serve_call.Goals as goal
+use Rattle.share_serve.proofs.session.Session.serve_call.Goals as goal
 
 pub returns-clause-given : goal.returns-clause-given
 returns-clause-given g c = λ server asked.

@@ -3,11 +3,11 @@ use Rattle.share_serve.specs.Turned.{message}
 use Rattle.share_serve.proofs.Causes.{refusal_cause}
 use Rattle.share_serve.proofs.Holds.{grew_itself}
 use Rattle.share_serve.proofs.Loop.{ends_between, ends_closed, ends_cut, ends_inside, ends_refused, ends_unanswered, ends_unwritten, goes_few, goes_on, hears}
-use Rattle.share_serve.proofs.serve.serve_next.Goals as goal
+use Rattle.share_serve.proofs.session.Session.serve_next.Goals as goal
 
 pub returns-in-On-clause-steps : goal.returns-in-On-clause-steps
 returns-in-On-clause-steps g c =
-    goes_on c.args.server.now c.args.wire.now.buffer (g.S.Source.left c.args.source.now) c.args.served
+    goes_on c.args.self.now.server.now c.args.wire.now.buffer (g.S.Source.left c.args.source.now) c.args.served
     (side (g.C.Clock.coming c.args.clock.now) (held g.W.Store.objects g.W.Store.alone g.W.Store.faults c.args.pass.now c.args.store.now) (g.K.Sink.holds c.args.sink.now))
     c.next.new.self.buffer (g.S.Source.left c.next.new.source) (message c.in-Ok-Request.field-0-0 c.in-Ok-Request.head c.in-Ok-Request.body.items c.in-Ok-Request.closes)
     (hears c.args.wire.now.buffer c.next.new.self.buffer (g.S.Source.left c.args.source.now) (g.S.Source.left c.next.new.source) c.in-Ok-Request.field-0-0 c.in-Ok-Request.head c.in-Ok-Request.body c.in-Ok-Request.closes (rw c.in-Ok-Request.field-0-is at c.in-Ok-Request.ensures.told))
@@ -16,7 +16,7 @@ returns-in-On-clause-steps g c =
 
 pub returns-in-Last-clause-steps : goal.returns-in-Last-clause-steps
 returns-in-Last-clause-steps g c =
-    ends_closed c.args.server.now c.args.wire.now.buffer (g.S.Source.left c.args.source.now) c.args.served
+    ends_closed c.args.self.now.server.now c.args.wire.now.buffer (g.S.Source.left c.args.source.now) c.args.served
     (side (g.C.Clock.coming c.args.clock.now) (held g.W.Store.objects g.W.Store.alone g.W.Store.faults c.args.pass.now c.args.store.now) (g.K.Sink.holds c.args.sink.now))
     c.next.new.self.buffer (g.S.Source.left c.next.new.source) (message c.in-Ok-Request.field-0-0 c.in-Ok-Request.head c.in-Ok-Request.body.items c.in-Ok-Request.closes)
     (hears c.args.wire.now.buffer c.next.new.self.buffer (g.S.Source.left c.args.source.now) (g.S.Source.left c.next.new.source) c.in-Ok-Request.field-0-0 c.in-Ok-Request.head c.in-Ok-Request.body c.in-Ok-Request.closes (rw c.in-Ok-Request.field-0-is at c.in-Ok-Request.ensures.told))
@@ -25,7 +25,7 @@ returns-in-Last-clause-steps g c =
 
 pub returns-in-WriteFault-clause-steps : goal.returns-in-WriteFault-clause-steps
 returns-in-WriteFault-clause-steps g c =
-    ends_unwritten c.args.server.now c.args.wire.now.buffer (g.S.Source.left c.args.source.now) c.args.served
+    ends_unwritten c.args.self.now.server.now c.args.wire.now.buffer (g.S.Source.left c.args.source.now) c.args.served
     (side (g.C.Clock.coming c.args.clock.now) (held g.W.Store.objects g.W.Store.alone g.W.Store.faults c.args.pass.now c.args.store.now) (g.K.Sink.holds c.args.sink.now))
     c.next.new.self.buffer (g.S.Source.left c.next.new.source) (message c.in-Ok-Request.field-0-0 c.in-Ok-Request.head c.in-Ok-Request.body.items c.in-Ok-Request.closes)
     (hears c.args.wire.now.buffer c.next.new.self.buffer (g.S.Source.left c.args.source.now) (g.S.Source.left c.next.new.source) c.in-Ok-Request.field-0-0 c.in-Ok-Request.head c.in-Ok-Request.body c.in-Ok-Request.closes (rw c.in-Ok-Request.field-0-is at c.in-Ok-Request.ensures.told))
@@ -34,7 +34,7 @@ returns-in-WriteFault-clause-steps g c =
 
 pub returns-in-NoMemory-clause-steps : goal.returns-in-NoMemory-clause-steps
 returns-in-NoMemory-clause-steps g c =
-    ends_unanswered c.args.server.now c.args.wire.now.buffer (g.S.Source.left c.args.source.now) c.args.served
+    ends_unanswered c.args.self.now.server.now c.args.wire.now.buffer (g.S.Source.left c.args.source.now) c.args.served
     (side (g.C.Clock.coming c.args.clock.now) (held g.W.Store.objects g.W.Store.alone g.W.Store.faults c.args.pass.now c.args.store.now) (g.K.Sink.holds c.args.sink.now))
     c.next.new.self.buffer (g.S.Source.left c.next.new.source) (message c.in-Ok-Request.field-0-0 c.in-Ok-Request.head c.in-Ok-Request.body.items c.in-Ok-Request.closes)
     (hears c.args.wire.now.buffer c.next.new.self.buffer (g.S.Source.left c.args.source.now) (g.S.Source.left c.next.new.source) c.in-Ok-Request.field-0-0 c.in-Ok-Request.head c.in-Ok-Request.body c.in-Ok-Request.closes (rw c.in-Ok-Request.field-0-is at c.in-Ok-Request.ensures.told))
@@ -43,7 +43,7 @@ returns-in-NoMemory-clause-steps g c =
 
 pub returns-in-Ok-Request-clause-steps : goal.returns-in-Ok-Request-clause-steps
 returns-in-Ok-Request-clause-steps g c =
-    ends_cut c.args.server.now c.args.wire.now.buffer (g.S.Source.left c.args.source.now) c.args.served
+    ends_cut c.args.self.now.server.now c.args.wire.now.buffer (g.S.Source.left c.args.source.now) c.args.served
     (side (g.C.Clock.coming c.args.clock.now) (held g.W.Store.objects g.W.Store.alone g.W.Store.faults c.args.pass.now c.args.store.now) (g.K.Sink.holds c.args.sink.now))
     c.next.new.self.buffer (g.S.Source.left c.next.new.source) (message c.in-Ok-Request.field-0-0 c.in-Ok-Request.head c.in-Ok-Request.body.items c.in-Ok-Request.closes)
     (hears c.args.wire.now.buffer c.next.new.self.buffer (g.S.Source.left c.args.source.now) (g.S.Source.left c.next.new.source) c.in-Ok-Request.field-0-0 c.in-Ok-Request.head c.in-Ok-Request.body c.in-Ok-Request.closes (rw c.in-Ok-Request.field-0-is at c.in-Ok-Request.ensures.told))
@@ -58,7 +58,7 @@ returns-in-Ok-End-clause-grew g c = grew_itself (held g.W.Store.objects g.W.Stor
 
 pub returns-in-Ok-End-clause-steps : goal.returns-in-Ok-End-clause-steps
 returns-in-Ok-End-clause-steps g c =
-    ends_between c.args.server.now c.args.wire.now.buffer (g.S.Source.left c.args.source.now) c.args.served
+    ends_between c.args.self.now.server.now c.args.wire.now.buffer (g.S.Source.left c.args.source.now) c.args.served
     (side (g.C.Clock.coming c.args.clock.now) (held g.W.Store.objects g.W.Store.alone g.W.Store.faults c.args.pass.now c.args.store.now) (g.K.Sink.holds c.args.sink.now))
     c.next.new.self.buffer (g.S.Source.left c.next.new.source) (rw c.in-Ok-End.field-0-is at c.in-Ok-End.ensures.told)
 
@@ -67,13 +67,13 @@ returns-in-Ok-Truncated-clause-grew g c = grew_itself (held g.W.Store.objects g.
 
 pub returns-in-Ok-Truncated-clause-steps : goal.returns-in-Ok-Truncated-clause-steps
 returns-in-Ok-Truncated-clause-steps g c =
-    ends_inside c.args.server.now c.args.wire.now.buffer (g.S.Source.left c.args.source.now) c.args.served
+    ends_inside c.args.self.now.server.now c.args.wire.now.buffer (g.S.Source.left c.args.source.now) c.args.served
     (side (g.C.Clock.coming c.args.clock.now) (held g.W.Store.objects g.W.Store.alone g.W.Store.faults c.args.pass.now c.args.store.now) (g.K.Sink.holds c.args.sink.now))
     c.next.new.self.buffer (g.S.Source.left c.next.new.source) c.in-Ok-Truncated.at (rw c.in-Ok-Truncated.field-0-is at c.in-Ok-Truncated.ensures.told)
 
 pub returns-in-Ok-Bad-clause-steps : goal.returns-in-Ok-Bad-clause-steps
 returns-in-Ok-Bad-clause-steps g c =
-    ends_refused c.args.server.now c.args.wire.now.buffer (g.S.Source.left c.args.source.now) c.args.served
+    ends_refused c.args.self.now.server.now c.args.wire.now.buffer (g.S.Source.left c.args.source.now) c.args.served
     (side (g.C.Clock.coming c.args.clock.now) (held g.W.Store.objects g.W.Store.alone g.W.Store.faults c.args.pass.now c.args.store.now) (g.K.Sink.holds c.args.sink.now))
     c.next.new.self.buffer (g.S.Source.left c.next.new.source) c.in-Ok-Bad.at c.in-Ok-Bad.flaw
     (side (g.C.Clock.coming c.refuse.new.clock) (held g.W.Store.objects g.W.Store.alone g.W.Store.faults c.args.pass.now c.args.store.now) (g.K.Sink.holds c.refuse.new.sink)) c.refuse.result

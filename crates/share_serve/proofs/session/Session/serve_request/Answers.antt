@@ -7,7 +7,7 @@ use Rattle.share_serve.specs.Turns.{delivery}
 use Rattle.share_serve.specs.declared.response.Delivery.{Delivery}
 use Rattle.share_serve.specs.declared.serve.Turned.{Turned}
 use Rattle.share_serve.proofs.Requests.{turned}
-use Rattle.share_serve.proofs.serve.serve_request.Goals as goal
+use Rattle.share_serve.proofs.session.Session.serve_request.Goals as goal
 
 pub returns-clause-turned : goal.returns-clause-turned
 returns-clause-turned g c = λ at.
@@ -18,7 +18,7 @@ returns-clause-turned g c = λ at.
     let w' = g.K.Sink.holds c.serve_known-delivered.new.sink in
     let d : Delivery = record { moment = c.now-moment.result; closes = c.closes_after.result; to_head = c.is_head.result } in
     let is : d ≡ delivery c.args.served m c.now-moment.result = λ i. record { moment = c.now-moment.result; closes = c.closes_after.ensures i; to_head = c.is_head.ensures i } in
-    subst (λ (z : Turned). IsTurned z c.args.server.now c.args.served m (side (g.C.Clock.coming c.args.clock.now) old w) (side (g.C.Clock.coming c.now-moment.new.self) new w')) (sym c.turned_by.ensures)
-    (turned c.args.server.now c.args.served m c.now-moment.result (g.C.Clock.coming c.args.clock.now) (g.C.Clock.coming c.now-moment.new.self) old new w w' c.now-moment.ensures.told c.serve_known-delivered.ensures.grew
+    subst (λ (z : Turned). IsTurned z c.args.self.now.server.now c.args.served m (side (g.C.Clock.coming c.args.clock.now) old w) (side (g.C.Clock.coming c.now-moment.new.self) new w')) (sym c.turned_by.ensures)
+    (turned c.args.self.now.server.now c.args.served m c.now-moment.result (g.C.Clock.coming c.args.clock.now) (g.C.Clock.coming c.now-moment.new.self) old new w w' c.now-moment.ensures.told c.serve_known-delivered.ensures.grew
     c.serve_known-delivered.result d is
-    (subst (λ (q : Request). IsGiven c.serve_known-delivered.result c.args.server.now q (by_request c.args.server.now q) d old new w w') (c.deref.ensures ∙ c.in-Ok.ensures) c.serve_known-delivered.ensures.given))
+    (subst (λ (q : Request). IsGiven c.serve_known-delivered.result c.args.self.now.server.now q (by_request c.args.self.now.server.now q) d old new w w') (c.deref.ensures ∙ c.in-Ok.ensures) c.serve_known-delivered.ensures.given))
