@@ -48,24 +48,20 @@ pub(crate) fn get<S: Store>(
     from: u64,
     out: &mut [u8],
 ) -> Result<Got, Fail> {
-    let name = name(alloc, object)?;
     if out.is_empty() {
         return Err(Fail::from("no room"));
     }
+    let name = name(alloc, object)?;
     Ok(store.get(&name, from, out))
 }
 
 // Whether the segments have those texts, in order.
 pub(crate) fn have_texts(segments: &[Segment], texts: &[&str]) -> bool {
-    if segments.len() != texts.len() {
-        return false;
-    }
-    for (segment, text) in segments.iter().zip(texts) {
-        if segment.as_str() != *text {
-            return false;
-        }
-    }
-    true
+    segments.len() == texts.len()
+        && segments
+            .iter()
+            .zip(texts)
+            .all(|(segment, text)| segment.as_str() == *text)
 }
 
 // What a folder lists.

@@ -29,15 +29,24 @@ fn store_in(rt: &HostRuntime, folder: &str) -> Result<FileStore, AllocError> {
     Ok(FileStore::new(rt.clone()?, String::from_str(rt.alloc(), folder)?))
 }
 
+// Whether the object has those bytes, which are read into as much room.
+fn has_bytes(
+    alloc: Global,
+    store: &mut FileStore,
+    object: &str,
+    wanted: &[u8],
+    out: &mut [u8],
+) -> Result<bool, Fail> {
+    let first = get(alloc, store, object, 0, out)? == Got::Bytes(wanted.len()) && *out == *wanted;
+    let end = get(alloc, store, object, wanted.len() as u64, out)? == Got::Bytes(0);
+    let measured = size(alloc, store, object)? == Measured::Size(wanted.len() as u64);
+    Ok(first && end && measured)
+}
+
 // Whether the object has those bytes, one or more.
 fn holds(alloc: Global, store: &mut FileStore, object: &str, wanted: &[u8]) -> Result<bool, Fail> {
     let mut out = vec![in alloc; 0u8; wanted.len()]?;
-    Ok(
-        get(alloc, store, object, 0, &mut out)? == Got::Bytes(wanted.len())
-            && out.as_slice() == wanted
-            && get(alloc, store, object, wanted.len() as u64, &mut out)? == Got::Bytes(0)
-            && size(alloc, store, object)? == Measured::Size(wanted.len() as u64),
-    )
+    has_bytes(alloc, store, object, wanted, &mut out)
 }
 
 fn is_absent(alloc: Global, store: &mut FileStore, object: &str) -> Result<bool, Fail> {
@@ -147,7 +156,14 @@ fn folders_are_no_objects(rt: HostRuntime) -> Result<(), Fail> {
     remove(&rt, folder.as_str())
 }
 
-// Links in the folder `d`: to a file, to itself, to nothing and to the folder.
+// Makes a link in the folder `d`.
+fn link_to(rt: &HostRuntime, folder: &str, target: &str, link: &str) -> Result<(), Fail> {
+    let path = format!(in rt.alloc(); "{folder}/d/{link}")?;
+    symlink(rt, target, path.as_str())?;
+    Ok(())
+}
+
+// Links to a file, to itself, to nothing and to the folder.
 fn link_all(rt: &HostRuntime, folder: &str) -> Result<(), Fail> {
     for (target, link) in [
         ("file", "good"),
@@ -155,20 +171,25 @@ fn link_all(rt: &HostRuntime, folder: &str) -> Result<(), Fail> {
         ("none", "nowhere"),
         (".", "up"),
     ] {
-        let path = format!(in rt.alloc(); "{folder}/d/{link}")?;
-        symlink(rt, target, path.as_str())?;
+        link_to(rt, folder, target, link)?;
     }
     Ok(())
 }
 
-// How many entries the folder `d` has on the disk.
-fn entries(rt: &HostRuntime, folder: &str) -> Result<usize, Fail> {
+// How many entries a folder has on the disk.
+fn entries_at(rt: &HostRuntime, path: &str) -> Result<usize, Fail> {
     let mut count = 0usize;
-    for entry in fs::read_dir(rt, format!(in rt.alloc(); "{folder}/d")?.as_str())? {
+    for entry in fs::read_dir(rt, path)? {
         entry?;
         count = count.saturating_add(1);
     }
     Ok(count)
+}
+
+// The same of the folder `d`.
+fn entries(rt: &HostRuntime, folder: &str) -> Result<usize, Fail> {
+    let path = format!(in rt.alloc(); "{folder}/d")?;
+    entries_at(rt, path.as_str())
 }
 
 fn pass_links_over(rt: &HostRuntime, folder: &str, store: &mut FileStore) -> Result<(), Fail> {

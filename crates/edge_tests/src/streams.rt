@@ -1,9 +1,10 @@
 // Streams over fakes that give and take pieces, and fail.
 ghost use Rattle.std.specs.Prelude.{◌≤◌, length};
 
-use crate::calls::LARGE;
+use crate::calls::{LARGE, read, write};
 use edge_core::{Gave, Sink, Source, Took};
 use edge_std::{StdSink, StdSource};
+use std::alloc::{AllocError, Global};
 use std::io;
 use std::io::{ErrorKind, Read, Write};
 use std::test::Fail;
@@ -91,17 +92,24 @@ fn a_sink_tells_how_much_went_out(rt: HostRuntime) -> Result<(), Fail> {
     Ok(())
 }
 
+// Whether the bytes are read in one piece.
+fn are_read(alloc: Global, bytes: &[u8]) -> Result<bool, AllocError> {
+    let mut out = vec![in alloc; 0u8; bytes.len()]?;
+    let took = read(&mut StdSource::new(bytes), &mut out);
+    Ok(took == Took::Bytes(bytes.len()) && out.as_slice() == bytes)
+}
+
+// Whether the bytes are written in one piece.
+fn are_written(alloc: Global, bytes: &[u8]) -> bool {
+    let mut written = Vec::new(alloc);
+    let gave = write(&mut StdSink::new(&mut written), bytes);
+    gave == Gave::Bytes(bytes.len()) && written.as_slice() == bytes
+}
+
 #[test]
 fn large_pieces_pass(rt: HostRuntime) -> Result<(), Fail> {
     let bytes = vec![in rt.alloc(); b'x'; LARGE]?;
-    let mut source = StdSource::new(bytes.as_slice());
-    let mut out = vec![in rt.alloc(); 0u8; LARGE]?;
-    assert!(rt; matches!(source.read(&mut out), Took::Bytes(LARGE)));
-    assert!(rt; out == bytes);
-    let mut written = Vec::new(rt.alloc());
-    let mut sink = StdSink::new(&mut written);
-    assert!(rt; matches!(sink.write(&bytes), Gave::Bytes(LARGE)));
-    drop(sink);
-    assert!(rt; written == bytes);
+    assert!(rt; are_read(rt.alloc(), &bytes)?);
+    assert!(rt; are_written(rt.alloc(), &bytes));
     Ok(())
 }

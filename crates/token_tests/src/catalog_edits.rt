@@ -3,7 +3,7 @@ use crate::catalog_names::table;
 use crate::texts::joined;
 use catalog_log::edit_at;
 use json_tree::{Millis, tree_of};
-use share_catalog::{Catalog, Edit, EditRefusal};
+use share_catalog::{Bound, Catalog, Edit, EditRefusal, Granted, TableName};
 use std::alloc::Global;
 
 const NEW_S1: &str = "{\"newShare\":{\"name\":\"s1\"}}";
@@ -61,22 +61,37 @@ const GRANTS: [&str; 3] = ["{\"grant\":{\"recipient\":\"r1\",\"share\":\"s", "\"
 
 fn edit(alloc: Global, text: &str) -> Option<Edit> {
     let object = tree_of(alloc, text.as_bytes()).ok()?;
-    edit_at(alloc, &object).ok()
-}
-
-// Takes memory for the edit, and makes it.
-fn apply(catalog: &mut Catalog, alloc: Global, edit: Edit) -> Option<Result<(), EditRefusal>> {
-    match catalog.reserve(alloc) {
-        Ok(()) => Some(catalog.apply(edit)),
+    match edit_at(alloc, &object) {
+        Ok(edit) => Some(edit),
         Err(_) => None,
     }
 }
 
+// Takes memory for an edit, and makes it. An edit is much to drop, so it is made last.
+fn apply(catalog: &mut Catalog, alloc: Global, text: &str) -> Option<Result<(), EditRefusal>> {
+    match catalog.reserve(alloc) {
+        Ok(()) => Some(catalog.apply(edit(alloc, text)?)),
+        Err(_) => None,
+    }
+}
+
+// What is told of the edit's copy.
+fn told_of(catalog: &Catalog, alloc: Global, edit: &Edit) -> Option<Result<(), EditRefusal>> {
+    match edit.copy(alloc) {
+        Ok(copy) => Some(catalog.admits(&copy)),
+        Err(_) => None,
+    }
+}
+
+fn told(catalog: &Catalog, alloc: Global, text: &str) -> Option<Result<(), EditRefusal>> {
+    let edit = edit(alloc, text)?;
+    told_of(catalog, alloc, &edit)
+}
+
 // The answer to an edit that is made, which was told before.
 fn make(catalog: &mut Catalog, alloc: Global, text: &str) -> Option<Result<(), EditRefusal>> {
-    let edit = edit(alloc, text)?;
-    let before = catalog.admits(&edit.copy(alloc).ok()?);
-    let made = apply(catalog, alloc, edit)?;
+    let before = told(catalog, alloc, text)?;
+    let made = apply(catalog, alloc, text)?;
     if before == made { Some(made) } else { None }
 }
 
@@ -118,14 +133,19 @@ fn granted_at(catalog: &Catalog, recipient: &str, share: &str) -> Option<u64> {
     }
 }
 
-// How often the table of the share `s1` was bound, where it is bound there.
-fn bound_at(catalog: &Catalog, alloc: Global, of: &str, at: &str) -> Option<u64> {
-    let of = table(alloc, "s1", "d", of)?;
-    if catalog.binding(&of)?.location.as_str() == at {
-        Some(catalog.binding_edition(&of).get())
+// How often the table was bound, where it is bound there.
+fn edition_at(catalog: &Catalog, of: &TableName, at: &str) -> Option<u64> {
+    if catalog.binding(of)?.location.as_str() == at {
+        Some(catalog.binding_edition(of).get())
     } else {
         None
     }
+}
+
+// The same of a table of the share `s1`.
+fn bound_at(catalog: &Catalog, alloc: Global, of: &str, at: &str) -> Option<u64> {
+    let of = table(alloc, "s1", "d", of)?;
+    edition_at(catalog, &of, at)
 }
 
 // Whether that many edits were made, and the share is there and was granted once.
@@ -136,9 +156,8 @@ fn has_granted(catalog: &Catalog, edits: u64, share: &str) -> bool {
         && granted_at(catalog, "r1", share) == Some(1)
 }
 
-// How many tables are listed of the share, where the first and the last are these.
-fn listed_tables(catalog: &Catalog, alloc: Global, first: &str, last: &str) -> Option<usize> {
-    let tables = catalog.bindings_of(alloc, "s1").ok()?;
+// How many tables there are, where the first and the last are these.
+fn count_between(tables: &[Bound], first: &str, last: &str) -> Option<usize> {
     let is_first = tables.first()?.table.table.as_str() == first;
     let is_last = tables.last()?.table.table.as_str() == last;
     if is_first && is_last {
@@ -146,6 +165,12 @@ fn listed_tables(catalog: &Catalog, alloc: Global, first: &str, last: &str) -> O
     } else {
         None
     }
+}
+
+// The same of the tables that are listed of the share.
+fn listed_tables(catalog: &Catalog, alloc: Global, first: &str, last: &str) -> Option<usize> {
+    let tables = catalog.bindings_of(alloc, "s1").ok()?;
+    count_between(&tables, first, last)
 }
 
 // Whether the table was bound there once, and so many are listed from the first to the last.
@@ -161,15 +186,20 @@ fn has_bound(
         && listed_tables(catalog, alloc, first, last) == Some(count)
 }
 
-// How many shares are listed of the recipient, where the last is this one, granted once.
-fn listed_shares(catalog: &Catalog, alloc: Global, end: &str) -> Option<usize> {
-    let grants = catalog.grants_of(alloc, "r1").ok()?;
+// How many shares there are, where the last is this one, granted once.
+fn count_up_to(grants: &[Granted], end: &str) -> Option<usize> {
     let last = grants.last()?;
     if last.share.as_str() == end && last.edition.get() == 1 {
         Some(grants.len())
     } else {
         None
     }
+}
+
+// The same of the shares that are listed of the recipient.
+fn listed_shares(catalog: &Catalog, alloc: Global, end: &str) -> Option<usize> {
+    let grants = catalog.grants_of(alloc, "r1").ok()?;
+    count_up_to(&grants, end)
 }
 
 // Whether nothing is listed of a recipient that isn't there.
@@ -187,32 +217,37 @@ fn what_is_shared_is_told_and_listed(rt: HostRuntime) {
     assert!(rt; lists_nothing(&catalog, alloc, "r") == Some(true));
 }
 
-// Whether an edit is answered so behind the first edits and a rotation to the second credential, and how many edits
-// there are then.
-fn is_answered(
+// How an edit is answered, and how many edits there are then.
+fn answer_to(
+    catalog: &mut Catalog,
     alloc: Global,
     text: &str,
-    answer: Result<(), EditRefusal>,
-    count: u64,
-) -> Option<bool> {
-    let mut catalog = catalog_of(alloc, &[ROTATE_R1_TO_2])?;
-    let made = make(&mut catalog, alloc, text)?;
-    Some(made == answer && catalog.count() == count)
+) -> Option<(Result<(), EditRefusal>, u64)> {
+    let made = make(catalog, alloc, text)?;
+    Some((made, catalog.count()))
 }
+
+// The same behind the first edits and a rotation to the second credential.
+fn answered(alloc: Global, text: &str) -> Option<(Result<(), EditRefusal>, u64)> {
+    let mut catalog = catalog_of(alloc, &[ROTATE_R1_TO_2])?;
+    answer_to(&mut catalog, alloc, text)
+}
+
+static ANSWERS: [(&str, Result<(), EditRefusal>, u64); 7] = [
+    (NEW_S1, Err(EditRefusal::Taken), 5),
+    (REVOKE_R2, Err(EditRefusal::Missing), 5),
+    (NEW_R2_OF_2, Err(EditRefusal::TokenTaken), 5),
+    (NEW_R2, Ok(()), 6),
+    (ROTATE_R1_TO_2, Ok(()), 6),
+    (UNBIND_T, Ok(()), 6),
+    (DROP_R1, Ok(()), 6),
+];
 
 #[test]
 fn each_refusal_comes_once(rt: HostRuntime) {
     let alloc = rt.alloc();
-    for (text, answer, count) in [
-        (NEW_S1, Err(EditRefusal::Taken), 5),
-        (REVOKE_R2, Err(EditRefusal::Missing), 5),
-        (NEW_R2_OF_2, Err(EditRefusal::TokenTaken), 5),
-        (NEW_R2, Ok(()), 6),
-        (ROTATE_R1_TO_2, Ok(()), 6),
-        (UNBIND_T, Ok(()), 6),
-        (DROP_R1, Ok(()), 6),
-    ] {
-        assert!(rt; is_answered(alloc, text, answer, count) == Some(true));
+    for (text, answer, count) in &ANSWERS {
+        assert!(rt; answered(alloc, text) == Some((*answer, *count)));
     }
 }
 
@@ -282,20 +317,20 @@ fn shares_end_at_1024_and_locations_at_32(rt: HostRuntime) {
     assert!(rt; make_numbered(&mut catalog, alloc, TABLES_APART, 0, 33, 32) == Some(32));
 }
 
-// 900 shares, and 550 tables and grants.
-fn large(alloc: Global) -> Option<Catalog> {
-    let mut catalog = Catalog::new(alloc);
-    make_numbered(&mut catalog, alloc, SHARES, 0, 900, 0)?;
-    make(&mut catalog, alloc, NEW_R1)?.ok()?;
-    make_numbered(&mut catalog, alloc, TABLES, 100, 650, 0)?;
-    make_numbered(&mut catalog, alloc, GRANTS, 100, 650, 0)?;
-    Some(catalog)
+// Makes 900 shares, and 550 tables and grants.
+fn make_many(catalog: &mut Catalog, alloc: Global) -> Option<()> {
+    make_numbered(catalog, alloc, SHARES, 0, 900, 0)?;
+    make(catalog, alloc, NEW_R1)?.ok()?;
+    make_numbered(catalog, alloc, TABLES, 100, 650, 0)?;
+    make_numbered(catalog, alloc, GRANTS, 100, 650, 0)?;
+    Some(())
 }
 
 #[test]
 fn a_large_catalogue_answers(rt: HostRuntime) {
     let alloc = rt.alloc();
-    let catalog = large(alloc).expect(&rt, "a catalogue");
+    let mut catalog = Catalog::new(alloc);
+    assert!(rt; make_many(&mut catalog, alloc).is_some());
     assert!(rt; catalog.has_share("s899") && has_granted(&catalog, 2_001, "s649"));
     assert!(rt; has_credential(&catalog, "r1", 1) == Some(true));
     assert!(rt; has_bound(&catalog, alloc, "t649", "at", ("t100", "t649", 550)));

@@ -1,7 +1,7 @@
 // The names' grammar at its edges, their order, and where a table's log may lie.
 use crate::texts::{letters, name};
 use edge_core::Name;
-use share_catalog::{Location, TableName, is_catalog_name_text};
+use share_catalog::{CatalogName, Location, TableName, is_catalog_name_text};
 use std::alloc::Global;
 use std::cmp::Ordering;
 
@@ -28,9 +28,16 @@ fn order_of_shares(alloc: Global, first: &str, second: &str) -> Option<Ordering>
     Some(name(alloc, first)?.compare(&name(alloc, second)?))
 }
 
+// How the table and `y` of another share stand.
+fn order_before(alloc: Global, first: &TableName, second: &str) -> Option<Ordering> {
+    let second = table(alloc, second, "d", "y")?;
+    Some(first.compare(&second))
+}
+
 // How the tables `z` of one share and `y` of another stand.
 fn order_of_tables(alloc: Global, first: &str, second: &str) -> Option<Ordering> {
-    Some(table(alloc, first, "d", "z")?.compare(&table(alloc, second, "d", "y")?))
+    let first = table(alloc, first, "d", "z")?;
+    order_before(alloc, &first, second)
 }
 
 #[test]
@@ -41,16 +48,29 @@ fn names_go_by_bytes(rt: HostRuntime) {
     assert!(rt; order_of_tables(alloc, "a", "a") == Some(Ordering::Greater));
 }
 
-// Whether a name is told from another one, and comes back as a text and as a copy.
+// Whether a name is told from another one, and is its copy's.
+fn is_told(alloc: Global, name: &CatalogName, other: &CatalogName) -> Option<bool> {
+    let copy = name.copy(alloc).ok()?;
+    Some(name.is(&copy) && !name.is(other))
+}
+
+// The same, and whether it comes back as a text.
 fn name_comes_back(alloc: Global, of: &str) -> Option<bool> {
+    let other = name(alloc, "other")?;
     let first = name(alloc, of)?;
-    let is_told = first.is(&first.copy(alloc).ok()?) && !first.is(&name(alloc, "other")?);
-    Some(is_told && first.into_text().as_str() == of)
+    let is_told = is_told(alloc, &first, &other);
+    let is_back = first.into_text().as_str() == of;
+    Some(is_told? && is_back)
+}
+
+fn is_copied(alloc: Global, table: &TableName) -> Option<bool> {
+    let copy = table.copy(alloc).ok()?;
+    Some(copy.compare(table) == Ordering::Equal)
 }
 
 fn table_comes_back(alloc: Global, of: &str) -> Option<bool> {
     let first = table(alloc, of, of, of)?;
-    Some(first.copy(alloc).ok()?.compare(&first) == Ordering::Equal)
+    is_copied(alloc, &first)
 }
 
 #[test]

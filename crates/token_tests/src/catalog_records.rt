@@ -5,7 +5,7 @@ use json_tree::tree_of;
 use share_catalog::Edit;
 use std::alloc::Global;
 
-const RECORDS: [&str; 10] = [
+static RECORDS: [&str; 10] = [
     "{\"edit\":{\"newShare\":{\"name\":\"s1\"}},\"version\":1}\n",
     "{\"edit\":{\"dropShare\":{\"name\":\"s1\"}},\"version\":1}\n",
     "{\"edit\":{\"bind\":{\"history\":true,\"location\":\"tables/t\",\"schema\":\"d\",\"share\":\"s1\",\"table\":\"t\"}},\"version\":1}\n",
@@ -18,7 +18,7 @@ const RECORDS: [&str; 10] = [
     "{\"edit\":{\"revoke\":{\"recipient\":\"r1\",\"share\":\"s1\"}},\"version\":1}\n",
 ];
 
-const BAD_RECORDS: [&str; 13] = [
+static BAD_RECORDS: [&str; 13] = [
     "{}",
     "[]",
     "{\"edit\":{\"newShare\":{\"name\":\"s1\"}},\"version\":2}",
@@ -62,7 +62,7 @@ const LOOSE: &str =
 #[test]
 fn each_kind_is_read_and_written(rt: HostRuntime) {
     let alloc = rt.alloc();
-    for text in RECORDS {
+    for text in &RECORDS {
         assert!(rt; is_record(alloc, text, text));
     }
     // Other members are passed over, and an object alone is an edit.
@@ -120,7 +120,7 @@ fn fault_of(alloc: Global, bytes: &[u8]) -> Option<RecordFault> {
 #[test]
 fn what_is_no_record_is_refused(rt: HostRuntime) {
     let alloc = rt.alloc();
-    for text in BAD_RECORDS {
+    for text in &BAD_RECORDS {
         assert!(rt; fault_of(alloc, text.as_bytes()) == Some(RecordFault::BadRecord));
     }
     assert!(rt; fault_of(alloc, b"\"\xff\"") == Some(RecordFault::NotUtf8));

@@ -9,7 +9,7 @@ fn escaped(alloc: Global, bytes: &[u8]) -> Option<String> {
     Some(text)
 }
 
-const ESCAPES: [(&[u8], &str); 6] = [
+static ESCAPES: [(&[u8], &str); 6] = [
     (b"", "/"),
     (b"az-._~AZ09", "/az-._~AZ09"),
     (b"day=1/a b.parquet", "/day%3D1%2Fa%20b.parquet"),
@@ -20,8 +20,8 @@ const ESCAPES: [(&[u8], &str); 6] = [
 
 #[test]
 fn escapes_bytes(rt: HostRuntime) {
-    for (bytes, text) in ESCAPES {
-        assert!(rt; escaped(rt.alloc(), bytes).as_deref() == Some(text));
+    for (bytes, text) in &ESCAPES {
+        assert!(rt; escaped(rt.alloc(), bytes).as_deref() == Some(*text));
     }
 }
 
@@ -33,7 +33,7 @@ fn escapes_a_long_text(rt: HostRuntime) {
     assert!(rt; again.as_str().len() == (1 << 20) + 1);
 }
 
-const NUMBERS: [(u64, u64, &[u8], Option<u64>); 14] = [
+static NUMBERS: [(u64, u64, &[u8], Option<u64>); 14] = [
     (0, u64::MAX, b"0", Some(0)),
     (0, u64::MAX, b"007", Some(7)),
     (0, u64::MAX, b"18446744073709551615", Some(u64::MAX)),
@@ -50,14 +50,14 @@ const NUMBERS: [(u64, u64, &[u8], Option<u64>); 14] = [
     (5, 7, b"7", Some(7)),
 ];
 
-const OUT_OF_BOUNDS: [&[u8]; 2] = [b"4", b"8"];
+static OUT_OF_BOUNDS: [&[u8]; 2] = [b"4", b"8"];
 
 #[test]
 fn reads_numbers(rt: HostRuntime) {
-    for (low, high, text, number) in NUMBERS {
-        assert!(rt; number_in(low, high, text) == number);
+    for (low, high, text, number) in &NUMBERS {
+        assert!(rt; number_in(*low, *high, text) == *number);
     }
-    for text in OUT_OF_BOUNDS {
+    for text in &OUT_OF_BOUNDS {
         assert!(rt; number_in(5, 7, text).is_none());
     }
 }

@@ -51,22 +51,28 @@ fn spells_a_link(rt: HostRuntime) {
     assert!(rt; text.as_str() == LINK);
 }
 
+// Whether there are parts, with that path, edition and recipient.
+fn have(parts: &Option<LinkParts>, path: &str, binding: u64, recipient: &str) -> bool {
+    match parts {
+        Some(parts) => {
+            parts.path.as_str() == path
+                && parts.recipient.as_str() == recipient
+                && parts.binding.get() == binding
+        }
+        None => false,
+    }
+}
+
 // Whether the target is a link to that path, under an edition and a recipient of these.
-fn leads_to(
-    alloc: Global,
-    target: &str,
-    path: &str,
-    binding: u64,
-    recipient: &str,
-) -> Option<bool> {
-    let parts = parts_of(alloc, &HmacKey::of(&KEY), target).ok()??;
-    let is_path = parts.path.as_str() == path;
-    let is_recipient = parts.recipient.as_str() == recipient;
-    Some(is_path && is_recipient && parts.binding.get() == binding)
+fn leads_to(alloc: Global, target: &str, path: &str, binding: u64, recipient: &str) -> bool {
+    match parts_of(alloc, &HmacKey::of(&KEY), target) {
+        Ok(parts) => have(&parts, path, binding, recipient),
+        Err(_) => false,
+    }
 }
 
 // Targets, with their paths, the editions of their bindings and their recipients.
-const LINKS: [(&str, &str, u64, &str); 3] = [
+static LINKS: [(&str, &str, u64, &str); 3] = [
     (TARGET, "day=1/a.parquet", 1, "r1"),
     (
         "/delta-sharing/files/s.1_-/sc/t1/%C3%A9%20%3F%26%3D%25%2F~?b=9223372036854775807&e=0&g=7&r=r-2&t=a16ecfd645974e21b983c74cc393c4532d581cc89b2690966c57868f6aad9b62",
@@ -84,8 +90,8 @@ const LINKS: [(&str, &str, u64, &str); 3] = [
 
 #[test]
 fn reads_links(rt: HostRuntime) {
-    for (target, path, binding, recipient) in LINKS {
-        assert!(rt; leads_to(rt.alloc(), target, path, binding, recipient) == Some(true));
+    for (target, path, binding, recipient) in &LINKS {
+        assert!(rt; leads_to(rt.alloc(), target, path, *binding, recipient));
     }
 }
 
@@ -97,11 +103,11 @@ fn a_long_path_comes_back(rt: HostRuntime) {
     let again = long(alloc).expect(&rt, "memory");
     let text = linked(alloc, "/delta-sharing", again).expect(&rt, "a link");
     assert!(rt; text.as_str().len() == (1 << 20) + TARGET.len() - 19);
-    assert!(rt; leads_to(alloc, text.as_str(), &path, 1, "r1") == Some(true));
+    assert!(rt; leads_to(alloc, text.as_str(), &path, 1, "r1"));
 }
 
 // Under the key these are no links.
-const OTHERS: [&str; 14] = [
+static OTHERS: [&str; 14] = [
     "",
     "/delta-sharing/files/",
     // The link with its host.
@@ -133,7 +139,7 @@ fn is_refused(alloc: Global, byte: u8, target: &str) -> bool {
 fn refuses_other_texts(rt: HostRuntime) {
     let alloc = rt.alloc();
     assert!(rt; is_refused(alloc, 3, TARGET));
-    for other in OTHERS {
+    for other in &OTHERS {
         assert!(rt; is_refused(alloc, 2, other));
     }
 }

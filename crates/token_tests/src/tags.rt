@@ -2,62 +2,62 @@
 use hmac_core::{HmacKey, agrees, hmac};
 
 // A text under a key, and the digits of its tag.
-#[derive(Drop)]
-struct Case<'a> {
-    key: &'a [u8],
-    text: &'a [u8],
-    digits: &'a str,
+struct Case {
+    key: &'static [u8],
+    text: &'static [u8],
+    digits: &'static str,
 }
+
+static CASES: [Case; 8] = [
+    Case {
+        key: &[0x0b; 20],
+        text: b"Hi There",
+        digits: "b0344c61d8db38535ca8afceaf0bf12b881dc200c9833da726e9376c2e32cff7",
+    },
+    Case {
+        key: b"Jefe",
+        text: b"what do ya want for nothing?",
+        digits: "5bdcc146bf60754e6a042426089575c75a003f089d2739839dec58b964ec3843",
+    },
+    Case {
+        key: &[0xaa; 20],
+        text: &[0xdd; 50],
+        digits: "773ea91e36800e46854db8ebd09181a72959098b3ef8c122d9635514ced565fe",
+    },
+    Case {
+        key: &[
+            1, 2, 3, 4, 5, 6, 7, 8, 9, 10, 11, 12, 13, 14, 15, 16, 17, 18, 19, 20, 21, 22, 23, 24,
+            25,
+        ],
+        text: &[0xcd; 50],
+        digits: "82558a389a443c0ea4cc819899f2083a85f0faa3e578f8077a2e3ff46729665b",
+    },
+    Case {
+        key: &[0xaa; 131],
+        text: b"Test Using Larger Than Block-Size Key - Hash Key First",
+        digits: "60e431591ee0b67f0d8a26aacbf5b77f8e0bc6213728c5140546040f0ee37f54",
+    },
+    Case {
+        key: &[0xaa; 131],
+        text: b"This is a test using a larger than block-size key and a larger than block-size data. The key needs to be hashed before being used by the HMAC algorithm.",
+        digits: "9b09ffa71b942fcb27635fbcd5b0e944bfdc63644f0713938a7f51535c3a35e2",
+    },
+    // A key of just a block, and none.
+    Case {
+        key: &[b'k'; 64],
+        text: b"x",
+        digits: "f91c4c403625fb06910ef93999265bbd2d62baeaec6ff36455498cc124fe3e66",
+    },
+    Case {
+        key: b"",
+        text: b"",
+        digits: "b613679a0814d9ec772f95d778c35fc5ff1697c493715653c6c712144292c5ad",
+    },
+];
 
 #[test]
 fn tags_are_those_of_the_standard(rt: HostRuntime) {
-    let cases = [
-        Case {
-            key: &[0x0b; 20],
-            text: b"Hi There",
-            digits: "b0344c61d8db38535ca8afceaf0bf12b881dc200c9833da726e9376c2e32cff7",
-        },
-        Case {
-            key: b"Jefe",
-            text: b"what do ya want for nothing?",
-            digits: "5bdcc146bf60754e6a042426089575c75a003f089d2739839dec58b964ec3843",
-        },
-        Case {
-            key: &[0xaa; 20],
-            text: &[0xdd; 50],
-            digits: "773ea91e36800e46854db8ebd09181a72959098b3ef8c122d9635514ced565fe",
-        },
-        Case {
-            key: &[
-                1, 2, 3, 4, 5, 6, 7, 8, 9, 10, 11, 12, 13, 14, 15, 16, 17, 18, 19, 20, 21, 22, 23,
-                24, 25,
-            ],
-            text: &[0xcd; 50],
-            digits: "82558a389a443c0ea4cc819899f2083a85f0faa3e578f8077a2e3ff46729665b",
-        },
-        Case {
-            key: &[0xaa; 131],
-            text: b"Test Using Larger Than Block-Size Key - Hash Key First",
-            digits: "60e431591ee0b67f0d8a26aacbf5b77f8e0bc6213728c5140546040f0ee37f54",
-        },
-        Case {
-            key: &[0xaa; 131],
-            text: b"This is a test using a larger than block-size key and a larger than block-size data. The key needs to be hashed before being used by the HMAC algorithm.",
-            digits: "9b09ffa71b942fcb27635fbcd5b0e944bfdc63644f0713938a7f51535c3a35e2",
-        },
-        // A key of just a block, and none.
-        Case {
-            key: &[b'k'; 64],
-            text: b"x",
-            digits: "f91c4c403625fb06910ef93999265bbd2d62baeaec6ff36455498cc124fe3e66",
-        },
-        Case {
-            key: b"",
-            text: b"",
-            digits: "b613679a0814d9ec772f95d778c35fc5ff1697c493715653c6c712144292c5ad",
-        },
-    ];
-    for case in &cases {
+    for case in &CASES {
         let key = HmacKey::of(case.key);
         assert!(rt; key.tag_digits(case.text).as_slice() == case.digits.as_bytes());
         assert!(rt; key.agrees_with_digits(case.text, case.digits.as_bytes()));

@@ -25,24 +25,31 @@ const FEED: &str =
 const HINTED: &str =
     "MTpxLDI6cjEsMjpzMSwyOnNjLDI6dDEsMToxLDE6MSwyMDptMTcwMDAwMDAwMDAwMDAwMDAwMCwxOjQsMTY6K3sib3AiOiJpc051bGwifSwxOjAs.475146ac294b46ed36e93729468827a4ace41eb1f4eba949a87de19850791278";
 
-// The files of table `t1`, at version 4.
-fn files(alloc: Global, asked: Asked, hint: Option<Text>, before: u64) -> Option<Cursor> {
+// The access to table `t1` under those editions.
+fn access(alloc: Global, grant: u64, binding: u64) -> Option<TableAccess> {
+    let grant = Edition::of(grant)?;
+    let binding = Edition::of(binding)?;
     let recipient = text(alloc, "r1")?;
     let share = text(alloc, "s1")?;
     let schema = text(alloc, "sc")?;
     let table = text(alloc, "t1")?;
-    let once = Edition::of(1)?;
+    Some(TableAccess {
+        recipient,
+        share,
+        schema,
+        table,
+        grant,
+        binding,
+    })
+}
+
+// The files of table `t1`, at version 4.
+fn files(alloc: Global, asked: Asked, hint: Option<Text>, before: u64) -> Option<Cursor> {
     let version = Version::of(4)?;
     let place = Place::of(before)?;
+    let access = access(alloc, 1, 1)?;
     Some(Cursor::Files(FilesCursor {
-        access: TableAccess {
-            recipient,
-            share,
-            schema,
-            table,
-            grant: once,
-            binding: once,
-        },
+        access,
         asked,
         version,
         hint,
@@ -65,24 +72,12 @@ fn all_tables(alloc: Global) -> Option<Cursor> {
 }
 
 fn feed(alloc: Global) -> Option<Cursor> {
-    let recipient = text(alloc, "r1")?;
-    let share = text(alloc, "s1")?;
-    let schema = text(alloc, "sc")?;
-    let table = text(alloc, "t1")?;
-    let grant = Edition::of(7)?;
-    let binding = Edition::of(3)?;
     let from = Version::of(0)?;
     let to = Version::of((1 << 63) - 1)?;
     let place = Place::of(12)?;
+    let access = access(alloc, 7, 3)?;
     Some(Cursor::Feed(FeedCursor {
-        access: TableAccess {
-            recipient,
-            share,
-            schema,
-            table,
-            grant,
-            binding,
-        },
+        access,
         asked_from: Asked::Version(from),
         asked_to: Asked::Moment(-5),
         from,
@@ -91,11 +86,15 @@ fn feed(alloc: Global) -> Option<Cursor> {
     }))
 }
 
-fn spelt(alloc: Global, cursor: Option<Cursor>) -> Option<Text> {
-    spell(alloc, &HmacKey::of(&KEY), &cursor?).ok()
+// A cursor is much to drop, so who makes it lends it as it is.
+fn spelt(alloc: Global, cursor: &Option<Cursor>) -> Option<Text> {
+    match cursor {
+        Some(cursor) => spell(alloc, &HmacKey::of(&KEY), cursor).ok(),
+        None => None,
+    }
 }
 
-fn is_spelt(alloc: Global, cursor: Option<Cursor>, token: &str) -> Option<bool> {
+fn is_spelt(alloc: Global, cursor: &Option<Cursor>, token: &str) -> Option<bool> {
     Some(spelt(alloc, cursor)?.as_str() == token)
 }
 
@@ -103,12 +102,12 @@ fn is_spelt(alloc: Global, cursor: Option<Cursor>, token: &str) -> Option<bool> 
 fn spells_each_kind(rt: HostRuntime) {
     let alloc = rt.alloc();
     let plain = files(alloc, Asked::Latest, None, 2);
-    assert!(rt; is_spelt(alloc, plain, FILES) == Some(true));
+    assert!(rt; is_spelt(alloc, &plain, FILES) == Some(true));
     let moment = Asked::Moment(1_700_000_000_000_000_000);
     let hinted = files(alloc, moment, text(alloc, "{\"op\":\"isNull\"}"), 0);
-    assert!(rt; is_spelt(alloc, hinted, HINTED) == Some(true));
-    assert!(rt; is_spelt(alloc, all_tables(alloc), ALL_TABLES) == Some(true));
-    assert!(rt; is_spelt(alloc, feed(alloc), FEED) == Some(true));
+    assert!(rt; is_spelt(alloc, &hinted, HINTED) == Some(true));
+    assert!(rt; is_spelt(alloc, &all_tables(alloc), ALL_TABLES) == Some(true));
+    assert!(rt; is_spelt(alloc, &feed(alloc), FEED) == Some(true));
 }
 
 // The place of the cursor that the token stands for, and 100 for a listing.
@@ -129,7 +128,7 @@ fn reads_tokens(rt: HostRuntime) {
 }
 
 // Under the key these are no tokens.
-const OTHERS: [&str; 10] = [
+static OTHERS: [&str; 10] = [
     "",
     ".",
     // Padded.
@@ -156,7 +155,7 @@ fn is_refused(alloc: Global, byte: u8, token: &str) -> bool {
 fn refuses_other_texts(rt: HostRuntime) {
     let alloc = rt.alloc();
     assert!(rt; is_refused(alloc, 2, FILES));
-    for other in OTHERS {
+    for other in &OTHERS {
         assert!(rt; is_refused(alloc, 1, other));
     }
 }
@@ -167,7 +166,7 @@ fn a_long_hint_comes_back(rt: HostRuntime) {
     let alloc = rt.alloc();
     let hint = long(alloc).expect(&rt, "memory");
     let cursor = files(alloc, Asked::Latest, Some(Text::of(hint)), 2);
-    let token = spelt(alloc, cursor).expect(&rt, "a token");
+    let token = spelt(alloc, &cursor).expect(&rt, "a token");
     assert!(rt; token.as_str().len() == 1_398_174 + 65);
     assert!(rt; place_in(alloc, token.as_str()) == Some(2));
 }
