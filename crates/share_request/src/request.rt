@@ -269,22 +269,6 @@ fn by_link(
     }))
 }
 
-fn at_path(
-    alloc: Global,
-    head: &Head,
-    below: &str,
-    query: Option<&str>,
-    body: &[u8],
-) -> Result<Request, AllocError>
-    ensures { IfOk result (λ r. r ≡ spec.at_path head.now below.now (option_map (λ q. q.now) query.entry) body.now) }
-{
-    let names = segments_of(alloc, below)?;
-    match route_of(&names) {
-        Some(route) => at_route(alloc, head, route, &names, query, body),
-        None => Ok(turned_away(TurnedAway::NoRoute)),
-    }
-}
-
 fn link_or(
     alloc: Global,
     head: &Head,
@@ -294,9 +278,13 @@ fn link_or(
 ) -> Result<Request, AllocError>
     ensures { IfOk result (λ r. r ≡ spec.below_in head.now (Some below.now) (option_map (λ q. q.now) query.entry) body.now) }
 {
-    match after("files/", below) {
-        Some(file) => by_link(alloc, head, file, query),
-        None => at_path(alloc, head, below, query, body),
+    if let Some(file) = after("files/", below) {
+        return by_link(alloc, head, file, query);
+    }
+    let names = segments_of(alloc, below)?;
+    match route_of(&names) {
+        Some(route) => at_route(alloc, head, route, &names, query, body),
+        None => Ok(turned_away(TurnedAway::NoRoute)),
     }
 }
 
