@@ -1,12 +1,16 @@
 -- The lines of a page by what was cut for it.
-use Rattle.std.proofs.Common.{◌≡◌, ℕ, List, ◌∷◌, ◌++◌, map, Vec, Option, Some, None, Bool, true, false, refl, sym, ap, ◌∙◌, subst, option_map}
-use Rattle.std.specs.Prelude.{if◌then◌else◌, option_to_list}
+use Rattle.std.proofs.Common.{◌≡◌, ℕ, List, [], ◌∷◌, ◌++◌, length, map, Vec, Option, Some, None, Ok, Bool, true, false, refl, sym, ap, ◌∙◌, subst, option_map}
+use Rattle.std.specs.Prelude.{if◌then◌else◌, nat_le, option_to_list}
 use Rattle.std.specs.Global.{Global}
 use Rattle.std.specs.Borrow.{Bor}
 use Rattle.std.proofs.lemmas.Simd.{map-map}
+use Rattle.case_table.specs.declared.refuse.Refusal.TheVariants.{TokenAhead}
 use Rattle.change_feed.specs.Changes.{ChangedFile}
+use Rattle.log_actions.specs.declared.actions.Action.{Action}
 use Rattle.log_actions.specs.declared.actions.AddFile.{AddFile}
 use Rattle.log_actions.specs.declared.actions.MetaData.{MetaData}
+use Rattle.json_tree.specs.Results.{◌>>=◌}
+use Rattle.log_replay.specs.Reconciliation.{last_meta}
 use Rattle.log_replay.specs.State.{State}
 use Rattle.page_token.specs.declared.cursor.TableAccess.{TableAccess}
 use Rattle.pred_tree.specs.Listing.{IsFilter, passes, pred_by}
@@ -19,11 +23,13 @@ use Rattle.query_body.specs.declared.query.QueryBody.{QueryBody}
 use Rattle.share_reply.specs.Access.{expiry}
 use Rattle.share_reply.specs.Answer.{Ending, Page, ends_with}
 use Rattle.share_reply.specs.Bodies.{end_line, page_lines}
-use Rattle.share_reply.specs.Feeds.{ChangesQuery, FeedStart, change_line, feed_cursor, feed_ending, feed_page, lists_all}
-use Rattle.share_reply.specs.Files.{FilesStart, file_line, files_cursor, files_ending, files_page, is_paged, lists}
+use Rattle.share_reply.specs.Feeds.{ChangesQuery, FeedStart, change_line, feed_cursor, feed_ending, feed_page, lists_all, or_unsupported}
+use Rattle.share_reply.specs.Files.{FilesStart, file_line, files_cursor, files_ending, files_page, is_paged, lists, page_of_state}
 use Rattle.share_reply.specs.Pages.{given, next_place}
 use Rattle.share_reply.specs.Planned.{content_lines, lines_of}
-use Rattle.share_reply.specs.Starts.{end_of, paged}
+use Rattle.share_reply.specs.Refusing.{where_all}
+use Rattle.share_reply.specs.Starts.{end_of, page_of_changes, paged}
+use Rattle.share_reply.specs.Stops.{as_lines}
 use Rattle.share_reply.specs.declared.keys.ReplyKeys.{ReplyKeys}
 use Rattle.share_reply.specs.declared.lines.Content.{Content}
 use Rattle.share_reply.specs.declared.lines.Content.TheVariants as content
@@ -82,6 +88,12 @@ files_paged keys a now q s state expires version meta files next end is_end is_v
     lines ∙ ap (λ m. page_lines keys (page_with s.version m (map (file_line keys a (expiry keys now)) (given (lists s.hint state) q.max s.place state.files)) (is_paged q.max q.token) (files_ending keys a now q s state))) is_meta in
     λ i. paged_with (is_version i) (here i)
 
+-- a place within the state has that page
+pub state_paged : (keys : ReplyKeys) (a : TableAccess) (now : ℕ) (q : QueryBody) (s : FilesStart) (state : State) (made : Paged)
+    → nat_le s.place (length state.files) ≡ true → made ≡ paged keys (files_page keys a now q s state) → as_lines keys (page_of_state keys a now q s state) ≡ Ok made
+state_paged keys a now q s state made within is =
+    ap (λ b. as_lines keys (where_all ((b, TokenAhead) ∷ []) (Ok (files_page keys a now q s state)))) within ∙ ap Ok (sym is)
+
 -- ---- changes
 
 abbrev pub feed_ending_with : TableAccess → ℕ → FeedStart → List ChangedFile → Option ℕ → Ending
@@ -99,3 +111,11 @@ feed_paged keys a now q s meta changes expires version page next end is_end is_v
     let here : lines_of keys a expires meta (content.Changes page) end ≡ page_lines keys (feed_page keys a now q s meta changes) =
     lines_paged keys a expires s.to meta (content.Changes page) end _ (is_paged q.max q.token) (feed_ending keys a now q s changes) given_lines (is_last ∙ ap (end_of keys (is_paged q.max q.token)) ending) in
     λ i. paged_with (is_version i) (here i)
+
+-- a place within the changes has that page
+pub changes_paged : (keys : ReplyKeys) (a : TableAccess) (now : ℕ) (q : ChangesQuery) (s : FeedStart) (actions : List Action) (meta : MetaData) (changes : List ChangedFile) (made : Paged)
+    → nat_le s.place (length changes) ≡ true → Some meta ≡ last_meta actions → made ≡ paged keys (feed_page keys a now q s meta changes) → as_lines keys (page_of_changes keys a now q s actions changes) ≡ Ok made
+changes_paged keys a now q s actions meta changes made within found is =
+    ap (λ b. as_lines keys (where_all ((b, TokenAhead) ∷ []) (or_unsupported (last_meta actions) >>= λ m. Ok (feed_page keys a now q s m changes)))) within
+    ∙ ap (λ o. as_lines keys (or_unsupported o >>= λ m. Ok (feed_page keys a now q s m changes))) (sym found)
+    ∙ ap Ok (sym is)

@@ -145,6 +145,14 @@ impl<'a> Access<'a> {
     }
 }
 
+// What the links of a page are signed with: by which keys, for whom, and until when.
+#[derive(Drop)]
+pub(crate) struct Signing<'a> {
+    pub keys: &'a ReplyKeys,
+    pub access: Access<'a>,
+    pub expires: Millis,
+}
+
 // When a link that is given now ends. No clock comes to 2^63 milliseconds.
 pub(crate) fn expiry(keys: &ReplyKeys, now: Millis) -> Result<Millis, AllocError>
     ensures { IfOk result (λ e. e ≡ expiry keys.now now) }

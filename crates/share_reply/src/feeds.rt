@@ -6,12 +6,12 @@ ghost use Rattle.share_reply.specs.Asking.{asked_at};
 ghost use Rattle.share_reply.specs.Feeds as spec;
 ghost use Rattle.share_reply.specs.Files as files;
 ghost use Rattle.share_reply.specs.Pages.{given};
-ghost use Rattle.share_reply.specs.Starts.{behind, end_of, feed_start, feed_start_by, off_at, page_of_changes, paged, query_in};
+ghost use Rattle.share_reply.specs.Starts.{behind, end_of, feed_start, feed_start_by, off_at, page_of_changes, query_in};
 ghost use Rattle.change_feed.specs.Shown.{feed_from};
 ghost use Rattle.std.specs.Arc.{arc_value};
 ghost use Rattle.share_reply.specs.Stops.{Gives, GivesItems, as_lines};
 
-use crate::access::{Access, expiry};
+use crate::access::{Access, Signing, expiry};
 use crate::files::{ends_with, is_paged, not_found};
 use crate::keys::ReplyKeys;
 use crate::lines::{Content, LinePlan};
@@ -23,7 +23,7 @@ use crate::stop::Stop;
 use case_table::Refusal;
 use change_feed::{Change, FeedRefusal, changes};
 use json_tree::{Millis, Place, Text, Version};
-use log_actions::{Action, Commit, MetaData};
+use log_actions::{Action, Commit};
 use log_replay::{Mark, meta_in};
 use page_token::{Asked, Cursor, FeedCursor, cursor_of};
 use share_book::{FeedPart, PartFound};
@@ -204,73 +204,46 @@ fn changes_cut<'a>(
 // The token of the next page, where there is one.
 fn next_token(
     alloc: Global,
-    keys: &ReplyKeys,
-    access: &Access,
+    signing: &Signing<'_>,
     begin: &FeedBegin,
     next: Option<u64>,
 ) -> Result<Option<Text>, AllocError>
-    ensures { IfOk result (λ t. t ≡ option_map (token_text keys.now.token) (option_map (spec.feed_cursor access.now (feed_start begin.now)) next)) }
+    ensures { IfOk result (λ t. t ≡ option_map (token_text signing.now.keys.now.token) (option_map (spec.feed_cursor signing.now.access (feed_start begin.now)) next)) }
 {
     let Some(place) = next else {
         return Ok(None);
     };
     let place = place_of(place)?;
     let cursor = FeedCursor {
-        access: access.for_token(alloc)?,
+        access: signing.access.for_token(alloc)?,
         asked_from: begin.asked_from,
         asked_to: begin.asked_to,
         from: begin.from,
         to: begin.to,
         place,
     };
-    Ok(Some(keys.token_of(alloc, Cursor::Feed(cursor))?))
+    Ok(Some(signing.keys.token_of(alloc, Cursor::Feed(cursor))?))
 }
 
 // The end of a page, where pages are asked for.
 fn page_end(
     alloc: Global,
-    keys: &ReplyKeys,
-    access: &Access,
-    expires: Millis,
+    signing: &Signing<'_>,
     asked: &ChangesAsked<'_>,
     begin: &FeedBegin,
     page: &[Change<'_>],
     next: Option<u64>,
 ) -> Result<Option<EndLine>, AllocError>
-    ensures { IfOk result (λ e. e ≡ end_of keys.now (files.is_paged asked.now.max asked.now.token.now)
-        (record { expires = ends_with expires page.now; next = option_map (spec.feed_cursor access.now (feed_start begin.now)) next })) }
+    ensures { IfOk result (λ e. e ≡ end_of signing.now.keys.now (files.is_paged asked.now.max asked.now.token.now)
+        (record { expires = ends_with signing.now.expires page.now; next = option_map (spec.feed_cursor signing.now.access (feed_start begin.now)) next })) }
 {
     if !is_paged(asked.max, asked.token) {
         return Ok(None);
     }
     Ok(Some(EndLine {
-        min_expires: ends_with(expires, page.is_empty()),
-        token: next_token(alloc, keys, access, begin, next)?,
+        min_expires: ends_with(signing.expires, page.is_empty()),
+        token: next_token(alloc, signing, begin, next)?,
     }))
-}
-
-fn feed_page<'a>(
-    alloc: Global,
-    keys: &'a ReplyKeys,
-    access: Access<'a>,
-    now: Millis,
-    asked: &ChangesAsked<'_>,
-    begin: &FeedBegin,
-    meta: &'a MetaData,
-    changes: Vec<Change<'a>>,
-) -> Result<Paged<'a>, AllocError>
-    requires { begin.now.place ≤ vec_len changes }
-    ensures { IfOk result (λ p. p ≡ paged keys.now (spec.feed_page keys.now access.entry now (query_in asked.now) (feed_start begin.now) meta.now changes.entry.items)) }
-{
-    let expires = expiry(keys, now)?;
-    let place = begin.place.get();
-    let next = place_behind(changes.len(), asked.max, place);
-    let page = changes_cut(changes, asked.max, place)?;
-    let end = page_end(alloc, keys, &access, expires, asked, begin, &page, next)?;
-    Ok(Paged {
-        version: begin.to.get(),
-        lines: LinePlan::of(keys, access, expires, meta, Content::Changes(page), end),
-    })
 }
 
 // Of the changes, and of the commit whose metaData holds at the last version.
@@ -286,29 +259,27 @@ fn page_of_changes<'a>(
 ) -> Result<Paged<'a>, Stop>
     ensures { Gives result (as_lines keys.now (page_of_changes keys.now access.entry now (query_in asked.now) (feed_start begin.now) actions.now changes.entry.items)) }
 {
-    if (changes.len() as u64) < begin.place.get() {
+    let count = changes.len();
+    let place = begin.place.get();
+    if (count as u64) < place {
         return Err(refuse(alloc, Refusal::TokenAhead));
     }
-    match meta_in(actions) {
-        Some(meta) => Ok(feed_page(alloc, keys, access, now, asked, begin, meta, changes)?),
-        None => Err(refuse(alloc, Refusal::UnsupportedTable)),
-    }
-}
-
-fn page_of_feed<'a>(
-    alloc: Global,
-    keys: &'a ReplyKeys,
-    access: Access<'a>,
-    now: Millis,
-    asked: &ChangesAsked<'_>,
-    begin: &FeedBegin,
-    feed: &'a FeedPart,
-) -> Result<Paged<'a>, Stop>
-    ensures { Gives result (as_lines keys.now (spec.page_of_feed keys.now access.entry now (query_in asked.now) (feed_start begin.now) feed.now)) }
-{
-    let changes = changes_in(alloc, feed)?;
-    let actions = feed.meta.get().actions();
-    page_of_changes(alloc, keys, access, now, asked, begin, actions, changes)
+    let Some(meta) = meta_in(actions) else {
+        return Err(refuse(alloc, Refusal::UnsupportedTable));
+    };
+    let expires = expiry(keys, now)?;
+    let next = place_behind(count, asked.max, place);
+    let page = changes_cut(changes, asked.max, place)?;
+    let signing = Signing {
+        keys,
+        access,
+        expires,
+    };
+    let end = page_end(alloc, &signing, asked, begin, &page, next)?;
+    Ok(Paged {
+        version: begin.to.get(),
+        lines: LinePlan::of(signing, meta, Content::Changes(page), end),
+    })
 }
 
 // ---- of what is found
@@ -327,7 +298,9 @@ fn feed_from<'a>(
     match found {
         PartFound::Feed(feed) => {
             let begin = begin_by(asked, later, feed)?;
-            page_of_feed(alloc, keys, access, now, asked, &begin, feed)
+            let changes = changes_in(alloc, feed)?;
+            let actions = feed.meta.get().actions();
+            page_of_changes(alloc, keys, access, now, asked, &begin, actions, changes)
         }
         PartFound::Refused(why) => Err(not_found(alloc, *why)),
         PartFound::Nothing | PartFound::Version(_) | PartFound::Files(_, _) => {

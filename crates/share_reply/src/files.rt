@@ -7,11 +7,11 @@ ghost use Rattle.share_reply.specs.Asking.{asked_by};
 ghost use Rattle.share_reply.specs.Files as spec;
 ghost use Rattle.share_reply.specs.Pages.{given, next_place};
 ghost use Rattle.share_reply.specs.Refusing.{plain};
-ghost use Rattle.share_reply.specs.Starts.{end_of, files_start, files_start_by, paged};
+ghost use Rattle.share_reply.specs.Starts.{end_of, files_start, files_start_by};
 ghost use Rattle.share_reply.specs.Stops.{Gives, as_lines};
 ghost use Rattle.share_reply.specs.declared.stop.Stop.TheVariants as stop;
 
-use crate::access::{Access, expiry};
+use crate::access::{Access, Signing, expiry};
 use crate::cut::{FilesCut, files_cut};
 use crate::keys::ReplyKeys;
 use crate::lines::{Content, LinePlan};
@@ -191,12 +191,11 @@ pub(crate) fn is_paged(max: Option<u64>, token: &Option<Text>) -> bool
 // The token of the next page, where there is one.
 fn next_token(
     alloc: Global,
-    keys: &ReplyKeys,
-    access: &Access,
+    signing: &Signing<'_>,
     begin: &FilesBegin,
     next: Option<u64>,
 ) -> Result<Option<Text>, AllocError>
-    ensures { IfOk result (λ t. t ≡ option_map (token_text keys.now.token) (option_map (spec.files_cursor access.now (files_start begin.now)) next)) }
+    ensures { IfOk result (λ t. t ≡ option_map (token_text signing.now.keys.now.token) (option_map (spec.files_cursor signing.now.access (files_start begin.now)) next)) }
 {
     let Some(place) = next else {
         return Ok(None);
@@ -204,13 +203,13 @@ fn next_token(
     let place = place_of(place)?;
     let hint = copy_text_or_none(alloc, &begin.hint)?;
     let cursor = FilesCursor {
-        access: access.for_token(alloc)?,
+        access: signing.access.for_token(alloc)?,
         asked: begin.asked,
         version: begin.version,
         hint,
         place,
     };
-    Ok(Some(keys.token_of(alloc, Cursor::Files(cursor))?))
+    Ok(Some(signing.keys.token_of(alloc, Cursor::Files(cursor))?))
 }
 
 // When the links of a page end, where it has any.
@@ -223,22 +222,20 @@ pub(crate) fn ends_with(expires: Millis, is_empty: bool) -> Option<Millis>
 // The end of a page, where pages are asked for.
 fn page_end(
     alloc: Global,
-    keys: &ReplyKeys,
-    access: &Access,
-    expires: Millis,
+    signing: &Signing<'_>,
     query: &QueryBody,
     begin: &FilesBegin,
     cut: &FilesCut<'_>,
 ) -> Result<Option<EndLine>, AllocError>
-    ensures { IfOk result (λ e. e ≡ end_of keys.now (spec.is_paged query.now.max query.now.token)
-        (record { expires = ends_with expires (map (λ f. f.now) cut.now.files.items); next = option_map (spec.files_cursor access.now (files_start begin.now)) cut.now.next })) }
+    ensures { IfOk result (λ e. e ≡ end_of signing.now.keys.now (spec.is_paged query.now.max query.now.token)
+        (record { expires = ends_with signing.now.expires (map (λ f. f.now) cut.now.files.items); next = option_map (spec.files_cursor signing.now.access (files_start begin.now)) cut.now.next })) }
 {
     if !is_paged(query.max, &query.token) {
         return Ok(None);
     }
     Ok(Some(EndLine {
-        min_expires: ends_with(expires, cut.files.is_empty()),
-        token: next_token(alloc, keys, access, begin, cut.next)?,
+        min_expires: ends_with(signing.expires, cut.files.is_empty()),
+        token: next_token(alloc, signing, begin, cut.next)?,
     }))
 }
 
@@ -256,27 +253,7 @@ fn page_cut<'a>(
     files_cut(alloc, snapshot, &filter, query.max, begin.place.get())
 }
 
-fn files_page<'a>(
-    alloc: Global,
-    keys: &'a ReplyKeys,
-    access: Access<'a>,
-    now: Millis,
-    query: &QueryBody,
-    begin: &FilesBegin,
-    snapshot: &'a Snapshot,
-) -> Result<Paged<'a>, AllocError>
-    ensures { IfOk result (λ p. p ≡ paged keys.now (spec.files_page keys.now access.entry now query.now (files_start begin.now) snapshot.now)) }
-{
-    let expires = expiry(keys, now)?;
-    let meta = snapshot.meta();
-    let cut = page_cut(alloc, query, begin, snapshot)?;
-    let end = page_end(alloc, keys, &access, expires, query, begin, &cut)?;
-    Ok(Paged {
-        version: begin.version.get(),
-        lines: LinePlan::of(keys, access, expires, meta, Content::Files(cut.files), end),
-    })
-}
-
+// The page of a state. A token's place may be behind all of its files.
 fn page_of_state<'a>(
     alloc: Global,
     keys: &'a ReplyKeys,
@@ -291,7 +268,19 @@ fn page_of_state<'a>(
     if snapshot.len() < begin.place.get() {
         return Err(refuse(alloc, Refusal::TokenAhead));
     }
-    Ok(files_page(alloc, keys, access, now, query, begin, snapshot)?)
+    let expires = expiry(keys, now)?;
+    let meta = snapshot.meta();
+    let cut = page_cut(alloc, query, begin, snapshot)?;
+    let signing = Signing {
+        keys,
+        access,
+        expires,
+    };
+    let end = page_end(alloc, &signing, query, begin, &cut)?;
+    Ok(Paged {
+        version: begin.version.get(),
+        lines: LinePlan::of(signing, meta, Content::Files(cut.files), end),
+    })
 }
 
 // ---- of what is found
@@ -389,17 +378,17 @@ pub(crate) fn metadata_page<'a>(
     ensures { Gives result (as_lines keys.now (spec.metadata_page found.now)) }
 {
     match found {
-        PartFound::Files(version, state) => Ok(Paged {
-            version: *version,
-            lines: LinePlan::of(
+        PartFound::Files(version, state) => {
+            let signing = Signing {
                 keys,
                 access,
-                Millis::of_small(0),
-                state.get().meta(),
-                Content::Nothing,
-                None,
-            ),
-        }),
+                expires: Millis::of_small(0),
+            };
+            Ok(Paged {
+                version: *version,
+                lines: LinePlan::of(signing, state.get().meta(), Content::Nothing, None),
+            })
+        }
         PartFound::Refused(why) => Err(not_found(alloc, *why)),
         PartFound::Nothing | PartFound::Version(_) | PartFound::Feed(_) => {
             Err(refuse(alloc, Refusal::NotFound))

@@ -12,8 +12,7 @@ ghost use Rattle.share_reply.specs.Files.{file_line, file_with};
 ghost use Rattle.share_reply.specs.Planned.{content_lines, count_of, fed, line_from, lines_of, with_url};
 ghost use Rattle.share_reply.specs.declared.keys.ReplyKeys.{ReplyKeys};
 
-use crate::access::Access;
-use crate::keys::ReplyKeys;
+use crate::access::Signing;
 use change_feed::{Change, ChangeKind};
 use json_tree::{Millis, Pairs, Text};
 use log_actions::{AddFile, MetaData};
@@ -45,9 +44,7 @@ pub(crate) enum PlanLine<'b, 'a> {
 /// The lines of a reply, each made when it is asked for. Contracts see the lines.
 #[derive(Drop)]
 pub struct LinePlan<'a> {
-    keys: &'a ReplyKeys,
-    access: Access<'a>,
-    expires: Millis,
+    signing: Signing<'a>,
     meta: &'a MetaData,
     content: Content<'a>,
     end: Option<EndLine>,
@@ -60,7 +57,7 @@ impl<'a> Model for LinePlan<'a> {
 
     ghost Value = { List Line };
 
-    ghost view = { λ p. lines_of p.keys.now p.access p.expires p.meta.now p.content p.end };
+    ghost view = { λ p. lines_of p.signing.keys.now p.signing.access p.signing.expires p.meta.now p.content p.end };
 }
 
 // ---- one line
@@ -84,15 +81,16 @@ fn file_parts<'b>(url: &'b Text, expires: Millis, file: &'b AddFile) -> FilePart
 fn push_file(
     alloc: Global,
     out: &mut Vec<u8>,
-    keys: &ReplyKeys,
-    access: &Access,
-    expires: Millis,
+    signing: &Signing<'_>,
     file: &AddFile,
 ) -> Result<(), AllocError>
-    ensures line { OnOk result (out.new.items ≡ out.old.items ++ fed (file_line keys.now access.now expires file.now)) }
+    ensures line { OnOk result (out.new.items ≡ out.old.items ++ fed (file_line signing.now.keys.now signing.now.access signing.now.expires file.now)) }
     ensures kept { OnErr result (out.new.items ≡ out.old.items) }
 {
-    let url = access.link(alloc, keys, expires, &file.path)?;
+    let expires = signing.expires;
+    let url = signing
+        .access
+        .link(alloc, signing.keys, expires, &file.path)?;
     push_file_parts(alloc, out, FileKind::File, &file_parts(&url, expires, file))
 }
 
@@ -133,15 +131,16 @@ fn change_parts<'b>(
 fn push_change(
     alloc: Global,
     out: &mut Vec<u8>,
-    keys: &ReplyKeys,
-    access: &Access,
-    expires: Millis,
+    signing: &Signing<'_>,
     change: &Change<'_>,
 ) -> Result<(), AllocError>
-    ensures line { OnOk result (out.new.items ≡ out.old.items ++ fed (change_line keys.now access.now expires change.now)) }
+    ensures line { OnOk result (out.new.items ≡ out.old.items ++ fed (change_line signing.now.keys.now signing.now.access signing.now.expires change.now)) }
     ensures kept { OnErr result (out.new.items ≡ out.old.items) }
 {
-    let url = access.link(alloc, keys, expires, change.path())?;
+    let expires = signing.expires;
+    let url = signing
+        .access
+        .link(alloc, signing.keys, expires, change.path())?;
     let no_values = Pairs::new(alloc);
     let no_stats = None;
     let parts = change_parts(&url, expires, change, &no_values, &no_stats);
@@ -151,19 +150,17 @@ fn push_change(
 fn push(
     alloc: Global,
     out: &mut Vec<u8>,
-    keys: &ReplyKeys,
-    access: &Access,
-    expires: Millis,
+    signing: &Signing<'_>,
     line: PlanLine<'_, '_>,
 ) -> Result<(), AllocError>
-    ensures line { OnOk result (out.new.items ≡ out.old.items ++ fed (line_from keys.now access.now expires line.entry)) }
+    ensures line { OnOk result (out.new.items ≡ out.old.items ++ fed (line_from signing.now.keys.now signing.now.access signing.now.expires line.entry)) }
     ensures kept { OnErr result (out.new.items ≡ out.old.items) }
 {
     match line {
         PlanLine::Protocol => push_protocol(out),
         PlanLine::Meta(meta) => push_meta(alloc, out, meta),
-        PlanLine::File(file) => push_file(alloc, out, keys, access, expires, file),
-        PlanLine::Change(change) => push_change(alloc, out, keys, access, expires, change),
+        PlanLine::File(file) => push_file(alloc, out, signing, file),
+        PlanLine::Change(change) => push_change(alloc, out, signing, change),
         PlanLine::End(end) => push_end(alloc, out, end),
     }
 }
@@ -184,34 +181,26 @@ fn linked_len(kind: FileKind, parts: &FileParts<'_>, link: u128) -> Result<u64, 
     }
 }
 
-fn file_len(
-    alloc: Global,
-    keys: &ReplyKeys,
-    access: &Access,
-    expires: Millis,
-    file: &AddFile,
-) -> Result<u64, AllocError>
-    ensures { IfOk result (λ bytes. bytes ≡ length (fed (file_line keys.now access.now expires file.now))) }
+fn file_len(alloc: Global, signing: &Signing<'_>, file: &AddFile) -> Result<u64, AllocError>
+    ensures { IfOk result (λ bytes. bytes ≡ length (fed (file_line signing.now.keys.now signing.now.access signing.now.expires file.now))) }
 {
     let no_url = Text::of(String::new(alloc));
-    let link = access.link_len(keys, expires, &file.path);
+    let expires = signing.expires;
+    let link = signing.access.link_len(signing.keys, expires, &file.path);
     linked_len(FileKind::File, &file_parts(&no_url, expires, file), link)
 }
 
-fn change_len(
-    alloc: Global,
-    keys: &ReplyKeys,
-    access: &Access,
-    expires: Millis,
-    change: &Change<'_>,
-) -> Result<u64, AllocError>
-    ensures { IfOk result (λ bytes. bytes ≡ length (fed (change_line keys.now access.now expires change.now))) }
+fn change_len(alloc: Global, signing: &Signing<'_>, change: &Change<'_>) -> Result<u64, AllocError>
+    ensures { IfOk result (λ bytes. bytes ≡ length (fed (change_line signing.now.keys.now signing.now.access signing.now.expires change.now))) }
 {
     let no_url = Text::of(String::new(alloc));
     let no_values = Pairs::new(alloc);
     let no_stats = None;
+    let expires = signing.expires;
     let parts = change_parts(&no_url, expires, change, &no_values, &no_stats);
-    let link = access.link_len(keys, expires, change.path());
+    let link = signing
+        .access
+        .link_len(signing.keys, expires, change.path());
     linked_len(kind_of(change.kind()), &parts, link)
 }
 
@@ -226,18 +215,12 @@ fn fed_len(bytes: u64) -> Result<u64, AllocError>
 }
 
 // How many bytes `push` appends. No line is made for it.
-fn len_of(
-    alloc: Global,
-    keys: &ReplyKeys,
-    access: &Access,
-    expires: Millis,
-    line: PlanLine<'_, '_>,
-) -> Result<u64, AllocError>
-    ensures { IfOk result (λ bytes. bytes ≡ length (fed (line_from keys.now access.now expires line.entry))) }
+fn len_of(alloc: Global, signing: &Signing<'_>, line: PlanLine<'_, '_>) -> Result<u64, AllocError>
+    ensures { IfOk result (λ bytes. bytes ≡ length (fed (line_from signing.now.keys.now signing.now.access signing.now.expires line.entry))) }
 {
     match line {
-        PlanLine::File(file) => file_len(alloc, keys, access, expires, file),
-        PlanLine::Change(change) => change_len(alloc, keys, access, expires, change),
+        PlanLine::File(file) => file_len(alloc, signing, file),
+        PlanLine::Change(change) => change_len(alloc, signing, change),
         PlanLine::Protocol => fed_len(line_len(&Line::Protocol)),
         PlanLine::Meta(meta) => fed_len(meta_len(meta)),
         PlanLine::End(end) => fed_len(end_len(end)),
@@ -323,19 +306,15 @@ impl<'a> LinePlan<'a> {
 
     // The lines of these parts.
     pub(crate) fn of(
-        keys: &'a ReplyKeys,
-        access: Access<'a>,
-        expires: Millis,
+        signing: Signing<'a>,
         meta: &'a MetaData,
         content: Content<'a>,
         end: Option<EndLine>,
     ) -> LinePlan<'a>
-        ensures { result ≡ lines_of keys.now access.entry expires meta.now content.entry end }
+        ensures { result ≡ lines_of signing.entry.keys.now signing.entry.access signing.entry.expires meta.now content.entry end }
     {
         LinePlan {
-            keys,
-            access,
-            expires,
+            signing,
             meta,
             content,
             end,
@@ -361,7 +340,7 @@ impl<'a> LinePlan<'a> {
         ensures kept { OnErr result (out.new.items ≡ out.old.items) }
     {
         match line_at(self.meta, &self.content, &self.end, n) {
-            Some(line) => push(alloc, out, self.keys, &self.access, self.expires, line),
+            Some(line) => push(alloc, out, &self.signing, line),
             None => Ok(()),
         }
     }
@@ -371,7 +350,7 @@ impl<'a> LinePlan<'a> {
         ensures { IfOk result (λ bytes. bytes ≡ length (text_at self.now n)) }
     {
         match line_at(self.meta, &self.content, &self.end, n) {
-            Some(line) => len_of(alloc, self.keys, &self.access, self.expires, line),
+            Some(line) => len_of(alloc, &self.signing, line),
             None => Ok(0),
         }
     }

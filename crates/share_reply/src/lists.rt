@@ -279,24 +279,6 @@ fn page_at(
     }
 }
 
-fn page_with(
-    alloc: Global,
-    keys: &ReplyKeys,
-    recipient: &Text,
-    names: &Names,
-    listing: &Listing,
-) -> Result<Text, Stop>
-    ensures { Gives result (as_names keys.now (lists.names_with keys.now recipient.now names.now listing.now listing.now.token)) }
-{
-    match listing.token() {
-        None => Ok(page_behind(alloc, keys, recipient, names, listing, "")?),
-        Some(token) => {
-            let cursor = cursor_of(alloc, &keys.token, token.as_str())?;
-            page_at(alloc, keys, recipient, names, listing, &cursor)
-        }
-    }
-}
-
 // The text of the page of names that a listing is answered.
 pub(crate) fn names_text(
     alloc: Global,
@@ -310,7 +292,13 @@ pub(crate) fn names_text(
     if !is_there(names, listing) {
         return Err(refuse(alloc, Refusal::NotFound));
     }
-    page_with(alloc, keys, recipient, names, listing)
+    match listing.token() {
+        None => Ok(page_behind(alloc, keys, recipient, names, listing, "")?),
+        Some(token) => {
+            let cursor = cursor_of(alloc, &keys.token, token.as_str())?;
+            page_at(alloc, keys, recipient, names, listing, &cursor)
+        }
+    }
 }
 
 // The text of a share.

@@ -342,22 +342,6 @@ fn early_plan<'a>(alloc: Global, why: TurnedAway) -> Plan<'a>
     }
 }
 
-fn request_plan<'a>(
-    alloc: Global,
-    keys: &'a ReplyKeys,
-    request: &'a Request,
-    now: Millis,
-    seen: &'a Option<Seen>,
-) -> Result<Plan<'a>, AllocError>
-    ensures { IfOk result (λ p. p ≡ reply_of keys.now (answer_from keys.now now request.now seen.now)) }
-{
-    match request {
-        Request::TurnedAway(why) => Ok(early_plan(alloc, *why)),
-        Request::ByToken(request) => token_plan(alloc, keys, now, &request.asked, seen),
-        Request::ByLink(by) => link_plan(alloc, keys, now, by, seen),
-    }
-}
-
 /// How a request is answered at a moment, by what was seen for what it asks. The plan borrows the keys, the request and what
 /// was seen, and copies nothing of a table's files. The error is want of memory.
 pub fn plan_of<'a>(
@@ -372,5 +356,9 @@ pub fn plan_of<'a>(
     // What was seen is what a view shows for the request: then it is the answer by that view.
     ensures view { (view : Option View) → seen.now ≡ seen_for keys.now request.now view → IfOk result (λ p. p ≡ reply_of keys.now (answered keys.now view now request.now)) }
 {
-    request_plan(alloc, keys, request, now, seen)
+    match request {
+        Request::TurnedAway(why) => Ok(early_plan(alloc, *why)),
+        Request::ByToken(request) => token_plan(alloc, keys, now, &request.asked, seen),
+        Request::ByLink(by) => link_plan(alloc, keys, now, by, seen),
+    }
 }
