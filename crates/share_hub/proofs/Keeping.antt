@@ -1,6 +1,6 @@
 -- What a look keeps, and what is found again.
-use Rattle.std.proofs.Common.{◌≡◌, ℕ, List, [], Option, Some, None, sym, ◌∙◌, subst}
-use Rattle.std.specs.Prelude.{IfSome}
+use Rattle.std.proofs.Common.{◌≡◌, ℕ, List, [], Option, Some, None, Result, Ok, Err, sym, ◌∙◌, subst}
+use Rattle.std.specs.Prelude.{IfSome, OnOk}
 use Rattle.std.proofs.lemmas.List.{append-nil}
 use mathlib.Core.List.{IsPrefix}
 use Rattle.log_replay.specs.Standing.{Standing, standing_of}
@@ -25,6 +25,11 @@ use Rattle.share_hub.proofs.TablePasses.{adds_then, with_none}
 pub found_later : (o : Option Seen) (h k : List Entry) → IsPrefix h k → IfSome o (λ s. FilesStand h s.found) → IfSome o (λ s. FilesStand k s.found)
 found_later None h k p w = tt
 found_later (Some s) h k p w = subst (λ (x : List Entry). FilesStand x s.found) p.1 (stands_later h p.0 s.found w)
+
+-- what follows from what holds where there is an answer
+pub on_ok : {A E : Type 0} (r : Result A E) (P Q : Type 0) → (P → Q) → OnOk r P → OnOk r Q
+on_ok (Ok x) P Q f p = f p
+on_ok (Err e) P Q f p = tt
 
 -- ---- a log's head
 

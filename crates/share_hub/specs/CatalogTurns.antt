@@ -15,6 +15,7 @@ use Rattle.share_book.specs.declared.entry.Act.TheVariants.{Begin, FoundEdit, Lo
 use Rattle.share_book.specs.History.{edit_of, edits, entry, open_on, pending}
 use Rattle.share_hub.specs.declared.catalog_turns.Checked.{Checked}
 use Rattle.share_hub.specs.declared.catalog_turns.Checked.TheVariants as checked
+use Rattle.share_hub.specs.declared.catalog_turns.NewEdit.{NewEdit}
 use Rattle.share_hub.specs.declared.catalog_turns.Opened.{Opened}
 use Rattle.share_hub.specs.declared.catalog_turns.Opened.TheVariants as opened
 use Rattle.share_hub.specs.declared.catalog_turns.Published.{Published}
@@ -72,6 +73,10 @@ ChecksIn (checked.Refused r) e h = refusal_of (edits h) e ≡ Some r
 abbrev pub LoadFits : List Entry → Edit → Option LogStart → Type 0
 LoadFits h e None = is_located h e ≡ true
 LoadFits h e (Some s) = (bound_location e ≡ Some s.location) × (has_log h s.location ≡ false) × IsKeptLog s.commits
+
+-- The edit may be added after its log, and its shared copy is given.
+abbrev pub TakesEdit : List Entry → NewEdit → Type 0
+TakesEdit h n = (n.shared ≡ n.edit) × (refusal_of (edits h) n.edit ≡ None) × LoadFits h n.edit n.load
 
 -- the edit may be added after this log, or why not
 abbrev pub AllowsIn : Allowed → Edit → Option Objects → Option Objects → List Entry → Type 0

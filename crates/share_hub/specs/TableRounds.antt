@@ -46,7 +46,7 @@ IsThere found (Err refusal) = ⊤
 
 -- a commit is kept after these, or isn't
 abbrev pub TakesNext : Taken → List (List Action) → List Action → ℕ → LogHead → Type 0
-TakesNext (taken.Kept a s) log c n h = (a.value ≡ c) × (s ≡ c) × (n ≡ length (commit_text c)) × IsHeadOf h (log ++ c ∷ []) × (cause_with log c ≡ None)
+TakesNext (taken.Kept k) log c n h = (k.commit.value ≡ c) × (k.shared ≡ c) × (k.bytes ≡ length (commit_text c)) × IsHeadOf h (log ++ c ∷ []) × (cause_with log c ≡ None)
 TakesNext taken.Unkept log c n h = IsSome (cause_with log c)
 TakesNext taken.NoMemory log c n h = ⊤
 

@@ -1,12 +1,14 @@
 -- What is done of a table's log within one turn.
 use Rattle.std.specs.Prelude.{◌≡◌, ℕ, ◌<◌, ◌≤◌, List, [], ◌∷◌, ◌++◌, Option, Some, None, IsSome, length}
 use Rattle.log_actions.specs.declared.actions.Action.{Action}
+use Rattle.log_actions.specs.CommitTexts.{commit_text}
 use Rattle.share_book.specs.declared.entry.Entry.{Entry}
 use Rattle.share_book.specs.declared.entry.Act.TheVariants.{Begin, Found, Blocked, Abort}
 use Rattle.share_book.specs.History.{entry, open_on, starts, table_on}
-use Rattle.share_book.specs.Legal.{IsKeptLog, There, log_at}
+use Rattle.share_book.specs.Legal.{IsKeptLog, TakesCommit, There, log_at}
 use Rattle.share_book.specs.Tables.{IsState}
 use Rattle.share_hub.specs.declared.table_turns.KnownLog.{KnownLog}
+use Rattle.share_hub.specs.declared.table_turns.NewCommit.{NewCommit}
 use Rattle.share_hub.specs.declared.table_turns.LogOpened.{LogOpened}
 use Rattle.share_hub.specs.declared.table_turns.LogOpened.TheVariants as opened
 use Rattle.share_hub.specs.declared.table_turns.CommitPublished.{CommitPublished}
@@ -33,6 +35,10 @@ Blocks k j h h' = There (table_on j h) (λ t. h' ≡ h ++ entry k j (Blocked (le
 abbrev pub GoesOnLog : CommitPublished → ℕ → ℕ → List Entry → List Entry → Type 0
 GoesOnLog published.Open k j h h' = h' ≡ h
 GoesOnLog published.NoMemory k j h h' = h' ≡ h ++ entry k j Abort ∷ []
+
+-- The log takes a commit, of which its shared copy and the length of its text are given.
+abbrev pub TakesNew : List Entry → ℕ → NewCommit → Type 0
+TakesNew h j n = (n.shared ≡ n.commit.value) × (n.bytes ≡ length (commit_text n.commit.value)) × TakesCommit h j n.commit.value
 
 -- the commit was added, and then perhaps the Begin ended
 abbrev pub PublishesCommit : CommitPublished → ℕ → ℕ → List Action → List Entry → List Entry → Type 0

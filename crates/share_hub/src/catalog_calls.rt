@@ -4,14 +4,13 @@ ghost use Rattle.share_book.specs.History.{edits, open_on};
 ghost use Rattle.share_book.specs.declared.entry.Act.TheVariants as act;
 ghost use Rattle.share_hub.specs.Calls.{Adds, IsIdle};
 ghost use Rattle.share_hub.specs.CatalogCalls.{Begins, Checks, Finds, Starts, Stops};
-ghost use Rattle.share_hub.specs.CatalogTurns.{LoadFits};
+ghost use Rattle.share_hub.specs.CatalogTurns.{TakesEdit};
 ghost use Rattle.share_catalog.specs.Catalogue.{refusal_of};
 
 use crate::catalog_turns::{
-    Checked, Opened, Published, abort_in, begin_in, check_in, own_in, publish_in,
+    Checked, NewEdit, Opened, Published, abort_in, begin_in, check_in, own_in, publish_in,
 };
 use crate::hub::{Caller, HubPass};
-use share_book::{ReadyLog, SharedEdit};
 use share_catalog::Edit;
 use std::alloc::Global;
 use std::sync::Wait;
@@ -90,49 +89,33 @@ impl<'a, R: Wait> Caller<'a, R> {
     }
 
     // Publishes an edit that the store had. For want of memory the caller has ended what it began.
-    pub(crate) fn publish_found(
-        &self,
-        pass: &mut HubPass,
-        edit: Edit,
-        shared: SharedEdit,
-        load: Option<ReadyLog>,
-    ) -> Published
+    pub(crate) fn publish_found(&self, pass: &mut HubPass, new: NewEdit) -> Published
         requires cell { (pass.old.cell ≡ self.now.cell.now) × (pass.old.holds ≡ false) }
         requires begun { open_on 0 pass.old.seen ≡ Some pass.old.number }
-        requires same { shared ≡ edit }
-        requires admitted { refusal_of (edits pass.old.seen) edit ≡ None }
-        requires fits { LoadFits pass.old.seen edit load }
+        requires takes { TakesEdit pass.old.seen new }
         ensures same { IsIdle pass.old pass.new }
-        ensures found { Finds result (record { load = load; edit = edit }) pass.old pass.new }
+        ensures found { Finds result (record { load = new.load; edit = new.edit }) pass.old pass.new }
     {
         let number = pass.number();
         let mut turn = self.cell.take(self.rt, pass);
         turn.value.len();
-        let published = publish_in(self.alloc, &mut turn.value, number, edit, shared, load);
+        let published = publish_in(self.alloc, &mut turn.value, number, new);
         self.cell.give(pass, turn);
         published
     }
 
     // Publishes the caller's own edit.
-    pub(crate) fn publish_own(
-        &self,
-        pass: &mut HubPass,
-        edit: Edit,
-        shared: SharedEdit,
-        load: Option<ReadyLog>,
-    )
+    pub(crate) fn publish_own(&self, pass: &mut HubPass, new: NewEdit)
         requires cell { (pass.old.cell ≡ self.now.cell.now) × (pass.old.holds ≡ false) }
         requires begun { open_on 0 pass.old.seen ≡ Some pass.old.number }
-        requires same { shared ≡ edit }
-        requires admitted { refusal_of (edits pass.old.seen) edit ≡ None }
-        requires fits { LoadFits pass.old.seen edit load }
+        requires takes { TakesEdit pass.old.seen new }
         ensures same { IsIdle pass.old pass.new }
-        ensures ended { Stops pass.old pass.new [] load (act.OwnEdit edit) }
+        ensures ended { Stops pass.old pass.new [] new.load (act.OwnEdit new.edit) }
     {
         let number = pass.number();
         let mut turn = self.cell.take(self.rt, pass);
         turn.value.len();
-        own_in(&mut turn.value, number, edit, shared, load);
+        own_in(&mut turn.value, number, new);
         self.cell.give(pass, turn);
     }
 }

@@ -4,7 +4,7 @@ ghost use Rattle.share_catalog.specs.Catalogue.{refusal_of};
 ghost use Rattle.share_book.specs.Books.{OthersRest, rests};
 ghost use Rattle.share_book.specs.History.{entry, edits, open_on, pending};
 ghost use Rattle.share_book.specs.declared.entry.Act.TheVariants as act;
-ghost use Rattle.share_hub.specs.CatalogTurns.{ChecksIn, GoesOn, IsReadyFor, LoadFits, Opens, Publishes, is_located, loading};
+ghost use Rattle.share_hub.specs.CatalogTurns.{ChecksIn, GoesOn, IsReadyFor, LoadFits, Opens, Publishes, TakesEdit, is_located, loading};
 
 use share_book::{Book, ReadyLog, SharedEdit};
 use share_catalog::{Edit, EditRefusal};
@@ -31,6 +31,14 @@ pub enum Checked {
     Located,
     Unlocated,
     Refused(EditRefusal),
+}
+
+// An edit to add: itself, the copy that readers share, and the log that was loaded for it.
+#[derive(Drop)]
+pub struct NewEdit {
+    pub edit: Edit,
+    pub shared: SharedEdit,
+    pub load: Option<ReadyLog>,
 }
 
 // Whether a table that an edit binds has a log.
@@ -121,22 +129,14 @@ fn go_on(alloc: Global, book: &mut Book, caller: u32) -> Published
 }
 
 // Publishes an edit that the store had, after the log that it needs.
-pub fn publish_in(
-    alloc: Global,
-    book: &mut Book,
-    caller: u32,
-    edit: Edit,
-    shared: SharedEdit,
-    load: Option<ReadyLog>,
-) -> Published
+pub fn publish_in(alloc: Global, book: &mut Book, caller: u32, new: NewEdit) -> Published
     requires rests { rests book.old ≡ true }
     requires begun { open_on 0 book.old.past.history ≡ Some caller }
-    requires same { shared ≡ edit }
-    requires admitted { refusal_of (edits book.old.past.history) edit ≡ None }
-    requires fits { LoadFits book.old.past.history edit load }
+    requires takes { TakesEdit book.old.past.history new }
     ensures rests { rests book.new ≡ true }
-    ensures published { Publishes result caller edit load book.old.past.history book.new.past.history }
+    ensures published { Publishes result caller new.edit new.load book.old.past.history book.new.past.history }
 {
+    let NewEdit { edit, shared, load } = new;
     load_in(book, caller, &edit, load);
     match book.edit(caller, edit, shared, false) {
         Ok(()) => go_on(alloc, book, caller),
@@ -145,15 +145,14 @@ pub fn publish_in(
 }
 
 // Publishes the caller's own edit, after the log that it needs.
-pub fn own_in(book: &mut Book, caller: u32, edit: Edit, shared: SharedEdit, load: Option<ReadyLog>)
+pub fn own_in(book: &mut Book, caller: u32, new: NewEdit)
     requires rests { rests book.old ≡ true }
     requires begun { open_on 0 book.old.past.history ≡ Some caller }
-    requires same { shared ≡ edit }
-    requires admitted { refusal_of (edits book.old.past.history) edit ≡ None }
-    requires fits { LoadFits book.old.past.history edit load }
+    requires takes { TakesEdit book.old.past.history new }
     ensures rests { rests book.new ≡ true }
-    ensures added { book.new.past.history ≡ book.old.past.history ++ loading caller load (act.OwnEdit edit) }
+    ensures added { book.new.past.history ≡ book.old.past.history ++ loading caller new.load (act.OwnEdit new.edit) }
 {
+    let NewEdit { edit, shared, load } = new;
     load_in(book, caller, &edit, load);
     match book.edit(caller, edit, shared, true) {
         Ok(()) => {}

@@ -19,8 +19,8 @@ ghost use Rattle.share_hub.specs.TableTurns.{IsLog};
 use crate::admission::{admission, states_of};
 use crate::hub::{Caller, Hub, HubPass};
 use crate::refresh::MOST_LOCATION;
-use crate::table_rounds::{LogEnd, LogHead, NextCommit};
-use crate::table_turns::KnownLog;
+use crate::table_rounds::{LogEnd, LogHead, NextCommit, StoredLog};
+use crate::table_turns::{KnownLog, NewCommit};
 use commit_check::{Conflict, NotAdmitted, Offer};
 use edge_core::{Name, Put, Store};
 use log_actions::{Commit, CommitTime, text_len};
@@ -70,6 +70,14 @@ struct OwnCommit {
     shared: SharedCommit,
     bytes: Vec<u8>,
     name: Name,
+}
+
+// A caller's commit, before it is admitted: its moment, what is offered, and the log on which it is tried.
+#[derive(Clone, Copy)]
+struct Attempt<'a> {
+    moment: CommitTime,
+    offer: &'a Offer,
+    log: u32,
 }
 
 // No memory holds a log of 2^63 versions.
@@ -144,37 +152,41 @@ impl<'a, R: Wait> Caller<'a, R> {
         &self,
         pass: &mut HubPass,
         store: &mut W,
-        location: &Name,
-        log: u32,
+        stored: &StoredLog<'_>,
         head: &LogHead,
         commit: Commit,
     ) -> PlaceEnd
         requires cell { (pass.old.cell ≡ self.now.cell.now) × (pass.old.holds ≡ false) }
-        requires short { length location.now ≤ 256 }
-        requires begun { HoldsHead pass.old log head.now }
-        requires fits { There (table_on log pass.old.seen) (λ t. IsFit t.commits commit) }
+        requires short { length stored.now.location.now ≤ 256 }
+        requires begun { HoldsHead pass.old stored.now.log head.now }
+        requires fits { There (table_on stored.now.log pass.old.seen) (λ t. IsFit t.commits commit) }
         ensures same { IsIdle pass.old pass.new }
-        ensures placed { PlacesOn result log commit pass.old pass.new }
-        ensures store { PlacedStore result (commit_name location.now head.now.support.versions) (commit_text commit) (W.objects store.old) (W.objects store.new) (W.alone store.old) (W.alone store.new) }
+        ensures placed { PlacesOn result stored.now.log commit pass.old pass.new }
+        ensures store { PlacedStore result (commit_name stored.now.location.now head.now.support.versions) (commit_text commit) (W.objects store.old) (W.objects store.new) (W.alone store.old) (W.alone store.new) }
         ensures cause { Cause (W.faults store.old) (W.faults store.new) (failed_place result) }
     {
         let len = text_len(&commit);
         if len > MOST_LOG_BYTES - head.bytes {
-            self.abort_log(pass, log);
+            self.abort_log(pass, stored.log);
             return PlaceEnd::Limit;
         }
-        let Ok(own) = prepare(self.alloc, location, head.support.versions(), commit) else {
-            self.abort_log(pass, log);
+        let Ok(own) = prepare(self.alloc, stored.location, head.support.versions(), commit) else {
+            self.abort_log(pass, stored.log);
             return PlaceEnd::NoMemory;
         };
         match store.put_absent(&own.name, &own.bytes) {
             Put::Stored => {
-                self.own_commit(pass, log, own.held, own.shared, len);
+                let new = NewCommit {
+                    commit: own.held,
+                    shared: own.shared,
+                    bytes: len,
+                };
+                self.own_commit(pass, stored.log, new);
                 PlaceEnd::Done
             }
             Put::Exists => PlaceEnd::Exists,
             Put::Failed => {
-                self.abort_log(pass, log);
+                self.abort_log(pass, stored.log);
                 PlaceEnd::StoreFault
             }
         }
@@ -186,23 +198,22 @@ impl<'a, R: Wait> Caller<'a, R> {
         &self,
         pass: &mut HubPass,
         store: &mut W,
-        location: &Name,
-        log: u32,
+        stored: &StoredLog<'_>,
         head: &mut LogHead,
     ) -> Option<LogEnd>
         requires cell { (pass.old.cell ≡ self.now.cell.now) × (pass.old.holds ≡ false) }
-        requires short { length location.now ≤ 256 }
-        requires begun { HoldsHead pass.old log head.old }
-        requires exists { HasName (commit_name location.now head.old.support.versions) (W.objects store.old) }
+        requires short { length stored.now.location.now ≤ 256 }
+        requires begun { HoldsHead pass.old stored.now.log head.old }
+        requires exists { HasName (commit_name stored.now.location.now head.old.support.versions) (W.objects store.old) }
         ensures same { IsIdle pass.old pass.new }
-        ensures next { Agains result location.now log head.old head.new (W.objects store.new) pass.old pass.new }
+        ensures next { Agains result stored.now.location.now stored.now.log head.old head.new (W.objects store.new) pass.old pass.new }
         ensures looked { Looked (W.objects store.old) (W.objects store.new) (W.alone store.old) (W.alone store.new) }
         ensures cause { Cause (W.faults store.old) (W.faults store.new) (failed_again result) }
     {
-        match self.next_commit(pass, store, location, log, head) {
+        match self.next_commit(pass, store, stored, head) {
             NextCommit::Found => None,
             NextCommit::Absent => {
-                self.block_log(pass, log);
+                self.block_log(pass, stored.log);
                 Some(LogEnd::Blocked)
             }
             NextCommit::End(end) => Some(end),
@@ -210,64 +221,57 @@ impl<'a, R: Wait> Caller<'a, R> {
     }
 
     // What the offer comes to after the commits of the log on which the caller has begun.
-    fn admit_next(
-        &self,
-        pass: &mut HubPass,
-        now: CommitTime,
-        offer: &Offer,
-        log: u32,
-    ) -> Result<Commit, NotAdmitted>
+    fn admit_next(&self, pass: &mut HubPass, attempt: &Attempt<'_>) -> Result<Commit, NotAdmitted>
         requires cell { (pass.old.cell ≡ self.now.cell.now) × (pass.old.holds ≡ false) }
-        requires begun { HoldsSome pass.old log }
+        requires begun { HoldsSome pass.old attempt.now.log }
         ensures same { IsIdle pass.old pass.new }
-        ensures goes { GoesOn pass.old pass.new log [] }
-        ensures told { There (table_on log pass.old.seen) (λ t. Answers result (admitted t.commits now offer.now)) }
+        ensures goes { GoesOn pass.old pass.new attempt.now.log [] }
+        ensures told { There (table_on attempt.now.log pass.old.seen) (λ t. Answers result (admitted t.commits attempt.now.moment attempt.now.offer.now)) }
     {
-        let Ok(found) = self.offer_log(pass, log, offer) else {
+        let Ok(found) = self.offer_log(pass, attempt.log, attempt.offer) else {
             return Err(NotAdmitted::NoMemory);
         };
         let Ok(states) = states_of(self.alloc, &found) else {
             return Err(NotAdmitted::NoMemory);
         };
-        admission(self.alloc, &found, &states, now, offer)
+        admission(self.alloc, &found, &states, attempt.moment, attempt.offer)
     }
 
-    // The caller's own commit, where no further was there.
+    // The caller's own commit as that version, where no further was there.
     fn own_commit_round<W: Store>(
         &self,
         pass: &mut HubPass,
         store: &mut W,
-        now: CommitTime,
-        offer: &Offer,
-        log: u32,
+        attempt: &Attempt<'_>,
         head: &mut LogHead,
+        version: u64,
     ) -> Option<Result<u64, CommitRefusal>>
         requires cell { (pass.old.cell ≡ self.now.cell.now) × (pass.old.holds ≡ false) }
-        requires short { length offer.now.location ≤ 256 }
-        requires begun { HoldsHead pass.old log head.old }
-        requires absent { There (table_on log pass.old.seen) (λ t. LacksNext offer.now (W.objects store.old) t.commits) }
+        requires short { length attempt.now.offer.now.location ≤ 256 }
+        requires begun { HoldsHead pass.old attempt.now.log head.old }
+        requires version { version ≡ head.old.support.versions }
+        requires absent { There (table_on attempt.now.log pass.old.seen) (λ t. LacksNext attempt.now.offer.now (W.objects store.old) t.commits) }
         ensures same { IsIdle pass.old pass.new }
-        ensures round { CommitRounds result now offer.now log head.old head.new (W.objects store.old) (W.objects store.new) pass.old pass.new }
-        ensures store { RoundLeft result now offer.now log (W.objects store.old) (W.objects store.new) (W.alone store.old) (W.alone store.new) pass.new }
+        ensures round { CommitRounds result attempt.now.moment attempt.now.offer.now attempt.now.log head.old head.new (W.objects store.old) (W.objects store.new) pass.old pass.new }
+        ensures store { RoundLeft result attempt.now.moment attempt.now.offer.now attempt.now.log (W.objects store.old) (W.objects store.new) (W.alone store.old) (W.alone store.new) pass.new }
         ensures cause { Cause (W.faults store.old) (W.faults store.new) (failed_round result) }
     {
-        let version = head.support.versions();
-        match self.admit_next(pass, now, offer, log) {
-            Ok(commit) => {
-                match self.place(pass, store, &offer.location, log, head, commit) {
-                    PlaceEnd::Done => Some(Ok(version)),
-                    PlaceEnd::Exists => {
-                        match self.again_on_log(pass, store, &offer.location, log, head) {
-                            None => None,
-                            Some(end) => Some(Err(refused(end, version))),
-                        }
-                    }
-                    PlaceEnd::Limit => Some(Err(CommitRefusal::Limit)),
-                    PlaceEnd::StoreFault => Some(Err(CommitRefusal::StoreFault)),
-                    PlaceEnd::NoMemory => Some(Err(CommitRefusal::NoMemory)),
-                }
-            }
-            Err(refused) => self.end_commit(pass, log, turned_down(refused)),
+        let stored = StoredLog {
+            location: &attempt.offer.location,
+            log: attempt.log,
+        };
+        match self.admit_next(pass, attempt) {
+            Ok(commit) => match self.place(pass, store, &stored, head, commit) {
+                PlaceEnd::Done => Some(Ok(version)),
+                PlaceEnd::Exists => match self.again_on_log(pass, store, &stored, head) {
+                    None => None,
+                    Some(end) => Some(Err(refused(end, version))),
+                },
+                PlaceEnd::Limit => Some(Err(CommitRefusal::Limit)),
+                PlaceEnd::StoreFault => Some(Err(CommitRefusal::StoreFault)),
+                PlaceEnd::NoMemory => Some(Err(CommitRefusal::NoMemory)),
+            },
+            Err(refused) => self.end_commit(pass, attempt.log, turned_down(refused)),
         }
     }
 
@@ -276,23 +280,25 @@ impl<'a, R: Wait> Caller<'a, R> {
         &self,
         pass: &mut HubPass,
         store: &mut W,
-        now: CommitTime,
-        offer: &Offer,
-        log: u32,
+        attempt: &Attempt<'_>,
         head: &mut LogHead,
     ) -> Option<Result<u64, CommitRefusal>>
         requires cell { (pass.old.cell ≡ self.now.cell.now) × (pass.old.holds ≡ false) }
-        requires short { length offer.now.location ≤ 256 }
-        requires begun { HoldsHead pass.old log head.old }
+        requires short { length attempt.now.offer.now.location ≤ 256 }
+        requires begun { HoldsHead pass.old attempt.now.log head.old }
         ensures same { IsIdle pass.old pass.new }
-        ensures round { CommitRounds result now offer.now log head.old head.new (W.objects store.old) (W.objects store.new) pass.old pass.new }
-        ensures store { RoundLeft result now offer.now log (W.objects store.old) (W.objects store.new) (W.alone store.old) (W.alone store.new) pass.new }
+        ensures round { CommitRounds result attempt.now.moment attempt.now.offer.now attempt.now.log head.old head.new (W.objects store.old) (W.objects store.new) pass.old pass.new }
+        ensures store { RoundLeft result attempt.now.moment attempt.now.offer.now attempt.now.log (W.objects store.old) (W.objects store.new) (W.alone store.old) (W.alone store.new) pass.new }
         ensures cause { Cause (W.faults store.old) (W.faults store.new) (failed_round result) }
     {
         let version = head.support.versions();
-        match self.next_commit(pass, store, &offer.location, log, head) {
+        let stored = StoredLog {
+            location: &attempt.offer.location,
+            log: attempt.log,
+        };
+        match self.next_commit(pass, store, &stored, head) {
             NextCommit::Found => None,
-            NextCommit::Absent => { self.own_commit_round(pass, store, now, offer, log, head) }
+            NextCommit::Absent => self.own_commit_round(pass, store, attempt, head, version),
             NextCommit::End(end) => Some(Err(refused(end, version))),
         }
     }
@@ -302,26 +308,24 @@ impl<'a, R: Wait> Caller<'a, R> {
         &self,
         pass: &mut HubPass,
         store: &mut W,
-        now: CommitTime,
-        offer: &Offer,
-        log: u32,
+        attempt: &Attempt<'_>,
         head: &mut LogHead,
     ) -> Result<u64, CommitRefusal>
         requires cell { (pass.old.cell ≡ self.now.cell.now) × (pass.old.holds ≡ false) }
-        requires short { length offer.now.location ≤ 256 }
-        requires begun { HoldsHead pass.old log head.old }
+        requires short { length attempt.now.offer.now.location ≤ 256 }
+        requires begun { HoldsHead pass.old attempt.now.log head.old }
         ensures same { IsIdle pass.old pass.new }
-        ensures runs { CommitRuns result now offer.now (W.objects store.old) (W.objects store.new) pass.old pass.new log }
-        ensures store { CommitLeft result now offer.now log (W.objects store.old) (W.objects store.new) (W.alone store.old) (W.alone store.new) pass.new }
+        ensures runs { CommitRuns result attempt.now.moment attempt.now.offer.now (W.objects store.old) (W.objects store.new) pass.old pass.new attempt.now.log }
+        ensures store { CommitLeft result attempt.now.moment attempt.now.offer.now attempt.now.log (W.objects store.old) (W.objects store.new) (W.alone store.old) (W.alone store.new) pass.new }
         ensures cause { Cause (W.faults store.old) (W.faults store.new) (failed_commit result) }
     {
         for found in 0..64u32 {
-            match self.commit_round(pass, store, now, offer, log, head) {
+            match self.commit_round(pass, store, attempt, head) {
                 None => {}
                 Some(end) => return end,
             }
         }
-        self.abort_log(pass, log);
+        self.abort_log(pass, attempt.log);
         Err(CommitRefusal::Contended)
     }
 
@@ -330,28 +334,26 @@ impl<'a, R: Wait> Caller<'a, R> {
         &self,
         pass: &mut HubPass,
         store: &mut W,
-        now: CommitTime,
-        offer: &Offer,
-        log: u32,
+        attempt: &Attempt<'_>,
         state: LogState,
     ) -> Result<u64, CommitRefusal>
         requires cell { (pass.old.cell ≡ self.now.cell.now) × (pass.old.holds ≡ false) }
-        requires short { length offer.now.location ≤ 256 }
-        requires opened { OpensOn pass.old log state }
+        requires short { length attempt.now.offer.now.location ≤ 256 }
+        requires opened { OpensOn pass.old attempt.now.log state }
         ensures same { IsIdle pass.old pass.new }
-        ensures runs { CommitRuns result now offer.now (W.objects store.old) (W.objects store.new) pass.old pass.new log }
-        ensures store { CommitLeft result now offer.now log (W.objects store.old) (W.objects store.new) (W.alone store.old) (W.alone store.new) pass.new }
+        ensures runs { CommitRuns result attempt.now.moment attempt.now.offer.now (W.objects store.old) (W.objects store.new) pass.old pass.new attempt.now.log }
+        ensures store { CommitLeft result attempt.now.moment attempt.now.offer.now attempt.now.log (W.objects store.old) (W.objects store.new) (W.alone store.old) (W.alone store.new) pass.new }
         ensures cause { Cause (W.faults store.old) (W.faults store.new) (failed_commit result) }
     {
         match state.block {
             Some(version) => {
-                self.abort_log(pass, log);
+                self.abort_log(pass, attempt.log);
                 Err(CommitRefusal::Blocked { version })
             }
-            None => match self.log_head(pass, log, state) {
-                Ok(mut head) => { self.commit_rounds(pass, store, now, offer, log, &mut head) }
+            None => match self.log_head(pass, attempt.log, state) {
+                Ok(mut head) => self.commit_rounds(pass, store, attempt, &mut head),
                 Err(_) => {
-                    self.abort_log(pass, log);
+                    self.abort_log(pass, attempt.log);
                     Err(CommitRefusal::NoMemory)
                 }
             },
@@ -363,20 +365,18 @@ impl<'a, R: Wait> Caller<'a, R> {
         &self,
         pass: &mut HubPass,
         store: &mut W,
-        now: CommitTime,
-        offer: &Offer,
-        log: u32,
+        attempt: &Attempt<'_>,
     ) -> Result<u64, CommitRefusal>
         requires cell { (pass.old.cell ≡ self.now.cell.now) × (pass.old.holds ≡ false) }
-        requires short { length offer.now.location ≤ 256 }
-        requires there { IsLog log pass.old.seen }
+        requires short { length attempt.now.offer.now.location ≤ 256 }
+        requires there { IsLog attempt.now.log pass.old.seen }
         ensures same { IsIdle pass.old pass.new }
-        ensures began { CommitBegan result now offer.now (W.objects store.old) (W.objects store.new) pass.old pass.new log }
-        ensures store { CommitLeft result now offer.now log (W.objects store.old) (W.objects store.new) (W.alone store.old) (W.alone store.new) pass.new }
+        ensures began { CommitBegan result attempt.now.moment attempt.now.offer.now (W.objects store.old) (W.objects store.new) pass.old pass.new attempt.now.log }
+        ensures store { CommitLeft result attempt.now.moment attempt.now.offer.now attempt.now.log (W.objects store.old) (W.objects store.new) (W.alone store.old) (W.alone store.new) pass.new }
         ensures cause { Cause (W.faults store.old) (W.faults store.new) (failed_commit result) }
     {
-        match self.begin_log(pass, log) {
-            Some(state) => { self.commit_open(pass, store, now, offer, log, state) }
+        match self.begin_log(pass, attempt.log) {
+            Some(state) => self.commit_open(pass, store, attempt, state),
             None => Err(CommitRefusal::NoMemory),
         }
     }
@@ -411,7 +411,14 @@ impl Hub {
         }
         let caller = self.caller(rt, alloc);
         match caller.find_log(pass, offer.location.as_str()) {
-            Some(KnownLog { log, .. }) => caller.commit_log(pass, store, now, offer, log),
+            Some(KnownLog { log, .. }) => {
+                let attempt = Attempt {
+                    moment: now,
+                    offer,
+                    log,
+                };
+                caller.commit_log(pass, store, &attempt)
+            }
             None => Err(CommitRefusal::NotLoaded),
         }
     }

@@ -15,6 +15,7 @@ ghost use Rattle.share_hub.specs.Edits.{Edits, Leaves, failed_edit};
 ghost use Rattle.share_hub.specs.Rounds.{OwnRounds, RoundStore, Rounds, RunsOn, TriedStore, Tries, end_by, failed_round, failed_tried, refusal_by};
 ghost use Rattle.share_hub.specs.declared.edit.Round.TheVariants as round;
 
+use crate::catalog_turns::NewEdit;
 use crate::found::{CatalogRefusal, Next};
 use crate::hub::{Caller, Hub, HubPass};
 use crate::new_log::Allowed;
@@ -70,6 +71,13 @@ struct Own {
     name: Name,
 }
 
+// The record that a caller would put: its edit, and its number.
+#[derive(Clone, Copy)]
+struct NextRecord<'a> {
+    edit: &'a Edit,
+    number: u64,
+}
+
 fn prepare(alloc: Global, edit: &Edit, number: u64) -> Result<Own, AllocError>
     ensures same { IfOk result (λ o. (o.edit ≡ edit.now) × (o.shared ≡ edit.now)) }
     ensures stored { IfOk result (λ o. (o.name ≡ record_name_of number) × (o.bytes.items ≡ record_text edit.now)) }
@@ -122,26 +130,30 @@ impl<'a, R: Wait> Caller<'a, R> {
         &self,
         pass: &mut HubPass,
         store: &mut W,
-        edit: &Edit,
+        record: &NextRecord<'_>,
         load: &mut Option<ReadyLog>,
-        number: u64,
     ) -> Tried
         requires cell { (pass.old.cell ≡ self.now.cell.now) × (pass.old.holds ≡ false) }
-        requires begun { HasBegun pass.old number }
-        requires admitted { refusal_of (edits pass.old.seen) edit.now ≡ None }
-        requires fits { LoadFits pass.old.seen edit.now load.old }
+        requires begun { HasBegun pass.old record.now.number }
+        requires admitted { refusal_of (edits pass.old.seen) record.now.edit.now ≡ None }
+        requires fits { LoadFits pass.old.seen record.now.edit.now load.old }
         ensures same { IsIdle pass.old pass.new }
-        ensures tried { Tries result edit.now load.old pass.old pass.new }
-        ensures store { TriedStore result edit.now number (W.objects store.old) (W.objects store.new) (W.alone store.old) (W.alone store.new) pass.new }
+        ensures tried { Tries result record.now.edit.now load.old pass.old pass.new }
+        ensures store { TriedStore result record.now.edit.now record.now.number (W.objects store.old) (W.objects store.new) (W.alone store.old) (W.alone store.new) pass.new }
         ensures cause { Cause (W.faults store.old) (W.faults store.new) (failed_tried result) }
     {
-        let Ok(own) = prepare(self.alloc, edit, number) else {
+        let Ok(own) = prepare(self.alloc, record.edit, record.number) else {
             self.abort(pass);
             return Tried::NoMemory;
         };
         match store.put_absent(&own.name, &own.bytes) {
             Put::Stored => {
-                self.publish_own(pass, own.edit, own.shared, load.take());
+                let new = NewEdit {
+                    edit: own.edit,
+                    shared: own.shared,
+                    load: load.take(),
+                };
+                self.publish_own(pass, new);
                 Tried::Done
             }
             Put::Exists => Tried::Exists,
@@ -153,18 +165,21 @@ impl<'a, R: Wait> Caller<'a, R> {
     }
 
     // The record that the store has, since a put answered that it has one.
-    fn again<W: Store>(&self, pass: &mut HubPass, store: &mut W, edit: &Edit, number: u64) -> Round
+    fn again<W: Store>(&self, pass: &mut HubPass, store: &mut W, record: &NextRecord<'_>) -> Round
         requires cell { (pass.old.cell ≡ self.now.cell.now) × (pass.old.holds ≡ false) }
-        requires begun { HasBegun pass.old number }
-        requires exists { IfSome (W.objects store.old) (λ os. IsSome (finmap.get os (record_name_of number))) }
+        requires begun { HasBegun pass.old record.now.number }
+        requires exists { IfSome (W.objects store.old) (λ os. IsSome (finmap.get os (record_name_of record.now.number))) }
         ensures same { IsIdle pass.old pass.new }
-        ensures round { Rounds result edit.now number (W.objects store.old) (W.objects store.new) pass.old pass.new }
-        ensures store { RoundStore result edit.now number (W.objects store.old) (W.objects store.new) (W.alone store.old) (W.alone store.new) pass.new }
+        ensures round { Rounds result record.now.edit.now record.now.number (W.objects store.old) (W.objects store.new) pass.old pass.new }
+        ensures store { RoundStore result record.now.edit.now record.now.number (W.objects store.old) (W.objects store.new) (W.alone store.old) (W.alone store.new) pass.new }
         ensures cause { Cause (W.faults store.old) (W.faults store.new) (failed_round result) }
     {
-        match self.next_record(pass, store, number) {
+        match self.next_record(pass, store, record.number) {
+            Next::Absent => {
+                let number = record.number;
+                self.end_edit(pass, EditEnd::CatalogBlocked { number })
+            }
             Next::Found(count) => Round::Found(count),
-            Next::Absent => self.end_edit(pass, EditEnd::CatalogBlocked { number }),
             Next::End(refusal) => Round::End(end_of(refusal)),
         }
     }
@@ -174,22 +189,21 @@ impl<'a, R: Wait> Caller<'a, R> {
         &self,
         pass: &mut HubPass,
         store: &mut W,
-        edit: &Edit,
+        record: &NextRecord<'_>,
         load: &mut Option<ReadyLog>,
-        number: u64,
     ) -> Round
         requires cell { (pass.old.cell ≡ self.now.cell.now) × (pass.old.holds ≡ false) }
-        requires begun { HasBegun pass.old number }
-        requires admitted { refusal_of (edits pass.old.seen) edit.now ≡ None }
-        requires fits { LoadFits pass.old.seen edit.now load.old }
+        requires begun { HasBegun pass.old record.now.number }
+        requires admitted { refusal_of (edits pass.old.seen) record.now.edit.now ≡ None }
+        requires fits { LoadFits pass.old.seen record.now.edit.now load.old }
         ensures same { IsIdle pass.old pass.new }
-        ensures round { OwnRounds result edit.now load.old number (W.objects store.old) (W.objects store.new) pass.old pass.new }
-        ensures store { RoundStore result edit.now number (W.objects store.old) (W.objects store.new) (W.alone store.old) (W.alone store.new) pass.new }
+        ensures round { OwnRounds result record.now.edit.now load.old record.now.number (W.objects store.old) (W.objects store.new) pass.old pass.new }
+        ensures store { RoundStore result record.now.edit.now record.now.number (W.objects store.old) (W.objects store.new) (W.alone store.old) (W.alone store.new) pass.new }
         ensures cause { Cause (W.faults store.old) (W.faults store.new) (failed_round result) }
     {
-        match self.put_own(pass, store, edit, load, number) {
+        match self.put_own(pass, store, record, load) {
             Tried::Done => Round::Done,
-            Tried::Exists => self.again(pass, store, edit, number),
+            Tried::Exists => self.again(pass, store, record),
             Tried::StoreFault => Round::End(EditEnd::StoreFault),
             Tried::NoMemory => Round::End(EditEnd::NoMemory),
         }
@@ -200,36 +214,35 @@ impl<'a, R: Wait> Caller<'a, R> {
         &self,
         pass: &mut HubPass,
         store: &mut W,
-        edit: &Edit,
-        number: u64,
+        record: &NextRecord<'_>,
     ) -> Round
         requires cell { (pass.old.cell ≡ self.now.cell.now) × (pass.old.holds ≡ false) }
-        requires begun { HasBegun pass.old number }
-        requires absent { Lacks (record_name_of number) (W.objects store.old) }
+        requires begun { HasBegun pass.old record.now.number }
+        requires absent { Lacks (record_name_of record.now.number) (W.objects store.old) }
         ensures same { IsIdle pass.old pass.new }
-        ensures round { Rounds result edit.now number (W.objects store.old) (W.objects store.new) pass.old pass.new }
-        ensures store { RoundStore result edit.now number (W.objects store.old) (W.objects store.new) (W.alone store.old) (W.alone store.new) pass.new }
+        ensures round { Rounds result record.now.edit.now record.now.number (W.objects store.old) (W.objects store.new) pass.old pass.new }
+        ensures store { RoundStore result record.now.edit.now record.now.number (W.objects store.old) (W.objects store.new) (W.alone store.old) (W.alone store.new) pass.new }
         ensures cause { Cause (W.faults store.old) (W.faults store.new) (failed_round result) }
     {
-        match self.allow(pass, store, edit) {
-            Allowed::Fits(mut load) => { self.own(pass, store, edit, &mut load, number) }
+        match self.allow(pass, store, record.edit) {
+            Allowed::Fits(mut load) => self.own(pass, store, record, &mut load),
             Allowed::Refused(refusal) => self.end_edit(pass, EditEnd::Refused(refusal)),
             Allowed::Failed(refusal) => self.end_edit(pass, failed(refusal)),
         }
     }
 
     // One record more of the store's, or the caller's own.
-    fn round<W: Store>(&self, pass: &mut HubPass, store: &mut W, edit: &Edit, number: u64) -> Round
+    fn round<W: Store>(&self, pass: &mut HubPass, store: &mut W, record: &NextRecord<'_>) -> Round
         requires cell { (pass.old.cell ≡ self.now.cell.now) × (pass.old.holds ≡ false) }
-        requires begun { HasBegun pass.old number }
+        requires begun { HasBegun pass.old record.now.number }
         ensures same { IsIdle pass.old pass.new }
-        ensures round { Rounds result edit.now number (W.objects store.old) (W.objects store.new) pass.old pass.new }
-        ensures store { RoundStore result edit.now number (W.objects store.old) (W.objects store.new) (W.alone store.old) (W.alone store.new) pass.new }
+        ensures round { Rounds result record.now.edit.now record.now.number (W.objects store.old) (W.objects store.new) pass.old pass.new }
+        ensures store { RoundStore result record.now.edit.now record.now.number (W.objects store.old) (W.objects store.new) (W.alone store.old) (W.alone store.new) pass.new }
         ensures cause { Cause (W.faults store.old) (W.faults store.new) (failed_round result) }
     {
-        match self.next_record(pass, store, number) {
+        match self.next_record(pass, store, record.number) {
             Next::Found(count) => Round::Found(count),
-            Next::Absent => self.own_round(pass, store, edit, number),
+            Next::Absent => self.own_round(pass, store, record),
             Next::End(refusal) => Round::End(end_of(refusal)),
         }
     }
@@ -251,7 +264,7 @@ impl<'a, R: Wait> Caller<'a, R> {
     {
         let mut number = first;
         for turn in 0..64u32 {
-            match self.round(pass, store, edit, number) {
+            match self.round(pass, store, &NextRecord { edit, number }) {
                 Round::Found(count) => number = count,
                 Round::Done => return Ok(number),
                 Round::End(end) => return Err(end),

@@ -13,7 +13,7 @@ ghost use Rattle.share_hub.specs.Records.{HasRecord};
 ghost use Rattle.share_hub.specs.Rounds.{Nexts, PublishesNext, failed_next, refusal_by};
 ghost use Rattle.share_hub.specs.declared.found.Next.TheVariants as next;
 
-use crate::catalog_turns::Published;
+use crate::catalog_turns::{NewEdit, Published};
 use crate::hub::{Caller, HubPass};
 use crate::new_log::{Allowed, allow};
 use crate::record::{Read, read_record};
@@ -91,10 +91,10 @@ impl<'a, R: Wait> Caller<'a, R> {
         ensures same { IsIdle pass.old pass.new }
         ensures published { PublishesNext result (record { load = load; edit = edit }) pass.old pass.new }
     {
-        let Ok(held) = SharedEdit::copied(self.alloc, &edit) else {
+        let Ok(shared) = SharedEdit::copied(self.alloc, &edit) else {
             return self.end(pass, CatalogRefusal::NoMemory);
         };
-        match self.publish_found(pass, edit, held, load) {
+        match self.publish_found(pass, NewEdit { edit, shared, load }) {
             Published::Open(count) => Next::Found(count),
             Published::NoMemory => Next::End(CatalogRefusal::NoMemory),
         }

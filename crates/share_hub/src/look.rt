@@ -13,22 +13,16 @@ use std::sync::Wait;
 use step_count::Steps;
 
 impl<'a, R: Wait> Caller<'a, R> {
-    // What a further turn gives of a look, in which the state of the files that were found is kept. One that finds no memory isn't.
-    fn keep_and_pin(&self, pass: &mut HubPass, ask: &Ask, look: &Look) -> Result<Pinned, AllocError>
+    // Keeps the state of the files that were found, where memory is there for it.
+    fn keep_found(&self, pass: &mut HubPass, look: &Look)
         requires cell { (pass.old.cell ≡ self.now.cell.now) × (pass.old.holds ≡ false) }
         requires found { IfSome look.now.seen (λ s. FilesStand pass.old.seen s.found) }
         ensures same { IsIdle pass.old pass.new }
         ensures added { Adds pass.old pass.new [] }
-        ensures at { IfOk result (λ p. p.look.at ≡ length pass.new.seen) }
-        ensures seen { IfOk result (λ p. p.look.seen ≡ glance_of (view_by pass.new.seen (who_of ask.now.who)) ask.now.want) }
-        ensures makes { IfOk result (λ p. MakesFound (commits_of (view_by pass.new.seen (who_of ask.now.who)) ask.now.want) p.replay) }
-        ensures fits { IfOk result (λ p. IfSome p.replay CanReplay) }
     {
         let mut turn = self.cell.take(self.rt, pass);
         turn.value.keep(look).ok();
-        let pinned = turn.value.pin(self.alloc, ask);
         self.cell.give(pass, turn);
-        pinned
     }
 }
 
@@ -63,8 +57,8 @@ impl Hub {
     /// seen: a plain function of the recipient's view at that point and of what is asked. It adds no entry.
     ///
     /// The files of a version are made without the turn, of the latest state of their table that is kept, up to that version, and the
-    /// commits after it. Where commits were left, the state is then kept, and what is found is looked up again, in one further turn.
-    /// `steps` goes up by one for each action that is replayed. The error is want of memory.
+    /// commits after it. Where commits were left, the state is then kept, and what is found is looked up again, each in one further
+    /// turn. `steps` goes up by one for each action that is replayed. The error is want of memory.
     pub fn look<R: Wait, L>(
         &self,
         rt: &R,
@@ -86,8 +80,7 @@ impl Hub {
         if !is_behind {
             return Ok(look);
         }
-        let caller = self.caller(rt, alloc);
-        let pinned = caller.keep_and_pin(pass, ask, &look)?;
-        pinned.complete(alloc, steps)
+        self.caller(rt, alloc).keep_found(pass, &look);
+        self.pin(rt, alloc, pass, ask)?.complete(alloc, steps)
     }
 }

@@ -10,7 +10,7 @@ ghost use Rattle.share_hub.specs.CatalogTurns.{LoadFits};
 ghost use Rattle.share_hub.specs.Opens.{AddsIn, RestsAfter, failed_added, OpensAs, PublishesIn, ReadsBook, failed_open, refusal_for};
 ghost use Rattle.share_hub.specs.Records.{HasRecord};
 
-use crate::catalog_turns::{Opened, Published, abort_in, begin_in, check_in, publish_in};
+use crate::catalog_turns::{NewEdit, Opened, Published, abort_in, begin_in, check_in, publish_in};
 use crate::hub::{Hub, HubPass};
 use crate::new_log::{Allowed, allow};
 use crate::record::{Read, read_record};
@@ -72,10 +72,10 @@ fn publish(alloc: Global, book: &mut Book, edit: Edit, load: Option<ReadyLog>) -
     ensures added { PublishesIn result (record { load = load; edit = edit }) book.old.past.history book.new.past.history }
     ensures no_store { failed_added result ≡ false }
 {
-    let Ok(held) = SharedEdit::copied(alloc, &edit) else {
+    let Ok(shared) = SharedEdit::copied(alloc, &edit) else {
         return Added::Failed(OpenRefusal::NoMemory);
     };
-    match publish_in(alloc, book, 0, edit, held, load) {
+    match publish_in(alloc, book, 0, NewEdit { edit, shared, load }) {
         Published::Open(_) => Added::Found,
         Published::NoMemory => Added::Failed(OpenRefusal::NoMemory),
     }

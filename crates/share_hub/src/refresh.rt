@@ -11,7 +11,7 @@ ghost use Rattle.share_hub.specs.TableRounds.{HoldsHead};
 ghost use Rattle.share_hub.specs.TableTurns.{IsLog};
 
 use crate::hub::{Caller, Hub, HubPass};
-use crate::table_rounds::{LogEnd, LogHead, NextCommit, VersionObject, has_version};
+use crate::table_rounds::{LogEnd, LogHead, NextCommit, StoredLog, VersionObject, has_version};
 use crate::table_turns::KnownLog;
 use edge_core::{Name, Store};
 use log_replay::Support;
@@ -113,24 +113,23 @@ impl<'a, R: Wait> Caller<'a, R> {
         &self,
         pass: &mut HubPass,
         store: &mut W,
-        location: &Name,
-        log: u32,
+        stored: &StoredLog<'_>,
         head: &mut LogHead,
     ) -> Result<Refreshed, RefreshRefusal>
         requires cell { (pass.old.cell ≡ self.now.cell.now) × (pass.old.holds ≡ false) }
-        requires short { length location.now ≤ 256 }
-        requires begun { HoldsHead pass.old log head.old }
+        requires short { length stored.now.location.now ≤ 256 }
+        requires begun { HoldsHead pass.old stored.now.log head.old }
         ensures same { IsIdle pass.old pass.new }
-        ensures runs { RefreshRuns result location.now log (W.objects store.old) (W.objects store.new) pass.old pass.new }
+        ensures runs { RefreshRuns result stored.now.location.now stored.now.log (W.objects store.old) (W.objects store.new) pass.old pass.new }
         ensures looked { Looked (W.objects store.old) (W.objects store.new) (W.alone store.old) (W.alone store.new) }
         ensures cause { Cause (W.faults store.old) (W.faults store.new) (failed_refresh result) }
     {
         for found in 0..64u32 {
             let kept = head.support.versions();
-            match self.next_commit(pass, store, location, log, head) {
+            match self.next_commit(pass, store, stored, head) {
                 NextCommit::Found => {}
                 NextCommit::Absent => {
-                    self.abort_log(pass, log);
+                    self.abort_log(pass, stored.log);
                     return Ok(Refreshed {
                         kept,
                         block: None,
@@ -140,7 +139,7 @@ impl<'a, R: Wait> Caller<'a, R> {
                 NextCommit::End(end) => return ended(end, kept, found),
             }
         }
-        self.abort_log(pass, log);
+        self.abort_log(pass, stored.log);
         Ok(Refreshed {
             kept: head.support.versions(),
             block: None,
@@ -153,27 +152,26 @@ impl<'a, R: Wait> Caller<'a, R> {
         &self,
         pass: &mut HubPass,
         store: &mut W,
-        location: &Name,
-        log: u32,
+        stored: &StoredLog<'_>,
         state: LogState,
     ) -> Result<Refreshed, RefreshRefusal>
         requires cell { (pass.old.cell ≡ self.now.cell.now) × (pass.old.holds ≡ false) }
-        requires short { length location.now ≤ 256 }
-        requires opened { OpensOn pass.old log state }
+        requires short { length stored.now.location.now ≤ 256 }
+        requires opened { OpensOn pass.old stored.now.log state }
         ensures same { IsIdle pass.old pass.new }
-        ensures runs { RefreshRuns result location.now log (W.objects store.old) (W.objects store.new) pass.old pass.new }
+        ensures runs { RefreshRuns result stored.now.location.now stored.now.log (W.objects store.old) (W.objects store.new) pass.old pass.new }
         ensures looked { Looked (W.objects store.old) (W.objects store.new) (W.alone store.old) (W.alone store.new) }
         ensures cause { Cause (W.faults store.old) (W.faults store.new) (failed_refresh result) }
     {
         match state.block {
             Some(_) => {
-                self.abort_log(pass, log);
+                self.abort_log(pass, stored.log);
                 Ok(known(state))
             }
-            None => match self.log_head(pass, log, state) {
-                Ok(mut head) => { self.refresh_rounds(pass, store, location, log, &mut head) }
+            None => match self.log_head(pass, stored.log, state) {
+                Ok(mut head) => self.refresh_rounds(pass, store, stored, &mut head),
                 Err(_) => {
-                    self.abort_log(pass, log);
+                    self.abort_log(pass, stored.log);
                     Err(RefreshRefusal::NoMemory)
                 }
             },
@@ -185,19 +183,18 @@ impl<'a, R: Wait> Caller<'a, R> {
         &self,
         pass: &mut HubPass,
         store: &mut W,
-        location: &Name,
-        log: u32,
+        stored: &StoredLog<'_>,
     ) -> Result<Refreshed, RefreshRefusal>
         requires cell { (pass.old.cell ≡ self.now.cell.now) × (pass.old.holds ≡ false) }
-        requires short { length location.now ≤ 256 }
-        requires there { IsLog log pass.old.seen }
+        requires short { length stored.now.location.now ≤ 256 }
+        requires there { IsLog stored.now.log pass.old.seen }
         ensures same { IsIdle pass.old pass.new }
-        ensures ran { RefreshesOn result location.now log (W.objects store.old) (W.objects store.new) pass.old pass.new }
+        ensures ran { RefreshesOn result stored.now.location.now stored.now.log (W.objects store.old) (W.objects store.new) pass.old pass.new }
         ensures looked { Looked (W.objects store.old) (W.objects store.new) (W.alone store.old) (W.alone store.new) }
         ensures cause { Cause (W.faults store.old) (W.faults store.new) (failed_refresh result) }
     {
-        match self.begin_log(pass, log) {
-            Some(state) => self.refresh_open(pass, store, location, log, state),
+        match self.begin_log(pass, stored.log) {
+            Some(state) => self.refresh_open(pass, store, stored, state),
             None => Err(RefreshRefusal::NoMemory),
         }
     }
@@ -237,7 +234,11 @@ impl Hub {
         }
         match has_version(alloc, store, location, state.kept) {
             Ok(VersionObject::Absent) => Ok(known(state)),
-            Ok(VersionObject::There) => caller.refresh_log(pass, store, location, log),
+            Ok(VersionObject::There) => caller.refresh_log(
+                pass,
+                store,
+                &StoredLog { location, log },
+            ),
             Err(refusal) => Err(refused(refusal)),
         }
     }

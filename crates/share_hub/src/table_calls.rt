@@ -9,13 +9,13 @@ ghost use Rattle.share_book.specs.declared.entry.Act.TheVariants as act;
 ghost use Rattle.share_hub.specs.Calls.{Adds, IsIdle};
 ghost use Rattle.share_hub.specs.OfferLogs.{IsOfferLog};
 ghost use Rattle.share_hub.specs.TableCalls.{BeginsLog, BlocksLog, FindsCommit, GoesOn, StartsLog, StopsOn};
-ghost use Rattle.share_hub.specs.TableTurns.{FindsLog, IsLog};
+ghost use Rattle.share_hub.specs.TableTurns.{FindsLog, IsLog, TakesNew};
 
 use crate::hub::{Caller, HubPass};
 use crate::offer_log::{OfferLog, offer_log_in};
 use crate::table_turns::{
-    CommitPublished, KnownLog, LogOpened, abort_log_in, begin_log_in, block_log_in, find_in,
-    head_in, keep_in, own_commit_in, publish_commit_in,
+    CommitPublished, KnownLog, LogOpened, NewCommit, abort_log_in, begin_log_in, block_log_in,
+    find_in, head_in, keep_in, own_commit_in, publish_commit_in,
 };
 use commit_check::Offer;
 use log_actions::Commit;
@@ -113,22 +113,8 @@ impl<'a, R: Wait> Caller<'a, R> {
         head
     }
 
-    // Keeps a state of a table's log on which the caller has begun, where memory is there for it.
-    pub(crate) fn keep_state(&self, pass: &mut HubPass, log: u32, state: &SharedSnapshot)
-        requires cell { (pass.old.cell ≡ self.now.cell.now) × (pass.old.holds ≡ false) }
-        requires there { IsLog log pass.old.seen }
-        requires begun { open_on log pass.old.seen ≡ Some pass.old.number }
-        requires state { There (table_on log pass.old.seen) (λ t. IsStateIn t.commits state.now) }
-        ensures same { IsIdle pass.old pass.new }
-        ensures goes { GoesOn pass.old pass.new log [] }
-    {
-        let mut turn = self.cell.take(self.rt, pass);
-        turn.value.len();
-        keep_in(&mut turn.value, log, state);
-        self.cell.give(pass, turn);
-    }
-
-    // Keeps the state that a replay made, unless it was at hand.
+    // Keeps the state that a replay made of a table's log on which the caller has begun, unless it was at hand, where memory is there
+    // for it.
     pub(crate) fn keep_made(
         &self,
         pass: &mut HubPass,
@@ -146,7 +132,10 @@ impl<'a, R: Wait> Caller<'a, R> {
         if replay.commits.items().is_empty() {
             return;
         }
-        self.keep_state(pass, log, state);
+        let mut turn = self.cell.take(self.rt, pass);
+        turn.value.len();
+        keep_in(&mut turn.value, log, state);
+        self.cell.give(pass, turn);
     }
 
     // Ends what the caller began.
@@ -185,50 +174,37 @@ impl<'a, R: Wait> Caller<'a, R> {
         &self,
         pass: &mut HubPass,
         log: u32,
-        commit: Arc<Commit>,
-        shared: SharedCommit,
-        bytes: u64,
+        new: NewCommit,
     ) -> CommitPublished
         requires cell { (pass.old.cell ≡ self.now.cell.now) × (pass.old.holds ≡ false) }
         requires there { IsLog log pass.old.seen }
         requires begun { open_on log pass.old.seen ≡ Some pass.old.number }
-        requires same { shared ≡ commit.value }
-        requires bytes { bytes ≡ length (commit_text commit.value) }
-        requires takes { TakesCommit pass.old.seen log commit.value }
+        requires takes { TakesNew pass.old.seen log new }
         ensures same { IsIdle pass.old pass.new }
-        ensures found { FindsCommit result log commit.value pass.old pass.new }
+        ensures found { FindsCommit result log new.commit.value pass.old pass.new }
     {
         let number = pass.number();
         let mut turn = self.cell.take(self.rt, pass);
         turn.value.len();
-        let published = publish_commit_in(&mut turn.value, number, log, commit, shared, bytes);
+        let published = publish_commit_in(&mut turn.value, number, log, new);
         self.cell.give(pass, turn);
         published
     }
 
     // Publishes the caller's own commit.
-    pub(crate) fn own_commit(
-        &self,
-        pass: &mut HubPass,
-        log: u32,
-        commit: Arc<Commit>,
-        shared: SharedCommit,
-        bytes: u64,
-    )
+    pub(crate) fn own_commit(&self, pass: &mut HubPass, log: u32, new: NewCommit)
         requires cell { (pass.old.cell ≡ self.now.cell.now) × (pass.old.holds ≡ false) }
         requires there { IsLog log pass.old.seen }
         requires begun { open_on log pass.old.seen ≡ Some pass.old.number }
-        requires same { shared ≡ commit.value }
-        requires bytes { bytes ≡ length (commit_text commit.value) }
-        requires takes { TakesCommit pass.old.seen log commit.value }
-        requires lawful { OwnIsLawful true pass.old.seen log commit.value }
+        requires takes { TakesNew pass.old.seen log new }
+        requires lawful { OwnIsLawful true pass.old.seen log new.commit.value }
         ensures same { IsIdle pass.old pass.new }
-        ensures ended { StopsOn pass.old pass.new log [] (act.Own commit.value ∷ []) }
+        ensures ended { StopsOn pass.old pass.new log [] (act.Own new.commit.value ∷ []) }
     {
         let number = pass.number();
         let mut turn = self.cell.take(self.rt, pass);
         turn.value.len();
-        own_commit_in(&mut turn.value, number, log, commit, shared, bytes);
+        own_commit_in(&mut turn.value, number, log, new);
         self.cell.give(pass, turn);
     }
 }

@@ -12,7 +12,7 @@ ghost use Rattle.share_hub.specs.Calls.{IsIdle};
 ghost use Rattle.share_hub.specs.TableRounds.{HoldsHead, IsHeadOf, IsThere, Nexts, PublishesNext, TakesNext, failed_next_commit};
 
 use crate::hub::{Caller, HubPass};
-use crate::table_turns::CommitPublished;
+use crate::table_turns::{CommitPublished, NewCommit};
 use edge_core::{Measured, Name, Store};
 use log_actions::Commit;
 use log_replay::{NoState, Support};
@@ -28,10 +28,17 @@ pub struct LogHead {
     pub bytes: u64,
 }
 
+// Where a table's log stands: its location in the store, and its number in the book.
+#[derive(Clone, Copy)]
+pub struct StoredLog<'a> {
+    pub location: &'a Name,
+    pub log: u32,
+}
+
 // Whether a commit is kept as a log's next version.
 #[derive(Drop)]
 pub enum Taken {
-    Kept(Arc<Commit>, SharedCommit),
+    Kept(NewCommit),
     Unkept,
     NoMemory,
 }
@@ -78,31 +85,15 @@ fn take_next(alloc: Global, head: &mut LogHead, commit: Commit, bytes: u64) -> T
     match head.support.admit(alloc, &held) {
         Ok(()) => {
             head.bytes += bytes;
-            Taken::Kept(held, SharedCommit::of(other))
+            Taken::Kept(NewCommit {
+                commit: held,
+                shared: SharedCommit::of(other),
+                bytes,
+            })
         }
         Err(NoState::Refusal(_)) => Taken::Unkept,
         Err(NoState::NoMemory) => Taken::NoMemory,
     }
-}
-
-// What the store has as a version. No memory holds a log of 2^63 versions.
-pub fn look_next<W: Store>(
-    alloc: Global,
-    store: &mut W,
-    location: &Name,
-    version: u64,
-) -> Result<Probed, LoadRefusal>
-    requires short { length location.now ≤ 256 }
-    ensures small { OnOk result (version < 2 ^ 63) }
-    ensures looked { Looked (W.objects store.old) (W.objects store.new) (W.alone store.old) (W.alone store.new) }
-    ensures probed { IfSome (W.objects store.new) (λ os. IsProbed (text_at location.now os version) result) }
-    ensures counted { IfOk result IsCounted }
-    ensures cause { Cause (W.faults store.old) (W.faults store.new) (failed_load result) }
-{
-    if version >= 1 << 63 {
-        return Err(LoadRefusal::NoMemory);
-    }
-    probe(alloc, store, location, version)
 }
 
 // Whether the store has an object as a version.
@@ -130,6 +121,26 @@ pub fn has_version<W: Store>(
 }
 
 impl<'a, R: Wait> Caller<'a, R> {
+    // What the store has as a version. No memory holds a log of 2^63 versions.
+    fn look_next<W: Store>(
+        &self,
+        store: &mut W,
+        location: &Name,
+        version: u64,
+    ) -> Result<Probed, LoadRefusal>
+        requires short { length location.now ≤ 256 }
+        ensures small { OnOk result (version < 2 ^ 63) }
+        ensures looked { Looked (W.objects store.old) (W.objects store.new) (W.alone store.old) (W.alone store.new) }
+        ensures probed { IfSome (W.objects store.new) (λ os. IsProbed (text_at location.now os version) result) }
+        ensures counted { IfOk result IsCounted }
+        ensures cause { Cause (W.faults store.old) (W.faults store.new) (failed_load result) }
+    {
+        if version >= 1 << 63 {
+            return Err(LoadRefusal::NoMemory);
+        }
+        probe(self.alloc, store, location, version)
+    }
+
     // Publishes a commit that the store has as the next version, or blocks the log.
     fn publish_next(
         &self,
@@ -147,7 +158,7 @@ impl<'a, R: Wait> Caller<'a, R> {
         ensures published { PublishesNext result log commit head.new pass.old pass.new }
     {
         match take_next(self.alloc, head, commit, bytes) {
-            Taken::Kept(held, other) => match self.publish_commit(pass, log, held, other, bytes) {
+            Taken::Kept(new) => match self.publish_commit(pass, log, new) {
                 CommitPublished::Open => NextCommit::Found,
                 CommitPublished::NoMemory => NextCommit::End(LogEnd::NoMemory),
             },
@@ -167,33 +178,32 @@ impl<'a, R: Wait> Caller<'a, R> {
         &self,
         pass: &mut HubPass,
         store: &mut W,
-        location: &Name,
-        log: u32,
+        stored: &StoredLog<'_>,
         head: &mut LogHead,
     ) -> NextCommit
         requires cell { (pass.old.cell ≡ self.now.cell.now) × (pass.old.holds ≡ false) }
-        requires short { length location.now ≤ 256 }
-        requires begun { HoldsHead pass.old log head.old }
+        requires short { length stored.now.location.now ≤ 256 }
+        requires begun { HoldsHead pass.old stored.now.log head.old }
         ensures same { IsIdle pass.old pass.new }
-        ensures next { Nexts result location.now log head.old head.new (W.objects store.new) pass.old pass.new }
+        ensures next { Nexts result stored.now.location.now stored.now.log head.old head.new (W.objects store.new) pass.old pass.new }
         ensures looked { Looked (W.objects store.old) (W.objects store.new) (W.alone store.old) (W.alone store.new) }
         ensures cause { Cause (W.faults store.old) (W.faults store.new) (failed_next_commit result) }
     {
-        match look_next(self.alloc, store, location, head.support.versions()) {
+        match self.look_next(store, stored.location, head.support.versions()) {
             Ok(Probed::Found(commit, bytes)) => {
-                self.publish_next(pass, log, head, commit, bytes)
+                self.publish_next(pass, stored.log, head, commit, bytes)
             }
             Ok(Probed::Absent) => NextCommit::Absent,
             Ok(Probed::Unreadable(_)) => {
-                self.block_log(pass, log);
+                self.block_log(pass, stored.log);
                 NextCommit::End(LogEnd::Blocked)
             }
             Err(LoadRefusal::StoreFault) => {
-                self.abort_log(pass, log);
+                self.abort_log(pass, stored.log);
                 NextCommit::End(LogEnd::StoreFault)
             }
             Err(LoadRefusal::NoMemory) => {
-                self.abort_log(pass, log);
+                self.abort_log(pass, stored.log);
                 NextCommit::End(LogEnd::NoMemory)
             }
         }

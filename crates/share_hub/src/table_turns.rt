@@ -6,7 +6,7 @@ ghost use Rattle.share_book.specs.Books.{OthersRest, OwnIsLawful, rests};
 ghost use Rattle.share_book.specs.History.{entry, open_on, pending, starts, table_on};
 ghost use Rattle.share_book.specs.Legal.{TakesCommit, There};
 ghost use Rattle.share_book.specs.declared.entry.Act.TheVariants as act;
-ghost use Rattle.share_hub.specs.TableTurns.{Blocks, FindsLog, GoesOnLog, IsLog, OpensLog, PublishesCommit};
+ghost use Rattle.share_hub.specs.TableTurns.{Blocks, FindsLog, GoesOnLog, IsLog, OpensLog, PublishesCommit, TakesNew};
 
 use log_actions::Commit;
 use share_book::{Book, LogState, Replay, SharedCommit, SharedSnapshot};
@@ -33,6 +33,14 @@ pub enum LogOpened {
 pub enum CommitPublished {
     Open,
     NoMemory,
+}
+
+// A commit to add: itself, the copy that readers share, and the length of its text.
+#[derive(Drop)]
+pub struct NewCommit {
+    pub commit: Arc<Commit>,
+    pub shared: SharedCommit,
+    pub bytes: u64,
 }
 
 // The log of the table at a location.
@@ -135,47 +143,29 @@ fn go_on_log(book: &mut Book, caller: u32, log: u32) -> CommitPublished
 }
 
 // Publishes a commit that the store had.
-pub fn publish_commit_in(
-    book: &mut Book,
-    caller: u32,
-    log: u32,
-    commit: Arc<Commit>,
-    shared: SharedCommit,
-    bytes: u64,
-) -> CommitPublished
+pub fn publish_commit_in(book: &mut Book, caller: u32, log: u32, new: NewCommit) -> CommitPublished
     requires rests { rests book.old ≡ true }
     requires there { IsLog log book.old.past.history }
     requires begun { open_on log book.old.past.history ≡ Some caller }
-    requires same { shared ≡ commit.value }
-    requires bytes { bytes ≡ length (commit_text commit.value) }
-    requires takes { TakesCommit book.old.past.history log commit.value }
+    requires takes { TakesNew book.old.past.history log new }
     ensures rests { rests book.new ≡ true }
-    ensures published { PublishesCommit result caller log commit.value book.old.past.history book.new.past.history }
+    ensures published { PublishesCommit result caller log new.commit.value book.old.past.history book.new.past.history }
 {
     book.len();
-    book.commit(caller, log, commit, shared, bytes, false);
+    book.commit(caller, log, new.commit, new.shared, new.bytes, false);
     go_on_log(book, caller, log)
 }
 
 // Publishes the caller's own commit.
-pub fn own_commit_in(
-    book: &mut Book,
-    caller: u32,
-    log: u32,
-    commit: Arc<Commit>,
-    shared: SharedCommit,
-    bytes: u64,
-)
+pub fn own_commit_in(book: &mut Book, caller: u32, log: u32, new: NewCommit)
     requires rests { rests book.old ≡ true }
     requires there { IsLog log book.old.past.history }
     requires begun { open_on log book.old.past.history ≡ Some caller }
-    requires same { shared ≡ commit.value }
-    requires bytes { bytes ≡ length (commit_text commit.value) }
-    requires takes { TakesCommit book.old.past.history log commit.value }
-    requires lawful { OwnIsLawful true book.old.past.history log commit.value }
+    requires takes { TakesNew book.old.past.history log new }
+    requires lawful { OwnIsLawful true book.old.past.history log new.commit.value }
     ensures rests { rests book.new ≡ true }
-    ensures added { book.new.past.history ≡ book.old.past.history ++ entry caller log (act.Own commit.value) ∷ [] }
+    ensures added { book.new.past.history ≡ book.old.past.history ++ entry caller log (act.Own new.commit.value) ∷ [] }
 {
     book.len();
-    book.commit(caller, log, commit, shared, bytes, true);
+    book.commit(caller, log, new.commit, new.shared, new.bytes, true);
 }

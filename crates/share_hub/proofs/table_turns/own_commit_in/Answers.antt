@@ -14,7 +14,7 @@ pub commit-requires-clause-spare : goal.commit-requires-clause-spare
 commit-requires-clause-spare c =
     let n = c.len.ensures.rooms in
     let i = c.requires.there.1 in
-    let r = (has_begun_on c.args.book.now c.args.log c.args.caller c.requires.there.0 c.requires.rests (omega arith) c.requires.begun).1 (takes_unblocked c.args.book.now.past.history c.args.log c.args.commit.value c.requires.takes) in
+    let r = (has_begun_on c.args.book.now c.args.log c.args.caller c.requires.there.0 c.requires.rests (omega arith) c.requires.begun).1 (takes_unblocked c.args.book.now.past.history c.args.log c.args.new.commit.value c.requires.takes.2) in
     omega arith
 
 pub commit-requires-clause-settled : goal.commit-requires-clause-settled

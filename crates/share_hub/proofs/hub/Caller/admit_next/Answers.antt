@@ -7,7 +7,7 @@ use Rattle.share_hub.proofs.TablePasses.{is_log_held}
 use Rattle.share_hub.proofs.hub.Caller.admit_next.Goals as goal
 
 pub offer_log-requires-clause-there : goal.offer_log-requires-clause-there
-offer_log-requires-clause-there g c = let h = c.requires.begun.1 in is_log_held c.args.pass.now c.args.log h.log h.holds
+offer_log-requires-clause-there g c = let h = c.requires.begun.1 in is_log_held c.args.pass.now c.args.attempt.now.log h.log h.holds
 
 pub offer_log-requires-clause-begun : goal.offer_log-requires-clause-begun
 offer_log-requires-clause-begun g c = let h = c.requires.begun.1 in h.holds.holder
@@ -15,15 +15,15 @@ offer_log-requires-clause-begun g c = let h = c.requires.begun.1 in h.holds.hold
 pub states_of-requires : goal.states_of-requires
 states_of-requires g c =
     let h = c.requires.begun.1 in
-    let read = c.args.offer.now.read in
-    record { of = (read, h.log.commits, there_at (table_on c.args.log c.args.pass.now.seen) h.log (λ (t : TableLog). IsOfferLog read t.commits c.in-Ok.found) h.holds.table c.in-Ok.ensures.offered) }
+    let read = c.args.attempt.now.offer.now.read in
+    record { of = (read, h.log.commits, there_at (table_on c.args.attempt.now.log c.args.pass.now.seen) h.log (λ (t : TableLog). IsOfferLog read t.commits c.in-Ok.found) h.holds.table c.in-Ok.ensures.offered) }
 
 pub returns-clause-told : goal.returns-clause-told
 returns-clause-told g c =
     let h = c.requires.begun.1 in
-    let read = c.args.offer.now.read in
-    let table = table_on c.args.log c.args.pass.now.seen in
+    let read = c.args.attempt.now.offer.now.read in
+    let table = table_on c.args.attempt.now.log c.args.pass.now.seen in
     let is = there_at table h.log (λ (t : TableLog). IsOfferLog read t.commits c.in-Ok.found) h.holds.table c.in-Ok.ensures.offered in
     let states = c.in-Ok-states_of.ensures in
-    there_from table h.log (λ (t : TableLog). Answers c.admission.result (admitted t.commits c.args.now c.args.offer.now)) h.holds.table
+    there_from table h.log (λ (t : TableLog). Answers c.admission.result (admitted t.commits c.args.attempt.now.moment c.args.attempt.now.offer.now)) h.holds.table
     (c.admission.ensures h.log.commits is (states.at read h.log.commits is) (states.head read h.log.commits is))

@@ -19,14 +19,14 @@ own_commit_in-requires-clause-begun g c = let a = c.take-turn.ensures in
 pub own_commit_in-requires-clause-takes : goal.own_commit_in-requires-clause-takes
 own_commit_in-requires-clause-takes g c = let a = c.take-turn.ensures in
     let s = stands_on c.args.log c.args.pass.now c.take-turn.new.pass (record { same = a.same; seen = a.seen; kept = a.mine }) (subst IsLegal a.value.0 c.len.ensures.legal) c.requires.there c.requires.begun in
-    takes_same c.args.log c.args.pass.now.seen c.take-turn.result.value.past.history c.args.commit.value (ap (table_on c.args.log) a.value.0 ∙ s.table) c.requires.takes
+    (c.requires.takes.0, c.requires.takes.1, takes_same c.args.log c.args.pass.now.seen c.take-turn.result.value.past.history c.args.new.commit.value (ap (table_on c.args.log) a.value.0 ∙ s.table) c.requires.takes.2)
 
 pub own_commit_in-requires-clause-lawful : goal.own_commit_in-requires-clause-lawful
 own_commit_in-requires-clause-lawful g c = let a = c.take-turn.ensures in
     let s = stands_on c.args.log c.args.pass.now c.take-turn.new.pass (record { same = a.same; seen = a.seen; kept = a.mine }) (subst IsLegal a.value.0 c.len.ensures.legal) c.requires.there c.requires.begun in
-    there_same (λ t. is_lawful t.commits c.args.commit.value ≡ true) _ _ (ap (table_on c.args.log) a.value.0 ∙ s.table) c.requires.lawful
+    there_same (λ t. is_lawful t.commits c.args.new.commit.value ≡ true) _ _ (ap (table_on c.args.log) a.value.0 ∙ s.table) c.requires.lawful
 
 pub returns-clause-ended : goal.returns-clause-ended
 returns-clause-ended g c = let a = c.take-turn.ensures in let b = c.give.ensures in
-    stops_on c.args.log c.args.pass.now c.take-turn.new.pass _ _ (Own c.args.commit.value ∷ []) (record { same = a.same; seen = a.seen; kept = a.mine }) (record { same = b.same; idle = b.idle; seen = b.seen; kept = b.mine }) (subst IsLegal a.value.0 c.len.ensures.legal) c.requires.there c.requires.begun _ c.number-number.ensures
-    (c.own_commit_in.ensures.added ∙ ap (λ (l : List Entry). l ++ entry c.number-number.result c.args.log (Own c.args.commit.value) ∷ []) a.value.0)
+    stops_on c.args.log c.args.pass.now c.take-turn.new.pass _ _ (Own c.args.new.commit.value ∷ []) (record { same = a.same; seen = a.seen; kept = a.mine }) (record { same = b.same; idle = b.idle; seen = b.seen; kept = b.mine }) (subst IsLegal a.value.0 c.len.ensures.legal) c.requires.there c.requires.begun _ c.number-number.ensures
+    (c.own_commit_in.ensures.added ∙ ap (λ (l : List Entry). l ++ entry c.number-number.result c.args.log (Own c.args.new.commit.value) ∷ []) a.value.0)

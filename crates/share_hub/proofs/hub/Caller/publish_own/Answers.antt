@@ -15,25 +15,23 @@ own_in-requires-clause-begun g c = let a = c.take-turn.ensures in
     let s = stands c.args.pass.now c.take-turn.new.pass (record { same = a.same; seen = a.seen; kept = a.mine }) (subst IsLegal a.value.0 c.len.ensures.legal) c.requires.begun in
     ap (open_on 0) a.value.0 ∙ (s.holder ∙ ap (λ (i : ℕ). Some i) (sym c.number-number.ensures))
 
-pub own_in-requires-clause-admitted : goal.own_in-requires-clause-admitted
-own_in-requires-clause-admitted g c = let a = c.take-turn.ensures in
-    let s = stands c.args.pass.now c.take-turn.new.pass (record { same = a.same; seen = a.seen; kept = a.mine }) (subst IsLegal a.value.0 c.len.ensures.legal) c.requires.begun in
-    ap (λ (l : List Edit). refusal_of l c.args.edit) (ap edits a.value.0 ∙ s.edits) ∙ c.requires.admitted
-
-pub own_in-requires-clause-fits : goal.own_in-requires-clause-fits
-own_in-requires-clause-fits g c = let a = c.take-turn.ensures in
-    let s = stands c.args.pass.now c.take-turn.new.pass (record { same = a.same; seen = a.seen; kept = a.mine }) (subst IsLegal a.value.0 c.len.ensures.legal) c.requires.begun in
-    fits_same c.args.pass.now.seen c.take-turn.result.value.past.history c.args.edit c.args.load (ap starts a.value.0 ∙ s.starts) c.requires.fits
+pub own_in-requires-clause-takes : goal.own_in-requires-clause-takes
+own_in-requires-clause-takes g c = let a = c.take-turn.ensures in
+    let s = stands c.args.pass.now c.take-turn.new.pass (record { same = a.same; seen = a.seen; kept = a.mine }) (subst IsLegal a.value.0 c.len.ensures.legal) c.requires.begun in (
+      c.requires.takes.0,
+      ap (λ (l : List Edit). refusal_of l c.args.new.edit) (ap edits a.value.0 ∙ s.edits) ∙ c.requires.takes.1,
+      fits_same c.args.pass.now.seen c.take-turn.result.value.past.history c.args.new.edit c.args.new.load (ap starts a.value.0 ∙ s.starts) c.requires.takes.2,
+    )
 
 pub returns-clause-ended : goal.returns-clause-ended
 returns-clause-ended g c = let a = c.take-turn.ensures in let b = c.give.ensures in
-    stops c.args.pass.now c.take-turn.new.pass _ _ c.args.load (OwnEdit c.args.edit) (record { same = a.same; seen = a.seen; kept = a.mine }) (record { same = b.same; idle = b.idle; seen = b.seen; kept = b.mine }) (subst IsLegal a.value.0 c.len.ensures.legal) c.requires.begun _ c.number-number.ensures
-    (c.own_in.ensures.added ∙ ap (λ (l : List Entry). l ++ loading c.number-number.result c.args.load (OwnEdit c.args.edit)) a.value.0)
+    stops c.args.pass.now c.take-turn.new.pass _ _ c.args.new.load (OwnEdit c.args.new.edit) (record { same = a.same; seen = a.seen; kept = a.mine }) (record { same = b.same; idle = b.idle; seen = b.seen; kept = b.mine }) (subst IsLegal a.value.0 c.len.ensures.legal) c.requires.begun _ c.number-number.ensures
+    (c.own_in.ensures.added ∙ ap (λ (l : List Entry). l ++ loading c.number-number.result c.args.new.load (OwnEdit c.args.new.edit)) a.value.0)
 
 pub give-requires-clause-grown : goal.give-requires-clause-grown
 give-requires-clause-grown g c = let a = c.take-turn.ensures in
-    owns c.args.pass.now c.take-turn.new.pass _ (OwnEdit c.args.edit) c.args.load _ _ c.own_in.ensures.added a.value.0 a.same.1 c.number-number.ensures
+    owns c.args.pass.now c.take-turn.new.pass _ (OwnEdit c.args.new.edit) c.args.new.load _ _ c.own_in.ensures.added a.value.0 a.same.1 c.number-number.ensures
 
 pub returns-clause-same : goal.returns-clause-same
 returns-clause-same g c = let a = c.take-turn.ensures in let b = c.give.ensures in
-    owns_idle c.args.pass.now c.take-turn.new.pass c.give.new.pass _ (OwnEdit c.args.edit) c.args.load _ _ c.own_in.ensures.added a.value.0 (record { same = a.same; seen = a.seen; kept = a.mine }) (record { same = b.same; idle = b.idle; seen = b.seen; kept = b.mine })
+    owns_idle c.args.pass.now c.take-turn.new.pass c.give.new.pass _ (OwnEdit c.args.new.edit) c.args.new.load _ _ c.own_in.ensures.added a.value.0 (record { same = a.same; seen = a.seen; kept = a.mine }) (record { same = b.same; idle = b.idle; seen = b.seen; kept = b.mine })

@@ -12,8 +12,8 @@ use Rattle.share_hub.proofs.hub.Caller.refresh_rounds.Given as goal
 abbrev pub invariant-loop-found : goal.invariant-loop-found
 invariant-loop-found g l = record {
   same : IsIdle l.fn.pass l.pass;
-  found : (found : List (List Action)) × (length found ≡ l.found) × GoesOn l.fn.pass l.pass l.log found × There (table_on l.log l.fn.pass.seen) (λ t. AreFound l.location (g.W.Store.objects l.store) t.commits found);
-  begun : HoldsHead l.pass l.log l.head;
+  found : (found : List (List Action)) × (length found ≡ l.found) × GoesOn l.fn.pass l.pass l.stored.log found × There (table_on l.stored.log l.fn.pass.seen) (λ t. AreFound l.stored.location.now (g.W.Store.objects l.store) t.commits found);
+  begun : HoldsHead l.pass l.stored.log l.head;
   looked : Looked (g.W.Store.objects l.fn.store) (g.W.Store.objects l.store) (g.W.Store.alone l.fn.store) (g.W.Store.alone l.store);
   later : g.W.Store.faults l.fn.store ≤ g.W.Store.faults l.store;
 }

@@ -3,7 +3,7 @@ use Rattle.std.specs.Prelude.{IfSome}
 use Rattle.share_book.specs.Bases.{FilesStand}
 use Rattle.share_book.specs.declared.entry.Entry.{Entry}
 use Rattle.share_hub.proofs.Keeping.{found_later}
-use Rattle.share_hub.proofs.hub.Caller.keep_and_pin.Goals as goal
+use Rattle.share_hub.proofs.hub.Caller.keep_found.Goals as goal
 
 pub keep-requires : goal.keep-requires
 keep-requires g c =
