@@ -18,7 +18,7 @@ use Rattle.share_lines.specs.declared.kinds.Line.{Line}
 use Rattle.share_reply.specs.declared.plan.Plan.{Plan}
 use Rattle.share_reply.specs.declared.plan.Plan.TheVariants as plan
 use Rattle.share_serve.specs.Responses.{body_sent, bytes_response, file_response, lines_response, out_response, picked_response, response_head, response_text}
-use Rattle.share_serve.specs.Sends.{AllSent, BodySent, CopySent, FileSent, HasSize, IsInPart, IsSent, IsWritten, PartSent, WholeSent, Writes, delivered_of}
+use Rattle.share_serve.specs.Sends.{BodySent, CopySent, FileSent, HasSize, IsInPart, IsSent, IsWritten, PartSent, WholeSent, Writes, delivered_of}
 use Rattle.share_serve.specs.Turns.{IsObject, ReplyIs, Shelf}
 use Rattle.share_serve.specs.declared.response.Delivery.{Delivery}
 use Rattle.share_serve.specs.declared.response.Response.{Response}
@@ -113,18 +113,10 @@ module _ (name : List ℕ) (range : Range) (within : IsRange range) (d : Deliver
       let w = whole name range.size 0 os [] (omega arith) (read_none name range.size os there) in
       let p = head_in_part d (of_bytes w.0) head _ (long w.0 w.1) is old new part in ((w.0, w.1, w.2, p), (w.0, w.1, w.2, p))
 
--- the range from the first byte to the last has all bytes
 all_bytes : (range : Range) (bytes : List ℕ) → range.first ≡ 0 → range.last + 1 ≡ length bytes → bytes_at range bytes ≡ bytes
 all_bytes range bytes first end =
     let n : range.last + 1 - range.first ≡ length bytes = omega (arith, first, end) in
     ap (λ (k : ℕ). take k (drop range.first bytes)) n ∙ ap (λ (k : ℕ). take (length bytes) (drop k bytes)) first ∙ take-length bytes
-
-pub all_written : (end : Delivered) (d : Delivery) (name : List ℕ) (range : Range) (size : ℕ) (os : Option Objects) (old new : Option (List ℕ))
-    → range.first ≡ 0 → range.last + 1 ≡ size → range.size ≡ size → PartSent end d (status.Ok None) name range os old new → AllSent end d name size os old new
-all_written end d name range size os old new first last of_size p =
-    let long : length p.0 ≡ size = p.1 ∙ of_size in
-    let all : bytes_at range p.0 ≡ p.0 = all_bytes range p.0 first (last ∙ sym long) in
-    (p.0, long, p.2, subst (λ (bytes : List ℕ). IsWritten end d (bytes_response (status.Ok None) bytes) old new) all p.3)
 
 -- what is sent of an object is what is picked of it
 module _ (end : Delivered) (d : Delivery) (name : List ℕ) (span : Option Span) (size : ℕ) (os : Option Objects) (old new : Option (List ℕ)) where
@@ -132,8 +124,18 @@ module _ (end : Delivered) (d : Delivery) (name : List ℕ) (span : Option Span)
   found_as p is bytes long object w =
       (bytes, object, subst (λ (q : Picked). IsWritten end d (picked_response q bytes) old new) (sym (ap (pick span) long ∙ is)) w)
 
-  pub all_found : pick span size ≡ picked.Whole → AllSent end d name size os old new → FileSent end d name span os old new
-  all_found is p = found_as picked.Whole is p.0 p.1 p.2 p.3
+  -- the range from the first byte to the last has all bytes
+  pub all_found : (range : Range) → pick span size ≡ picked.Whole → range.first ≡ 0 → range.last + 1 ≡ size → range.size ≡ size → PartSent end d (status.Ok None) name range os old new → FileSent end d name span os old new
+  all_found range is first last of_size p =
+      let long : length p.0 ≡ size = p.1 ∙ of_size in
+      let all : bytes_at range p.0 ≡ p.0 = all_bytes range p.0 first (last ∙ sym long) in
+      found_as picked.Whole is p.0 long p.2 (subst (λ (bytes : List ℕ). IsWritten end d (bytes_response (status.Ok None) bytes) old new) all p.3)
+
+  -- an empty object has no byte
+  pub empty_found : pick span size ≡ picked.Whole → size ≡ 0 → HasSize size name os → IsWritten end d (file_response []) old new → FileSent end d name span os old new
+  empty_found is zero there w =
+      let b = whole name size 0 os [] (omega arith) (read_none name size os there) in
+      found_as picked.Whole is b.0 b.1 b.2 (subst (λ (bytes : List ℕ). IsWritten end d (file_response bytes) old new) (sym (nothing b.0 (b.1 ∙ zero))) w)
 
   pub part_found : (range : Range) → pick span size ≡ picked.Part range → range.size ≡ size → PartSent end d (status.PartialContent range) name range os old new → FileSent end d name span os old new
   part_found range is of_size p = found_as (picked.Part range) is p.0 (p.1 ∙ of_size) p.2 p.3
@@ -142,12 +144,6 @@ module _ (end : Delivered) (d : Delivery) (name : List ℕ) (span : Option Span)
   out_found is there w =
       let b = whole name size 0 os [] (omega arith) (read_none name size os there) in
       found_as picked.Out is b.0 b.1 b.2 (subst (λ (n : ℕ). IsWritten end d (out_response n) old new) (sym b.1) w)
-
--- an empty object has no byte
-pub empty_written : (end : Delivered) (d : Delivery) (name : List ℕ) (size : ℕ) (os : Option Objects) (old new : Option (List ℕ)) → size ≡ 0 → HasSize size name os → IsWritten end d (file_response []) old new → AllSent end d name size os old new
-empty_written end d name size os old new zero there w =
-    let b = whole name size 0 os [] (omega arith) (read_none name size os there) in
-    (b.0, b.1, b.2, subst (λ (bytes : List ℕ). IsWritten end d (file_response bytes) old new) (sym (nothing b.0 (b.1 ∙ zero))) w)
 
 -- ---- the range of all bytes
 

@@ -9,7 +9,7 @@ use Rattle.edge_core.specs.Objects.{Objects}
 use Rattle.file_ranges.specs.Ranges.{Range, bytes_at}
 use Rattle.file_ranges.specs.declared.span.Span.{Span}
 use Rattle.response_text.specs.declared.status.Status.{Status}
-use Rattle.share_serve.specs.Responses.{body_sent, bytes_response, file_response, object_response, response_head, response_text}
+use Rattle.share_serve.specs.Responses.{body_sent, bytes_response, object_response, response_head, response_text}
 use Rattle.share_serve.specs.Turns.{IsObject}
 use Rattle.share_serve.specs.declared.response.Delivery.{Delivery}
 use Rattle.share_serve.specs.declared.response.Response.{Response}
@@ -116,10 +116,6 @@ CopySent r to_head name range objects w w' = (bytes : List ℕ) × (length bytes
 abbrev pub PartSent : Delivered → Delivery → Status → List ℕ → Range → Option Objects → Option (List ℕ) → Option (List ℕ) → Type 0
 PartSent r d s name range objects w w' =
     (bytes : List ℕ) × (length bytes ≡ range.size) × IsObject name objects bytes × IsWritten r d (bytes_response s (bytes_at range bytes)) w w'
-
--- the same of the response that has all bytes of an object of that size
-abbrev pub AllSent : Delivered → Delivery → List ℕ → ℕ → Option Objects → Option (List ℕ) → Option (List ℕ) → Type 0
-AllSent r d name size objects w w' = (bytes : List ℕ) × (length bytes ≡ size) × IsObject name objects bytes × IsWritten r d (file_response bytes) w w'
 
 -- what was written of the response that an object is, by which of its bytes are asked for
 abbrev pub FileSent : Delivered → Delivery → List ℕ → Option Span → Option Objects → Option (List ℕ) → Option (List ℕ) → Type 0

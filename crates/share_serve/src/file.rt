@@ -5,7 +5,7 @@ ghost use Rattle.edge_core.specs.Objects.{Grows, Objects};
 ghost use Rattle.share_reply.specs.Refusing.{plain};
 ghost use Rattle.share_serve.specs.Responses.{out_response as out_is, refusal_response as refusal_is};
 ghost use Rattle.file_ranges.specs.Ranges.{IsRange};
-ghost use Rattle.share_serve.specs.Sends.{AllSent, CopySent, DeliveryCause, FileSent, HasCopyCause, HasSize, IsCopied, IsWritten, PartSent, Writes};
+ghost use Rattle.share_serve.specs.Sends.{CopySent, DeliveryCause, FileSent, HasCopyCause, HasSize, IsCopied, IsWritten, PartSent, Writes};
 ghost use Rattle.share_serve.specs.Sides.{shelved};
 ghost use Rattle.share_serve.specs.Turns.{ObjectIs};
 
@@ -102,36 +102,6 @@ fn send_copy<W: Store, K: Sink>(
     }
 }
 
-// Writes the response of that status that has a range of an object.
-fn send_range<W: Store, K: Sink>(
-    alloc: Global,
-    store: &mut W,
-    name: &Name,
-    sink: &mut K,
-    delivery: Delivery,
-    piece: &mut [u8],
-    status: Status,
-    range: ByteRange,
-) -> Delivered
-    requires dated { delivery.moment ≤ 253_402_300_799_999 }
-    requires room { 0 < length piece.old }
-    requires there { HasSize range.size name.now (W.objects store.old) }
-    ensures grows { Grows (W.objects store.old) (W.objects store.new) }
-    ensures stays { OnTrue (W.alone store.old) (W.alone store.new ≡ true) }
-    ensures later { (W.faults store.old ≤ W.faults store.new) × (K.faults sink.old ≤ K.faults sink.new) }
-    ensures sent { PartSent result delivery status name.now range (W.objects store.new) (K.holds sink.old) (K.holds sink.new) }
-    ensures cause { DeliveryCause result (W.objects store.old) (W.faults store.old) (W.faults store.new) (K.faults sink.old) (K.faults sink.new) }
-{
-    let Ok(head) = head_of(alloc, delivery, status, ContentType::Bytes, range.len()) else {
-        return Delivered::NoMemory;
-    };
-    match send_text(sink, &head) {
-        Sent::Whole => send_copy(store, name, sink, delivery.to_head, piece, range),
-        Sent::WriteFault => Delivered::WriteFault,
-        Sent::NoMemory => Delivered::NoMemory,
-    }
-}
-
 // Writes the response that tells the size of an object that has none of the bytes that are asked for.
 fn send_out<K: Sink>(alloc: Global, sink: &mut K, delivery: Delivery, size: u64) -> Delivered
     requires dated { delivery.moment ≤ 253_402_300_799_999 }
@@ -142,64 +112,6 @@ fn send_out<K: Sink>(alloc: Global, sink: &mut K, delivery: Delivery, size: u64)
     match out_response(alloc, size) {
         Ok(response) => of_sent(send_response(alloc, sink, delivery, &response)),
         Err(_) => Delivered::NoMemory,
-    }
-}
-
-// Writes the response that has all bytes of an object of that size.
-fn send_all<W: Store, K: Sink>(
-    alloc: Global,
-    store: &mut W,
-    name: &Name,
-    sink: &mut K,
-    delivery: Delivery,
-    piece: &mut [u8],
-    size: u64,
-) -> Delivered
-    requires dated { delivery.moment ≤ 253_402_300_799_999 }
-    requires room { 0 < length piece.old }
-    requires there { HasSize size name.now (W.objects store.old) }
-    ensures grows { Grows (W.objects store.old) (W.objects store.new) }
-    ensures stays { OnTrue (W.alone store.old) (W.alone store.new ≡ true) }
-    ensures later { (W.faults store.old ≤ W.faults store.new) × (K.faults sink.old ≤ K.faults sink.new) }
-    ensures sent { AllSent result delivery name.now size (W.objects store.new) (K.holds sink.old) (K.holds sink.new) }
-    ensures cause { DeliveryCause result (W.objects store.old) (W.faults store.old) (W.faults store.new) (K.faults sink.old) (K.faults sink.new) }
-{
-    match ByteRange::of(0, size.saturating_sub(1), size) {
-        Some(range) => {
-            let whole = Status::Ok(None);
-            send_range(alloc, store, name, sink, delivery, piece, whole, range)
-        }
-        None => of_sent(send_response(alloc, sink, delivery, &empty_response(alloc))),
-    }
-}
-
-// Writes the response to a request for an object of that size, by which of its bytes are asked for.
-fn send_found<W: Store, K: Sink>(
-    alloc: Global,
-    store: &mut W,
-    name: &Name,
-    span: Option<Span>,
-    sink: &mut K,
-    delivery: Delivery,
-    piece: &mut [u8],
-    size: u64,
-) -> Delivered
-    requires dated { delivery.moment ≤ 253_402_300_799_999 }
-    requires room { 0 < length piece.old }
-    requires there { HasSize size name.now (W.objects store.old) }
-    ensures grows { Grows (W.objects store.old) (W.objects store.new) }
-    ensures stays { OnTrue (W.alone store.old) (W.alone store.new ≡ true) }
-    ensures later { (W.faults store.old ≤ W.faults store.new) × (K.faults sink.old ≤ K.faults sink.new) }
-    ensures sent { FileSent result delivery name.now span (W.objects store.new) (K.holds sink.old) (K.holds sink.new) }
-    ensures cause { DeliveryCause result (W.objects store.old) (W.faults store.old) (W.faults store.new) (K.faults sink.old) (K.faults sink.new) }
-{
-    match pick(span, size) {
-        Picked::Whole => send_all(alloc, store, name, sink, delivery, piece, size),
-        Picked::Part(range) => {
-            let part = Status::PartialContent(range);
-            send_range(alloc, store, name, sink, delivery, piece, part, range)
-        }
-        Picked::Out => send_out(alloc, sink, delivery, size),
     }
 }
 
@@ -221,31 +133,107 @@ fn send_refusal<K: Sink>(
     }
 }
 
-/// Writes the response to a request for an object: its bytes or the part of them that is asked for, that it has none of those, that
-/// it isn't there, or that the store failed. Of a part no byte in front of it is read.
-pub(crate) fn send_file<W: Store, K: Sink>(
-    alloc: Global,
-    store: &mut W,
-    name: &Name,
-    span: Option<Span>,
-    sink: &mut K,
-    delivery: Delivery,
-) -> Delivered
-    requires dated { delivery.moment ≤ 253_402_300_799_999 }
-    ensures grows { Grows (W.objects store.old) (W.objects store.new) }
-    ensures stays { OnTrue (W.alone store.old) (W.alone store.new ≡ true) }
-    ensures later { (W.faults store.old ≤ W.faults store.new) × (K.faults sink.old ≤ K.faults sink.new) }
-    ensures sent { Writes result delivery (λ r. ObjectIs name.now span r (shelved W.objects W.alone W.faults store.old) (shelved W.objects W.alone W.faults store.new)) (shelved W.objects W.alone W.faults store.new ≡ shelved W.objects W.alone W.faults store.old) (K.holds sink.old) (K.holds sink.new) }
-    ensures cause { DeliveryCause result (W.objects store.old) (W.faults store.old) (W.faults store.new) (K.faults sink.old) (K.faults sink.new) }
-{
-    let Ok(mut piece) = piece_room(alloc) else {
-        return Delivered::NoMemory;
-    };
-    match store.size(name) {
-        Measured::Size(size) => {
-            send_found(alloc, store, name, span, sink, delivery, &mut piece, size)
+/// What the steps of an object's response share: the memory that they take, the object's name, and how the response is delivered.
+#[derive(Drop)]
+pub(crate) struct Sending<'a> {
+    pub alloc: Global,
+    pub name: &'a Name,
+    pub delivery: Delivery,
+}
+
+impl<'a> Sending<'a> {
+    // Writes the response of that status that has a range of an object.
+    fn send_range<W: Store, K: Sink>(
+        &self,
+        store: &mut W,
+        sink: &mut K,
+        piece: &mut [u8],
+        status: Status,
+        range: ByteRange,
+    ) -> Delivered
+        requires dated { self.now.delivery.moment ≤ 253_402_300_799_999 }
+        requires room { 0 < length piece.old }
+        requires there { HasSize range.size self.now.name.now (W.objects store.old) }
+        ensures grows { Grows (W.objects store.old) (W.objects store.new) }
+        ensures stays { OnTrue (W.alone store.old) (W.alone store.new ≡ true) }
+        ensures later { (W.faults store.old ≤ W.faults store.new) × (K.faults sink.old ≤ K.faults sink.new) }
+        ensures sent { PartSent result self.now.delivery status self.now.name.now range (W.objects store.new) (K.holds sink.old) (K.holds sink.new) }
+        ensures cause { DeliveryCause result (W.objects store.old) (W.faults store.old) (W.faults store.new) (K.faults sink.old) (K.faults sink.new) }
+    {
+        let delivery = self.delivery;
+        let Ok(head) = head_of(
+            self.alloc,
+            delivery,
+            status,
+            ContentType::Bytes,
+            range.len(),
+        ) else {
+            return Delivered::NoMemory;
+        };
+        match send_text(sink, &head) {
+            Sent::Whole => send_copy(store, self.name, sink, delivery.to_head, piece, range),
+            Sent::WriteFault => Delivered::WriteFault,
+            Sent::NoMemory => Delivered::NoMemory,
         }
-        Measured::Absent => send_refusal(alloc, sink, delivery, Refusal::FileGone),
-        Measured::Failed => send_refusal(alloc, sink, delivery, Refusal::StoreFault),
+    }
+
+    // Writes the response to a request for an object of that size, by which of its bytes are asked for.
+    fn send_found<W: Store, K: Sink>(
+        &self,
+        store: &mut W,
+        sink: &mut K,
+        piece: &mut [u8],
+        span: Option<Span>,
+        size: u64,
+    ) -> Delivered
+        requires dated { self.now.delivery.moment ≤ 253_402_300_799_999 }
+        requires room { 0 < length piece.old }
+        requires there { HasSize size self.now.name.now (W.objects store.old) }
+        ensures grows { Grows (W.objects store.old) (W.objects store.new) }
+        ensures stays { OnTrue (W.alone store.old) (W.alone store.new ≡ true) }
+        ensures later { (W.faults store.old ≤ W.faults store.new) × (K.faults sink.old ≤ K.faults sink.new) }
+        ensures sent { FileSent result self.now.delivery self.now.name.now span (W.objects store.new) (K.holds sink.old) (K.holds sink.new) }
+        ensures cause { DeliveryCause result (W.objects store.old) (W.faults store.old) (W.faults store.new) (K.faults sink.old) (K.faults sink.new) }
+    {
+        match pick(span, size) {
+            Picked::Whole => match ByteRange::of(0, size.saturating_sub(1), size) {
+                Some(range) => self.send_range(store, sink, piece, Status::Ok(None), range),
+                None => {
+                    let empty = empty_response(self.alloc);
+                    of_sent(send_response(self.alloc, sink, self.delivery, &empty))
+                }
+            },
+            Picked::Part(range) => {
+                self.send_range(store, sink, piece, Status::PartialContent(range), range)
+            }
+            Picked::Out => send_out(self.alloc, sink, self.delivery, size),
+        }
+    }
+
+    /// Writes the response to a request for an object: its bytes or the part of them that is asked for, that it has none of those,
+    /// that it isn't there, or that the store failed. Of a part no byte in front of it is read.
+    pub(crate) fn send_file<W: Store, K: Sink>(
+        &self,
+        store: &mut W,
+        sink: &mut K,
+        span: Option<Span>,
+    ) -> Delivered
+        requires dated { self.now.delivery.moment ≤ 253_402_300_799_999 }
+        ensures grows { Grows (W.objects store.old) (W.objects store.new) }
+        ensures stays { OnTrue (W.alone store.old) (W.alone store.new ≡ true) }
+        ensures later { (W.faults store.old ≤ W.faults store.new) × (K.faults sink.old ≤ K.faults sink.new) }
+        ensures sent { Writes result self.now.delivery (λ r. ObjectIs self.now.name.now span r (shelved W.objects W.alone W.faults store.old) (shelved W.objects W.alone W.faults store.new)) (shelved W.objects W.alone W.faults store.new ≡ shelved W.objects W.alone W.faults store.old) (K.holds sink.old) (K.holds sink.new) }
+        ensures cause { DeliveryCause result (W.objects store.old) (W.faults store.old) (W.faults store.new) (K.faults sink.old) (K.faults sink.new) }
+    {
+        let Ok(mut piece) = piece_room(self.alloc) else {
+            return Delivered::NoMemory;
+        };
+        match store.size(self.name) {
+            Measured::Size(size) => self.send_found(store, sink, &mut piece, span, size),
+            Measured::Absent => { send_refusal(self.alloc, sink, self.delivery, Refusal::FileGone) }
+            Measured::Failed => {
+                send_refusal(self.alloc, sink, self.delivery, Refusal::StoreFault)
+            }
+        }
     }
 }

@@ -10,7 +10,7 @@ ghost use Rattle.share_serve.specs.Sends.{DeliveryCause, WholeSent, Writes};
 ghost use Rattle.share_serve.specs.Sides.{shelved};
 ghost use Rattle.share_serve.specs.Turns.{ReplyIs};
 
-use crate::file::send_file;
+use crate::file::Sending;
 use crate::response::{
     Delivery, Response, json_response, only_response, refusal_response, version_response,
 };
@@ -73,7 +73,14 @@ fn send_plan<W: Store, K: Sink>(
         Plan::Lines(version, lines) => {
             of_sent(send_lines(alloc, sink, delivery, version, &lines))
         }
-        Plan::File(name, span) => send_file(alloc, store, &name, span, sink, delivery),
+        Plan::File(name, span) => {
+            let sending = Sending {
+                alloc,
+                name: &name,
+                delivery,
+            };
+            sending.send_file(store, sink, span)
+        }
     }
 }
 

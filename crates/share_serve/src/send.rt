@@ -90,34 +90,18 @@ pub(crate) fn flush<K: Sink>(sink: &mut K) -> Sent
     }
 }
 
-// Writes a body that is held whole, where there is to be one.
+// Writes a body that is held whole, where there is to be one, and hands on what the sink keeps back.
 fn send_body<K: Sink>(sink: &mut K, to_head: bool, body: &[u8]) -> Sent
     ensures later { K.faults sink.old ≤ K.faults sink.new }
     ensures cause { RoseWhereUnsent result (K.faults sink.old) (K.faults sink.new) }
     ensures sent { IsSent result (body_sent to_head body.now) (K.holds sink.old) (K.holds sink.new) }
 {
     if to_head {
-        return Sent::Whole;
+        return flush(sink);
     }
-    send_text(sink, body)
-}
-
-// Writes a response that is held whole, up to the flush.
-fn send_parts<K: Sink>(alloc: Global, sink: &mut K, delivery: Delivery, response: &Response) -> Sent
-    requires { delivery.moment ≤ 253_402_300_799_999 }
-    ensures later { K.faults sink.old ≤ K.faults sink.new }
-    ensures cause { RoseWhereUnsent result (K.faults sink.old) (K.faults sink.new) }
-    ensures sent { IsSent result (response_text delivery response.now) (K.holds sink.old) (K.holds sink.new) }
-{
-    let body = response.body.as_str().as_bytes();
-    let length = body.len() as u64;
-    let Ok(head) = head_of(alloc, delivery, response.status, response.form, length) else {
-        return Sent::NoMemory;
-    };
-    match send_text(sink, &head) {
-        Sent::Whole => send_body(sink, delivery.to_head, body),
-        Sent::WriteFault => Sent::WriteFault,
-        Sent::NoMemory => Sent::NoMemory,
+    match send_text(sink, body) {
+        Sent::Whole => flush(sink),
+        other => other,
     }
 }
 
@@ -133,9 +117,15 @@ pub(crate) fn send_response<K: Sink>(
     ensures cause { RoseWhereUnsent result (K.faults sink.old) (K.faults sink.new) }
     ensures sent { IsSent result (response_text delivery response.now) (K.holds sink.old) (K.holds sink.new) }
 {
-    match send_parts(alloc, sink, delivery, response) {
-        Sent::Whole => flush(sink),
-        other => other,
+    let body = response.body.as_str().as_bytes();
+    let length = body.len() as u64;
+    let Ok(head) = head_of(alloc, delivery, response.status, response.form, length) else {
+        return Sent::NoMemory;
+    };
+    match send_text(sink, &head) {
+        Sent::Whole => send_body(sink, delivery.to_head, body),
+        Sent::WriteFault => Sent::WriteFault,
+        Sent::NoMemory => Sent::NoMemory,
     }
 }
 
@@ -177,7 +167,7 @@ fn send_each<K: Sink>(alloc: Global, sink: &mut K, lines: &LinePlan<'_>) -> Sent
     Sent::Whole
 }
 
-// Writes lines, where there are to be any.
+// Writes lines, where there are to be any, and hands on what the sink keeps back.
 fn send_body_lines<K: Sink>(
     alloc: Global,
     sink: &mut K,
@@ -189,13 +179,16 @@ fn send_body_lines<K: Sink>(
     ensures sent { IsSent result (body_sent to_head (body_text lines.now)) (K.holds sink.old) (K.holds sink.new) }
 {
     if to_head {
-        return Sent::Whole;
+        return flush(sink);
     }
-    send_each(alloc, sink, lines)
+    match send_each(alloc, sink, lines) {
+        Sent::Whole => flush(sink),
+        other => other,
+    }
 }
 
-// Writes the response that has the lines of a version, up to the flush.
-fn send_line_parts<K: Sink>(
+/// Writes the response that has the lines of a version of a table: their length is known first, and then one line is held at a time.
+pub(crate) fn send_lines<K: Sink>(
     alloc: Global,
     sink: &mut K,
     delivery: Delivery,
@@ -218,24 +211,5 @@ fn send_line_parts<K: Sink>(
         Sent::Whole => send_body_lines(alloc, sink, delivery.to_head, lines),
         Sent::WriteFault => Sent::WriteFault,
         Sent::NoMemory => Sent::NoMemory,
-    }
-}
-
-/// Writes the response that has the lines of a version of a table: their length is known first, and then one line is held at a time.
-pub(crate) fn send_lines<K: Sink>(
-    alloc: Global,
-    sink: &mut K,
-    delivery: Delivery,
-    version: u64,
-    lines: &LinePlan<'_>,
-) -> Sent
-    requires { delivery.moment ≤ 253_402_300_799_999 }
-    ensures later { K.faults sink.old ≤ K.faults sink.new }
-    ensures cause { RoseWhereUnsent result (K.faults sink.old) (K.faults sink.new) }
-    ensures sent { IsSent result (response_text delivery (lines_response version (body_text lines.now))) (K.holds sink.old) (K.holds sink.new) }
-{
-    match send_line_parts(alloc, sink, delivery, version, lines) {
-        Sent::Whole => flush(sink),
-        other => other,
     }
 }

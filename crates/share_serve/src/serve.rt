@@ -148,42 +148,6 @@ impl<'a, R: Wait, G: Gate> Session<'a, R, G> {
         }
     }
 
-    // Answers a request of a recipient, a link, or what no route has.
-    fn serve_view<W: Store, K: Sink, L>(
-        &self,
-        pass: &mut HubPass,
-        store: &mut W,
-        sink: &mut K,
-        steps: &mut Steps<L>,
-        served: u64,
-        delivery: Delivery,
-        request: &Request,
-    ) -> Delivered
-        requires cell { (pass.old.cell ≡ self.now.hub.now) × (pass.old.holds ≡ false) }
-        requires dated { delivery.moment ≤ 253_402_300_799_999 }
-        ensures grew { Grew (held W.objects W.alone W.faults pass.old store.old) (held W.objects W.alone W.faults pass.new store.new) }
-        ensures later { K.faults sink.old ≤ K.faults sink.new }
-        ensures given { IsGiven result self.now.server.now request.now by.view delivery (held W.objects W.alone W.faults pass.old store.old) (held W.objects W.alone W.faults pass.new store.new) (K.holds sink.old) (K.holds sink.new) }
-        ensures cause { DeliveryCause result (W.objects store.old) (W.faults store.old) (W.faults store.new) (K.faults sink.old) (K.faults sink.new) }
-    {
-        let caller = pass.number();
-        let Ok(seen) = self.look(pass, steps, request) else {
-            return Delivered::NoMemory;
-        };
-        self.gate.pass(self.rt, caller, served);
-        let delivered = reply(
-            self.alloc,
-            &self.server.keys,
-            request,
-            &seen,
-            store,
-            sink,
-            delivery,
-        );
-        self.gate.done(self.rt, caller, served);
-        delivered
-    }
-
     // Answers a request of a provider or of the administrator.
     fn serve_call<W: Store, K: Sink>(
         &self,
@@ -209,7 +173,7 @@ impl<'a, R: Wait, G: Gate> Session<'a, R, G> {
         delivered
     }
 
-    // Answers a request that is known.
+    // Answers a request that is known: from the view of whom it asks for, or by a call.
     fn serve_known<W: Store, K: Sink, L>(
         &self,
         pass: &mut HubPass,
@@ -228,7 +192,24 @@ impl<'a, R: Wait, G: Gate> Session<'a, R, G> {
         ensures cause { DeliveryCause result (W.objects store.old) (W.faults store.old) (W.faults store.new) (K.faults sink.old) (K.faults sink.new) }
     {
         match by_request(self.server, request) {
-            By::View => self.serve_view(pass, store, sink, steps, served, delivery, request),
+            By::View => {
+                let caller = pass.number();
+                let Ok(seen) = self.look(pass, steps, request) else {
+                    return Delivered::NoMemory;
+                };
+                self.gate.pass(self.rt, caller, served);
+                let delivered = reply(
+                    self.alloc,
+                    &self.server.keys,
+                    request,
+                    &seen,
+                    store,
+                    sink,
+                    delivery,
+                );
+                self.gate.done(self.rt, caller, served);
+                delivered
+            }
             By::Call(call) => { self.serve_call(pass, store, sink, served, delivery, call) }
         }
     }

@@ -2,7 +2,7 @@ use Rattle.std.proofs.Common.{◌∙◌}
 use Rattle.share_lines.specs.Printing.{body_text}
 use Rattle.share_serve.specs.Responses.{lines_response}
 use Rattle.share_serve.proofs.Sent.{head_in_part, response_sent}
-use Rattle.share_serve.proofs.send.send_line_parts.Goals as goal
+use Rattle.share_serve.proofs.send.send_lines.Goals as goal
 
 pub returns-in-Whole-clause-sent : goal.returns-in-Whole-clause-sent
 returns-in-Whole-clause-sent g c =

@@ -2,7 +2,7 @@ use Rattle.std.proofs.Common.{◌≡◌, ◌∙◌, ap, length, subst, List, ℕ
 use Rattle.share_serve.specs.Responses.{body_sent}
 use Rattle.share_serve.specs.Sends.{IsSent}
 use Rattle.share_serve.proofs.Sent.{head_in_part, response_sent}
-use Rattle.share_serve.proofs.send.send_parts.Goals as goal
+use Rattle.share_serve.proofs.send.send_response.Goals as goal
 
 pub returns-in-Whole-clause-sent : goal.returns-in-Whole-clause-sent
 returns-in-Whole-clause-sent g c =
