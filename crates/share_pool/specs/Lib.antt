@@ -1,6 +1,5 @@
 pub mod Posts
 pub mod Refreshing
 pub mod Visits
-pub mod Nexts
 pub mod Desks
 pub mod Laws

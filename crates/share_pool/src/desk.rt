@@ -4,13 +4,13 @@ ghost use Rattle.share_hub.specs.Calls.{IsIdle};
 ghost use Rattle.share_serve.specs.Sides.{held};
 ghost use Rattle.share_pool.specs.Desks.{DeskWorks, HasPass};
 ghost use Rattle.share_pool.specs.Posts.{post};
-ghost use Rattle.share_pool.specs.Visits.{Works};
+ghost use Rattle.share_pool.specs.Visits.{Works, lacks};
 ghost use Rattle.share_pool.specs.declared.desk.ServeEnd.TheVariants.{NoMemory};
 
-use crate::line::{Next, serve_line};
-use edge_core::{Clock, Gate, Listener, Store};
+use crate::refresh::refresh_all;
+use edge_core::{Clock, Gate, Listener, Store, Taken};
 use share_hub::{Hub, HubPass};
-use share_serve::Server;
+use share_serve::{Server, SessionEnd, serve_conn};
 use std::alloc::Global;
 use std::sync::Wait;
 use step_count::Steps;
@@ -52,7 +52,14 @@ fn closing(lacking: bool, end: ServeEnd) -> ServeEnd
     if lacking { ServeEnd::NoMemory } else { end }
 }
 
-// Serves the lines of a door.
+// Whether memory was wanting in a session.
+fn is_lack(end: SessionEnd) -> bool
+    ensures { result ≡ lacks end }
+{
+    matches!(end, SessionEnd::NoMemory { .. })
+}
+
+// Serves the lines of a door, one after another.
 fn serve_lines<R: Wait, N: Listener, W: Store, C: Clock, G: Gate, L>(
     rt: &R,
     alloc: Global,
@@ -73,15 +80,28 @@ fn serve_lines<R: Wait, N: Listener, W: Store, C: Clock, G: Gate, L>(
     let mut served: u64 = 0;
     let mut lacking = false;
     for _ in rt.forever() {
-        match serve_line(
-            rt, alloc, hub, server, pass, door, store, clock, steps, gate,
-        ) {
-            Next::Line(lacks) => {
+        match door.accept() {
+            Taken::Line(mut input, mut output) => {
+                refresh_all(rt, alloc, hub, pass, store);
+                let end = serve_conn(
+                    rt,
+                    alloc,
+                    hub,
+                    server,
+                    pass,
+                    store,
+                    clock,
+                    gate,
+                    &mut input,
+                    &mut output,
+                    steps,
+                );
+                door.close(input, output);
                 served = served.saturating_add(1);
-                lacking |= lacks;
+                lacking |= is_lack(end);
             }
-            Next::End => return closing(lacking, ServeEnd::Closed { served }),
-            Next::Failed => return closing(lacking, ServeEnd::ListenerFault),
+            Taken::End => return closing(lacking, ServeEnd::Closed { served }),
+            Taken::Failed => return closing(lacking, ServeEnd::ListenerFault),
         }
     }
     unreachable!()

@@ -3,7 +3,6 @@
 
 mod desk;
 mod law;
-mod line;
 mod pool;
 mod refresh;
 
