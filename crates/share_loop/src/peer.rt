@@ -15,17 +15,23 @@ use step_count::Steps;
 // The work of a replay.
 struct Replay;
 
+// A hub, and a place there.
+#[derive(Drop)]
+struct Place {
+    hub: Hub,
+    pass: HubPass,
+    ghost idle: { (pass.cell ≡ hub) × (pass.holds ≡ false) },
+}
+
 /// A server in this process: what it answers by, its hub and a place there, a store, a clock and a gate. It serves one line at a time.
 #[derive(Drop)]
 pub struct Peer<W, C, G> {
-    hub: Hub,
-    pass: HubPass,
     server: Server,
+    place: Place,
     store: W,
     clock: C,
     gate: G,
     steps: Steps<Replay>,
-    ghost idle: { (pass.cell ≡ hub) × (pass.holds ≡ false) },
 }
 
 impl<W, C, G> Peer<W, C, G> {
@@ -41,9 +47,8 @@ impl<W, C, G> Peer<W, C, G> {
         requires { (pass.cell ≡ hub) × (pass.holds ≡ false) }
     {
         Peer {
-            hub,
-            pass,
             server,
+            place: Place { hub, pass },
             store,
             clock,
             gate,
@@ -61,16 +66,17 @@ impl<W: Store, C: Clock, G: Gate> Peer<W, C, G> {
         alloc: Global,
         bytes: Vec<u8>,
     ) -> Result<Vec<u8>, AllocError>
-        ensures { IfOk result (λ answer. (end : Ended) × IsSession self.old.server (Some bytes.items) (side (C.coming self.old.clock) (held W.objects W.alone W.faults self.old.pass self.old.store) (Some [])) (side (C.coming self.new.clock) (held W.objects W.alone W.faults self.new.pass self.new.store) (Some answer.items)) end) }
+        ensures { IfOk result (λ answer. (end : Ended) × IsSession self.old.server (Some bytes.items) (side (C.coming self.old.clock) (held W.objects W.alone W.faults self.old.place.pass self.old.store) (Some [])) (side (C.coming self.new.clock) (held W.objects W.alone W.faults self.new.place.pass self.new.store) (Some answer.items)) end) }
     {
+        let place = &mut self.place;
         let mut source = MemSource::new(alloc, bytes);
         let mut sink = Growing::new(alloc);
         let end = serve_conn(
             rt,
             alloc,
-            &self.hub,
+            &place.hub,
             &self.server,
-            &mut self.pass,
+            &mut place.pass,
             &mut self.store,
             &mut self.clock,
             &self.gate,
