@@ -1,12 +1,12 @@
 -- From a profile and words to a call that was made.
 use Rattle.std.proofs.Common.{◌≡◌, ℕ, ◌<◌, ◌≤◌, List, length, Option, Some, None, refl, sym, ap, ◌∙◌, subst, arith, Result, Ok, Err, Bool, true, false, true≢false, inl, inr}
-use Rattle.std.specs.Prelude.{IfOk, IfSome, nat_le, ⊤, if◌then◌else◌}
+use Rattle.std.specs.Prelude.{IfSome, nat_le, ⊤, if◌then◌else◌}
 use Rattle.std.specs.Bool.{OnTrue}
 use Rattle.std.proofs.lemmas.Bool.{le-leb}
 use Rattle.std.proofs.lemmas.Bool.Decides.{nat_tests}
 use Rattle.edge_core.specs.Faults.{Cause, Rose}
 use Rattle.edge_core.specs.Lines.{ClosedLine, PeerLine}
-use Rattle.edge_core.specs.Objects.{Objects, Grows, Between}
+use Rattle.edge_core.specs.Objects.{Objects, Grows}
 use Rattle.edge_core.proofs.Growth.{Grows-itself}
 use Rattle.log_store.specs.Loads.{Looked}
 use Rattle.share_client.specs.declared.fault.ClientFault.{ClientFault}
@@ -31,7 +31,6 @@ use Rattle.query_command.specs.declared.ends.End.TheVariants as ends
 use Rattle.share_commands.specs.declared.words.Command.{Command}
 use Rattle.share_commands.specs.declared.words.Command.TheVariants as command
 use Rattle.share_commands.specs.declared.words.CallWords.{CallWords}
-use Rattle.share_commands.specs.declared.words.CallWords.TheVariants as worded
 
 -- ---- the profile
 

@@ -1,5 +1,5 @@
 -- What the steps of `client` do, one after another.
-use Rattle.std.specs.Prelude.{◌≡◌, ℕ, ◌≤◌, List, Option, Some, None, IfSome, Result, Ok, Err, ⊤}
+use Rattle.std.specs.Prelude.{◌≡◌, ℕ, List, Option, Some, None, IfSome, Result, Ok, Err, ⊤}
 use Rattle.std.specs.Bool.{OnTrue}
 use Rattle.edge_core.specs.Faults.{Rose}
 use Rattle.edge_core.specs.Objects.{Grows, Objects}
@@ -9,7 +9,6 @@ use Rattle.log_store.specs.declared.refusal.LoadRefusal.TheVariants as refusal
 use Rattle.share_config.specs.declared.profile.Profile.{Profile}
 use Rattle.client_calls.specs.Bodies.{body_in}
 use Rattle.client_calls.specs.declared.call.Call.{Call}
-use Rattle.share_client.specs.declared.fault.ClientFault.{ClientFault}
 use Rattle.share_commands.specs.Clients.{HasNoCall, HasProfile, IsRead, NamesCall, input_body}
 use Rattle.query_command.specs.Outside.{Outside}
 use Rattle.query_command.specs.Query.{IsReadToEnd}

@@ -1,5 +1,5 @@
 -- What `client` does: the profile of a recipient is read from the store, and its server is asked for what the words name, over a way to others.
-use Rattle.std.specs.Prelude.{◌≡◌, ◌⊎◌, ◌≤◌, ℕ, List, Option, Some, None, IfSome, Result, Ok, Err, ⊤, length, nat_le, option_map, if◌then◌else◌}
+use Rattle.std.specs.Prelude.{◌≡◌, ◌⊎◌, ℕ, List, Option, Some, None, IfSome, Result, Ok, Err, ⊤, length, nat_le, option_map, if◌then◌else◌}
 use Rattle.edge_core.specs.Faults.{Rose}
 use Rattle.edge_core.specs.Lines.{ClosedLine, PeerLine}
 use Rattle.edge_core.specs.Objects.{Between, Objects}

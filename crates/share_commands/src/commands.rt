@@ -79,36 +79,6 @@ fn answer<
     }
 }
 
-// Does what the words ask, up to the notes.
-fn perform<
-    R: Threads + Wait + Sync,
-    S: Source,
-    K: Sink,
-    M: Sink,
-    W: Store + Send,
-    C: Clock + Send,
-    N: Listener + Send,
-    G: Gate + Sync,
-    L: Send,
-    V: Link,
->(
-    rt: &R,
-    alloc: Global,
-    words: &[String],
-    edge: &mut Edge<S, K, M, W, C, G, L>,
-    desks: &mut [Desk<N, W, C, L>],
-    way: &mut V,
-) -> End
-    ensures runs { Runs (command_in words.now) edge.old edge.new result }
-    ensures desks { UsesDesks N.coming N.closed N.faults N.listens C.coming W.objects W.alone W.faults (command_in words.now) edge.old edge.new result desks.old desks.new }
-    ensures way { UsesWay V.coming V.closed V.faults V.read_faults V.write_faults (command_in words.now) edge.old edge.new result way.old way.new }
-{
-    match command_of(alloc, words) {
-        Ok(command) => answer(rt, alloc, command, edge, desks, way),
-        Err(_) => End::NoMemory,
-    }
-}
-
 /// Does what the words ask, and answers the program's status.
 ///
 /// The answer comes by one of the ends of [`End`], each with its status, its line on the notes and its cause.
@@ -162,7 +132,15 @@ pub fn run<
     ensures exact { IsExact words.now edge.old edge.new result }
     ensures alone { IsExactAlone words.now edge.old edge.new result }
 {
-    let end = perform(rt, alloc, words, edge, desks, way);
-    tell(edge, &end);
-    end.status()
+    match command_of(alloc, words) {
+        Ok(command) => {
+            let end = answer(rt, alloc, command, edge, desks, way);
+            tell(edge, &end);
+            end.status()
+        }
+        Err(_) => {
+            tell(edge, &End::NoMemory);
+            End::NoMemory.status()
+        }
+    }
 }
