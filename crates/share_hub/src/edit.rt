@@ -130,19 +130,19 @@ impl<'a, R: Wait> Caller<'a, R> {
         &self,
         pass: &mut HubPass,
         store: &mut W,
-        record: &NextRecord<'_>,
+        next: &NextRecord<'_>,
         load: &mut Option<ReadyLog>,
     ) -> Tried
         requires cell { (pass.old.cell ≡ self.now.cell.now) × (pass.old.holds ≡ false) }
-        requires begun { HasBegun pass.old record.now.number }
-        requires admitted { refusal_of (edits pass.old.seen) record.now.edit.now ≡ None }
-        requires fits { LoadFits pass.old.seen record.now.edit.now load.old }
+        requires begun { HasBegun pass.old next.now.number }
+        requires admitted { refusal_of (edits pass.old.seen) next.now.edit.now ≡ None }
+        requires fits { LoadFits pass.old.seen next.now.edit.now load.old }
         ensures same { IsIdle pass.old pass.new }
-        ensures tried { Tries result record.now.edit.now load.old pass.old pass.new }
-        ensures store { TriedStore result record.now.edit.now record.now.number (W.objects store.old) (W.objects store.new) (W.alone store.old) (W.alone store.new) pass.new }
+        ensures tried { Tries result next.now.edit.now load.old pass.old pass.new }
+        ensures store { TriedStore result next.now.edit.now next.now.number (W.objects store.old) (W.objects store.new) (W.alone store.old) (W.alone store.new) pass.new }
         ensures cause { Cause (W.faults store.old) (W.faults store.new) (failed_tried result) }
     {
-        let Ok(own) = prepare(self.alloc, record.edit, record.number) else {
+        let Ok(own) = prepare(self.alloc, next.edit, next.number) else {
             self.abort(pass);
             return Tried::NoMemory;
         };
@@ -165,18 +165,18 @@ impl<'a, R: Wait> Caller<'a, R> {
     }
 
     // The record that the store has, since a put answered that it has one.
-    fn again<W: Store>(&self, pass: &mut HubPass, store: &mut W, record: &NextRecord<'_>) -> Round
+    fn again<W: Store>(&self, pass: &mut HubPass, store: &mut W, next: &NextRecord<'_>) -> Round
         requires cell { (pass.old.cell ≡ self.now.cell.now) × (pass.old.holds ≡ false) }
-        requires begun { HasBegun pass.old record.now.number }
-        requires exists { IfSome (W.objects store.old) (λ os. IsSome (finmap.get os (record_name_of record.now.number))) }
+        requires begun { HasBegun pass.old next.now.number }
+        requires exists { IfSome (W.objects store.old) (λ os. IsSome (finmap.get os (record_name_of next.now.number))) }
         ensures same { IsIdle pass.old pass.new }
-        ensures round { Rounds result record.now.edit.now record.now.number (W.objects store.old) (W.objects store.new) pass.old pass.new }
-        ensures store { RoundStore result record.now.edit.now record.now.number (W.objects store.old) (W.objects store.new) (W.alone store.old) (W.alone store.new) pass.new }
+        ensures round { Rounds result next.now.edit.now next.now.number (W.objects store.old) (W.objects store.new) pass.old pass.new }
+        ensures store { RoundStore result next.now.edit.now next.now.number (W.objects store.old) (W.objects store.new) (W.alone store.old) (W.alone store.new) pass.new }
         ensures cause { Cause (W.faults store.old) (W.faults store.new) (failed_round result) }
     {
-        match self.next_record(pass, store, record.number) {
+        match self.next_record(pass, store, next.number) {
             Next::Absent => {
-                let number = record.number;
+                let number = next.number;
                 self.end_edit(pass, EditEnd::CatalogBlocked { number })
             }
             Next::Found(count) => Round::Found(count),
@@ -189,60 +189,55 @@ impl<'a, R: Wait> Caller<'a, R> {
         &self,
         pass: &mut HubPass,
         store: &mut W,
-        record: &NextRecord<'_>,
+        next: &NextRecord<'_>,
         load: &mut Option<ReadyLog>,
     ) -> Round
         requires cell { (pass.old.cell ≡ self.now.cell.now) × (pass.old.holds ≡ false) }
-        requires begun { HasBegun pass.old record.now.number }
-        requires admitted { refusal_of (edits pass.old.seen) record.now.edit.now ≡ None }
-        requires fits { LoadFits pass.old.seen record.now.edit.now load.old }
+        requires begun { HasBegun pass.old next.now.number }
+        requires admitted { refusal_of (edits pass.old.seen) next.now.edit.now ≡ None }
+        requires fits { LoadFits pass.old.seen next.now.edit.now load.old }
         ensures same { IsIdle pass.old pass.new }
-        ensures round { OwnRounds result record.now.edit.now load.old record.now.number (W.objects store.old) (W.objects store.new) pass.old pass.new }
-        ensures store { RoundStore result record.now.edit.now record.now.number (W.objects store.old) (W.objects store.new) (W.alone store.old) (W.alone store.new) pass.new }
+        ensures round { OwnRounds result next.now.edit.now load.old next.now.number (W.objects store.old) (W.objects store.new) pass.old pass.new }
+        ensures store { RoundStore result next.now.edit.now next.now.number (W.objects store.old) (W.objects store.new) (W.alone store.old) (W.alone store.new) pass.new }
         ensures cause { Cause (W.faults store.old) (W.faults store.new) (failed_round result) }
     {
-        match self.put_own(pass, store, record, load) {
+        match self.put_own(pass, store, next, load) {
             Tried::Done => Round::Done,
-            Tried::Exists => self.again(pass, store, record),
+            Tried::Exists => self.again(pass, store, next),
             Tried::StoreFault => Round::End(EditEnd::StoreFault),
             Tried::NoMemory => Round::End(EditEnd::NoMemory),
         }
     }
 
     // The caller's own record, where no other is there.
-    fn own_round<W: Store>(
-        &self,
-        pass: &mut HubPass,
-        store: &mut W,
-        record: &NextRecord<'_>,
-    ) -> Round
+    fn own_round<W: Store>(&self, pass: &mut HubPass, store: &mut W, next: &NextRecord<'_>) -> Round
         requires cell { (pass.old.cell ≡ self.now.cell.now) × (pass.old.holds ≡ false) }
-        requires begun { HasBegun pass.old record.now.number }
-        requires absent { Lacks (record_name_of record.now.number) (W.objects store.old) }
+        requires begun { HasBegun pass.old next.now.number }
+        requires absent { Lacks (record_name_of next.now.number) (W.objects store.old) }
         ensures same { IsIdle pass.old pass.new }
-        ensures round { Rounds result record.now.edit.now record.now.number (W.objects store.old) (W.objects store.new) pass.old pass.new }
-        ensures store { RoundStore result record.now.edit.now record.now.number (W.objects store.old) (W.objects store.new) (W.alone store.old) (W.alone store.new) pass.new }
+        ensures round { Rounds result next.now.edit.now next.now.number (W.objects store.old) (W.objects store.new) pass.old pass.new }
+        ensures store { RoundStore result next.now.edit.now next.now.number (W.objects store.old) (W.objects store.new) (W.alone store.old) (W.alone store.new) pass.new }
         ensures cause { Cause (W.faults store.old) (W.faults store.new) (failed_round result) }
     {
-        match self.allow(pass, store, record.edit) {
-            Allowed::Fits(mut load) => self.own(pass, store, record, &mut load),
+        match self.allow(pass, store, next.edit) {
+            Allowed::Fits(mut load) => self.own(pass, store, next, &mut load),
             Allowed::Refused(refusal) => self.end_edit(pass, EditEnd::Refused(refusal)),
             Allowed::Failed(refusal) => self.end_edit(pass, failed(refusal)),
         }
     }
 
     // One record more of the store's, or the caller's own.
-    fn round<W: Store>(&self, pass: &mut HubPass, store: &mut W, record: &NextRecord<'_>) -> Round
+    fn round<W: Store>(&self, pass: &mut HubPass, store: &mut W, next: &NextRecord<'_>) -> Round
         requires cell { (pass.old.cell ≡ self.now.cell.now) × (pass.old.holds ≡ false) }
-        requires begun { HasBegun pass.old record.now.number }
+        requires begun { HasBegun pass.old next.now.number }
         ensures same { IsIdle pass.old pass.new }
-        ensures round { Rounds result record.now.edit.now record.now.number (W.objects store.old) (W.objects store.new) pass.old pass.new }
-        ensures store { RoundStore result record.now.edit.now record.now.number (W.objects store.old) (W.objects store.new) (W.alone store.old) (W.alone store.new) pass.new }
+        ensures round { Rounds result next.now.edit.now next.now.number (W.objects store.old) (W.objects store.new) pass.old pass.new }
+        ensures store { RoundStore result next.now.edit.now next.now.number (W.objects store.old) (W.objects store.new) (W.alone store.old) (W.alone store.new) pass.new }
         ensures cause { Cause (W.faults store.old) (W.faults store.new) (failed_round result) }
     {
-        match self.next_record(pass, store, record.number) {
+        match self.next_record(pass, store, next.number) {
             Next::Found(count) => Round::Found(count),
-            Next::Absent => self.own_round(pass, store, record),
+            Next::Absent => self.own_round(pass, store, next),
             Next::End(refusal) => Round::End(end_of(refusal)),
         }
     }

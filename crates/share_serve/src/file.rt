@@ -4,7 +4,6 @@ ghost use Rattle.std.specs.Bool.{OnTrue};
 ghost use Rattle.edge_core.specs.Objects.{Grows, Objects};
 ghost use Rattle.share_reply.specs.Refusing.{plain};
 ghost use Rattle.share_serve.specs.Responses.{out_response as out_is, refusal_response as refusal_is};
-ghost use Rattle.file_ranges.specs.Ranges.{IsRange};
 ghost use Rattle.share_serve.specs.Sends.{CopySent, DeliveryCause, FileSent, HasCopyCause, HasSize, IsCopied, IsWritten, PartSent, Writes};
 ghost use Rattle.share_serve.specs.Sides.{shelved};
 ghost use Rattle.share_serve.specs.Turns.{ObjectIs};

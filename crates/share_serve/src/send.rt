@@ -1,5 +1,5 @@
 // Responses, written.
-ghost use Rattle.std.specs.Prelude.{◌≡◌, ◌≤◌, ◌++◌, ℕ, length, IfOk};
+ghost use Rattle.std.specs.Prelude.{◌≡◌, ◌≤◌, length, IfOk};
 ghost use Rattle.response_text.specs.declared.status.Status.TheVariants as status_is;
 ghost use Rattle.response_text.specs.declared.head.ContentType.TheVariants as content;
 ghost use Rattle.share_lines.specs.Printing.{body_text};

@@ -8,12 +8,12 @@ use Rattle.share_hub.proofs.Storing.{failed_at, stored_at}
 use Rattle.share_hub.proofs.hub.Caller.put_own.Goals as goal
 
 pub returns-in-Stored-clause-store : goal.returns-in-Stored-clause-store
-returns-in-Stored-clause-store g c = stored_at _ _ _ _ c.args.record.now.number _ _ c.in-Ok.own.bytes.items c.args.record.now.edit.now c.in-Ok.ensures.stored.0 c.deref.ensures.value c.in-Ok.ensures.stored.1 c.in-Stored.ensures.object c.in-Stored.ensures.stays
+returns-in-Stored-clause-store g c = stored_at _ _ _ _ c.args.next.now.number _ _ c.in-Ok.own.bytes.items c.args.next.now.edit.now c.in-Ok.ensures.stored.0 c.deref.ensures.value c.in-Ok.ensures.stored.1 c.in-Stored.ensures.object c.in-Stored.ensures.stays
 
 pub returns-in-Failed-clause-store : goal.returns-in-Failed-clause-store
 returns-in-Failed-clause-store g c =
-    failed_at _ _ _ _ c.args.record.now.number _ _ c.in-Ok.own.bytes.items c.args.record.now.edit.now c.abort-in-Failed.new.pass c.in-Ok.ensures.stored.0 c.deref.ensures.value c.in-Ok.ensures.stored.1 c.in-Failed.ensures.object c.in-Failed.ensures.stays
-    (last_is c.args.pass.now c.abort-in-Failed.new.pass None Abort (λ es. c.args.record.now.number ≡ length es) c.abort-in-Failed.ensures.same.number c.abort-in-Failed.ensures.ended c.requires.begun.count)
+    failed_at _ _ _ _ c.args.next.now.number _ _ c.in-Ok.own.bytes.items c.args.next.now.edit.now c.abort-in-Failed.new.pass c.in-Ok.ensures.stored.0 c.deref.ensures.value c.in-Ok.ensures.stored.1 c.in-Failed.ensures.object c.in-Failed.ensures.stays
+    (last_is c.args.pass.now c.abort-in-Failed.new.pass None Abort (λ es. c.args.next.now.number ≡ length es) c.abort-in-Failed.ensures.same.number c.abort-in-Failed.ensures.ended c.requires.begun.count)
 
 pub returns-in-Exists-clause-store : goal.returns-in-Exists-clause-store
 returns-in-Exists-clause-store g c =
