@@ -10,10 +10,10 @@ use std::collections::BTreeMap;
 
 // The paths that actions add, those that they remove, and the applications whose txns they have.
 #[derive(Drop)]
-pub struct Offered<'a> {
-    pub added: BTreeMap<&'a str, ()>,
-    pub removed: BTreeMap<&'a str, ()>,
-    pub apps: BTreeMap<&'a str, ()>,
+pub(crate) struct Offered<'a> {
+    pub(crate) added: BTreeMap<&'a str, ()>,
+    pub(crate) removed: BTreeMap<&'a str, ()>,
+    pub(crate) apps: BTreeMap<&'a str, ()>,
 }
 
 // Puts the text in, if there is one.

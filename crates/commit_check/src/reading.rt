@@ -10,7 +10,7 @@ use std::alloc::{AllocError, Global};
 
 // The files of a state that count as read.
 #[derive(Drop)]
-pub enum Reading<'a> {
+pub(crate) enum Reading<'a> {
     // None of them.
     Nothing,
     // Those that the filter lists.

@@ -26,7 +26,10 @@ fn fault_of(which: Field, fault: FieldFault) -> NoAction
 }
 
 /// A field that has to be there.
-pub fn required<X: Drop>(which: Field, read: Result<Option<X>, FieldFault>) -> Result<X, NoAction>
+pub(crate) fn required<X: Drop>(
+    which: Field,
+    read: Result<Option<X>, FieldFault>,
+) -> Result<X, NoAction>
     ensures { result ≡ answers.required_answer which read }
 {
     match read {
@@ -37,7 +40,7 @@ pub fn required<X: Drop>(which: Field, read: Result<Option<X>, FieldFault>) -> R
 }
 
 /// A field that may be absent.
-pub fn optional<X: Drop>(
+pub(crate) fn optional<X: Drop>(
     which: Field,
     read: Result<Option<X>, FieldFault>,
 ) -> Result<Option<X>, NoAction>
@@ -50,7 +53,7 @@ pub fn optional<X: Drop>(
 }
 
 /// A field with a default.
-pub fn default_to<X: Drop>(
+pub(crate) fn default_to<X: Drop>(
     which: Field,
     default: X,
     read: Result<Option<X>, FieldFault>,
@@ -66,7 +69,7 @@ pub fn default_to<X: Drop>(
 
 /// A text that has to be there.
 #[tactic(auto, using(crate::proofs::FieldReads::Gives_required))]
-pub fn required_text(
+pub(crate) fn required_text(
     alloc: Global,
     object: &Value,
     name: &str,
@@ -79,7 +82,7 @@ pub fn required_text(
 
 /// A text that may be absent.
 #[tactic(auto, using(crate::proofs::FieldReads::Gives_optional))]
-pub fn optional_text(
+pub(crate) fn optional_text(
     alloc: Global,
     object: &Value,
     name: &str,
@@ -91,7 +94,7 @@ pub fn optional_text(
 }
 
 /// Refuses an action's value that isn't an object.
-pub fn object_of(value: &Value) -> Result<(), NoAction>
+pub(crate) fn object_of(value: &Value) -> Result<(), NoAction>
     ensures { Gives result (as_action (view value.now)) }
 {
     if value.is_object() {
@@ -102,7 +105,7 @@ pub fn object_of(value: &Value) -> Result<(), NoAction>
 }
 
 /// A version of the protocol.
-pub fn version_at(object: &Value, name: &str) -> Result<Option<ProtocolVersion>, FieldFault>
+pub(crate) fn version_at(object: &Value, name: &str) -> Result<Option<ProtocolVersion>, FieldFault>
     ensures { result ≡ field (count (2 ^ 31)) name.now (view object.now) }
 {
     match whole_at(object, name)? {
@@ -137,7 +140,7 @@ fn size_of(number: i64) -> Option<FileSize>
 }
 
 /// The moment of a commit, where the field is a whole number in its bounds.
-pub fn time_at(object: &Value, name: &str) -> Option<CommitTime>
+pub(crate) fn time_at(object: &Value, name: &str) -> Option<CommitTime>
     ensures { result ≡ option_and_then (count times_end) (present name.now (view object.now)) }
 {
     let number = member_at(object, name)?.as_i64()?;
@@ -170,7 +173,11 @@ fn format_of(alloc: Global, value: &Value) -> Result<Format, FieldFault>
 }
 
 /// A format of the table's files.
-pub fn format_at(alloc: Global, object: &Value, name: &str) -> Result<Option<Format>, FieldFault>
+pub(crate) fn format_at(
+    alloc: Global,
+    object: &Value,
+    name: &str,
+) -> Result<Option<Format>, FieldFault>
     ensures { Found result (field format_in name.now (view object.now)) }
 {
     match member_at(object, name) {
@@ -180,7 +187,7 @@ pub fn format_at(alloc: Global, object: &Value, name: &str) -> Result<Option<For
 }
 
 /// Whether the object has a member of that name that isn't null.
-pub fn has_member(object: &Value, name: &str) -> bool
+pub(crate) fn has_member(object: &Value, name: &str) -> bool
     ensures { result ≡ is_some (present name.now (view object.now)) }
 {
     member_at(object, name).is_some()

@@ -17,7 +17,7 @@ use serde_json::Value;
 use std::alloc::{AllocError, Global};
 
 #[tactic(auto, using(crate::proofs::FieldReads::Gives_optional), unfolding(crate::specs::Reading::protocol_of))]
-pub fn read_protocol(alloc: Global, value: &Value) -> Result<Protocol, NoAction>
+pub(crate) fn read_protocol(alloc: Global, value: &Value) -> Result<Protocol, NoAction>
     ensures { Gives result (protocol_of (view value.now)) }
 {
     object_of(value)?;
@@ -96,7 +96,7 @@ fn created_at(value: &Value) -> Result<Option<i64>, NoAction>
 }
 
 #[tactic(auto, unfolding(crate::specs::Reading::meta_data_of))]
-pub fn read_meta_data(alloc: Global, value: &Value) -> Result<MetaData, NoAction>
+pub(crate) fn read_meta_data(alloc: Global, value: &Value) -> Result<MetaData, NoAction>
     ensures { Gives result (meta_data_of (view value.now)) }
 {
     object_of(value)?;
@@ -121,7 +121,7 @@ pub fn read_meta_data(alloc: Global, value: &Value) -> Result<MetaData, NoAction
 }
 
 #[tactic(auto, using(crate::proofs::FieldReads::Gives_required, crate::proofs::FieldReads::Gives_optional, crate::proofs::FieldReads::Gives_default_to), unfolding(crate::specs::Reading::add_of))]
-pub fn read_add(alloc: Global, value: &Value) -> Result<AddFile, NoAction>
+pub(crate) fn read_add(alloc: Global, value: &Value) -> Result<AddFile, NoAction>
     ensures { Gives result (add_of (view value.now)) }
 {
     object_of(value)?;
@@ -154,7 +154,7 @@ pub fn read_add(alloc: Global, value: &Value) -> Result<AddFile, NoAction>
 }
 
 #[tactic(auto, using(crate::proofs::FieldReads::Gives_required, crate::proofs::FieldReads::Gives_optional), unfolding(crate::specs::Reading::remove_of))]
-pub fn read_remove(alloc: Global, value: &Value) -> Result<RemoveFile, NoAction>
+pub(crate) fn read_remove(alloc: Global, value: &Value) -> Result<RemoveFile, NoAction>
     ensures { Gives result (remove_of (view value.now)) }
 {
     object_of(value)?;
@@ -181,7 +181,7 @@ pub fn read_remove(alloc: Global, value: &Value) -> Result<RemoveFile, NoAction>
 }
 
 #[tactic(auto, using(crate::proofs::FieldReads::Gives_required, crate::proofs::FieldReads::Gives_default_to), unfolding(crate::specs::Reading::cdc_of))]
-pub fn read_cdc(alloc: Global, value: &Value) -> Result<CdcFile, NoAction>
+pub(crate) fn read_cdc(alloc: Global, value: &Value) -> Result<CdcFile, NoAction>
     ensures { Gives result (cdc_of (view value.now)) }
 {
     object_of(value)?;
@@ -196,7 +196,7 @@ pub fn read_cdc(alloc: Global, value: &Value) -> Result<CdcFile, NoAction>
 }
 
 #[tactic(auto, unfolding(crate::specs::Reading::txn_of))]
-pub fn read_txn(alloc: Global, value: &Value) -> Result<Txn, NoAction>
+pub(crate) fn read_txn(alloc: Global, value: &Value) -> Result<Txn, NoAction>
     ensures { Gives result (txn_of (view value.now)) }
 {
     object_of(value)?;
@@ -210,7 +210,7 @@ pub fn read_txn(alloc: Global, value: &Value) -> Result<Txn, NoAction>
     })
 }
 
-pub fn read_commit_info(value: &Value) -> CommitInfo
+pub(crate) fn read_commit_info(value: &Value) -> CommitInfo
     ensures { result ≡ commit_info_of (view value.now) }
 {
     CommitInfo {

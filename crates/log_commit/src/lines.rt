@@ -15,8 +15,8 @@ use std::alloc::{AllocError, Global};
 // The actions of lines, and the numbers of the lines that have one.
 #[derive(Drop)]
 pub(crate) struct Found {
-    pub numbers: Vec<u64>,
-    pub actions: Vec<Action>,
+    pub(crate) numbers: Vec<u64>,
+    pub(crate) actions: Vec<Action>,
 }
 
 fn is_blank(line: &[u8]) -> bool

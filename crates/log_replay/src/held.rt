@@ -16,18 +16,18 @@ use step_count::Steps;
 // The protocol and the metaData that came last, the file that each path has now, and the last txn
 // of each application. All are borrowed from the log, or from a state and a commit.
 #[derive(Drop)]
-pub struct Held<'a> {
-    pub protocol: Option<&'a Protocol>,
-    pub meta: Option<&'a MetaData>,
-    pub live: BTreeMap<&'a str, &'a AddFile>,
-    pub txns: BTreeMap<&'a str, &'a Txn>,
+pub(crate) struct Held<'a> {
+    pub(crate) protocol: Option<&'a Protocol>,
+    pub(crate) meta: Option<&'a MetaData>,
+    pub(crate) live: BTreeMap<&'a str, &'a AddFile>,
+    pub(crate) txns: BTreeMap<&'a str, &'a Txn>,
 }
 
 impl<'a> Held<'a> {
     ghost use Rattle.log_replay.specs.Applied.{Applies, AreParts, Holds};
     ghost use Rattle.log_replay.specs.Listing.{bare_of};
 
-    pub fn new(alloc: Global) -> Self
+    pub(crate) fn new(alloc: Global) -> Self
         ensures { Holds result [] }
     {
         Held {
@@ -50,7 +50,7 @@ impl<'a> Held<'a> {
     }
 
     // What a state holds beside its files.
-    pub fn beside(alloc: Global, base: &'a Snapshot) -> Result<Self, AllocError>
+    pub(crate) fn beside(alloc: Global, base: &'a Snapshot) -> Result<Self, AllocError>
         ensures { IfOk result (λ held. Holds held (bare_of base.now)) }
     {
         let mut held = Held::under(alloc, base.protocol(), base.meta());
@@ -99,7 +99,7 @@ impl<'a> Held<'a> {
     }
 
     // A version's actions, one step for each.
-    pub fn apply_all<L>(
+    pub(crate) fn apply_all<L>(
         &mut self,
         actions: &'a [Action],
         steps: &mut Steps<L>,
@@ -141,7 +141,7 @@ impl<'a> Held<'a> {
     }
 
     // All that is in force.
-    pub fn parts(&self, alloc: Global) -> Result<Parts<'a>, NoState>
+    pub(crate) fn parts(&self, alloc: Global) -> Result<Parts<'a>, NoState>
         ensures { (actions : List Action) → Holds self.now actions → AreParts actions result }
     {
         let files = self.files(alloc)?;

@@ -12,10 +12,10 @@ use std::sync::Arc;
 
 // Where the files of a path are: in the part `part` from `at` up to `next`.
 #[derive(Clone, Copy)]
-pub struct Spot {
-    pub part: usize,
-    pub at: usize,
-    pub next: usize,
+pub(crate) struct Spot {
+    pub(crate) part: usize,
+    pub(crate) at: usize,
+    pub(crate) next: usize,
 }
 
 // The part that begins with a path, or that before which it stands.
@@ -42,7 +42,7 @@ fn spot_in(parts: &[Arc<Part>], path: &str, part: usize) -> Spot
 }
 
 // Where the files of a path are.
-pub fn spot_of(parts: &[Arc<Part>], path: &str) -> Spot
+pub(crate) fn spot_of(parts: &[Arc<Part>], path: &str) -> Spot
     requires listing { IsListing parts.now }
     requires some { 0 < length parts.now }
     ensures { IsSpot path.now parts.now result.part result.at result.next }
@@ -63,7 +63,7 @@ pub fn spot_of(parts: &[Arc<Part>], path: &str) -> Spot
 }
 
 // The file of a path.
-pub fn file_of<'a>(parts: &'a [Arc<Part>], path: &str) -> Option<&'a AddFile>
+pub(crate) fn file_of<'a>(parts: &'a [Arc<Part>], path: &str) -> Option<&'a AddFile>
     requires { IsListing parts.now }
     ensures { option_map (λ f. f.now) result ≡ find (λ f. bytes_eq f.path path.now) (listed parts.now) }
 {
@@ -179,7 +179,7 @@ fn change(alloc: Global, parts: &mut Vec<Arc<Part>>, action: &Action) -> Result<
 }
 
 // A version's actions. The parts that no action changes stay shared.
-pub fn change_all(
+pub(crate) fn change_all(
     alloc: Global,
     parts: &mut Vec<Arc<Part>>,
     actions: &[Action],
@@ -195,7 +195,7 @@ pub fn change_all(
 }
 
 // The same parts, shared.
-pub fn share_all(alloc: Global, parts: &[Arc<Part>]) -> Result<Vec<Arc<Part>>, AllocError>
+pub(crate) fn share_all(alloc: Global, parts: &[Arc<Part>]) -> Result<Vec<Arc<Part>>, AllocError>
     requires { AllSized parts.now }
     ensures files { IfOk result (λ v. listed v.items ≡ listed parts.now) }
     ensures sized { IfOk result (λ v. AllSized v.items) }
@@ -234,7 +234,7 @@ fn add_file(
 }
 
 // Parts of these files.
-pub fn parts_of(alloc: Global, files: &[&AddFile]) -> Result<Vec<Arc<Part>>, AllocError>
+pub(crate) fn parts_of(alloc: Global, files: &[&AddFile]) -> Result<Vec<Arc<Part>>, AllocError>
     ensures files { IfOk result (λ v. listed v.items ≡ map (λ f. f.now) files.now) }
     ensures sized { IfOk result (λ v. AllSized v.items) }
 {

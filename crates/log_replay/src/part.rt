@@ -9,7 +9,7 @@ use std::sync::Arc;
 
 // Some of a table's files, in byte order of path. A file may be shared with other parts.
 #[derive(Drop)]
-pub struct Part {
+pub(crate) struct Part {
     files: Vec<Arc<AddFile>>,
 }
 
@@ -34,7 +34,10 @@ fn push_all(into: &mut Vec<Arc<AddFile>>, from: &[Arc<AddFile>]) -> Result<(), A
 }
 
 // A file comes last, if there is one.
-pub fn push_one(into: &mut Vec<Arc<AddFile>>, file: Option<Arc<AddFile>>) -> Result<(), AllocError>
+pub(crate) fn push_one(
+    into: &mut Vec<Arc<AddFile>>,
+    file: Option<Arc<AddFile>>,
+) -> Result<(), AllocError>
     ensures { OnOk result (map arc_value into.new.items ≡ map arc_value into.old.items ++ option_to_list (option_map arc_value file)) }
 {
     if let Some(file) = file {
@@ -48,21 +51,21 @@ impl Part {
     ghost use Rattle.log_replay.specs.Snapshots.{PathsRise};
 
     // A part of these files.
-    pub fn of(files: Vec<Arc<AddFile>>) -> Part
+    pub(crate) fn of(files: Vec<Arc<AddFile>>) -> Part
         ensures { result ≡ map arc_value files.items }
     {
         Part { files }
     }
 
     // How many files it has.
-    pub fn len(&self) -> u64
+    pub(crate) fn len(&self) -> u64
         ensures { result ≡ length self.now }
     {
         self.files.len() as u64
     }
 
     // The file at a place in byte order of path, counted from 0.
-    pub fn file(&self, place: u64) -> &AddFile
+    pub(crate) fn file(&self, place: u64) -> &AddFile
         requires { place < length self.now }
         ensures { slice_get self.now place ≡ Some result.now }
     {
@@ -70,14 +73,14 @@ impl Part {
     }
 
     // Its files.
-    pub fn files(&self) -> &[Arc<AddFile>]
+    pub(crate) fn files(&self) -> &[Arc<AddFile>]
         ensures { map arc_value result.now ≡ self.now }
     {
         &self.files
     }
 
     // The path of the first file, empty where there is none.
-    pub fn first_path(&self) -> &str
+    pub(crate) fn first_path(&self) -> &str
         ensures { result.now ≡ first_path self.now }
     {
         match self.files.first() {
@@ -87,7 +90,7 @@ impl Part {
     }
 
     // Where a path stands, or would stand.
-    pub fn search(&self, path: &str) -> Result<usize, usize>
+    pub(crate) fn search(&self, path: &str) -> Result<usize, usize>
         requires { PathsRise self.now }
         ensures { MatchResult result (StandsAt path.now self.now) (CutsAt path.now self.now) }
     {
@@ -96,7 +99,7 @@ impl Part {
     }
 
     // The files before `at`, this one, and those from `next` on.
-    pub fn spliced(
+    pub(crate) fn spliced(
         &self,
         alloc: Global,
         at: usize,

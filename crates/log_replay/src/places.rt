@@ -8,7 +8,7 @@ use std::alloc::{AllocError, Global};
 use std::sync::Arc;
 
 // The place of each part's first file, and how many files there are.
-pub fn starts(alloc: Global, parts: &[Arc<Part>]) -> Result<(Vec<u64>, u64), AllocError>
+pub(crate) fn starts(alloc: Global, parts: &[Arc<Part>]) -> Result<(Vec<u64>, u64), AllocError>
     requires { IsListing parts.now }
     ensures { IfOk result (λ s. (s.0.items ≡ starts_of 0 parts.now) × (s.1 ≡ length (listed parts.now))) }
 {
@@ -40,7 +40,7 @@ fn part_at(starts: &[u64], place: u64) -> usize
 }
 
 // The file at a place of all parts.
-pub fn file_in<'a>(parts: &'a [Arc<Part>], starts: &[u64], place: u64) -> &'a AddFile
+pub(crate) fn file_in<'a>(parts: &'a [Arc<Part>], starts: &[u64], place: u64) -> &'a AddFile
     requires listing { IsListing parts.now }
     requires starts { starts.now ≡ starts_of 0 parts.now }
     requires place { place < length (listed parts.now) }

@@ -33,11 +33,11 @@ pub struct Snapshot {
 
 // All of a state but its version, borrowed.
 #[derive(Drop)]
-pub struct Parts<'a> {
-    pub files: Vec<&'a AddFile>,
-    pub protocol: &'a Protocol,
-    pub meta: &'a MetaData,
-    pub txns: Vec<&'a Txn>,
+pub(crate) struct Parts<'a> {
+    pub(crate) files: Vec<&'a AddFile>,
+    pub(crate) protocol: &'a Protocol,
+    pub(crate) meta: &'a MetaData,
+    pub(crate) txns: Vec<&'a Txn>,
 }
 
 impl Model for Snapshot {

@@ -12,7 +12,7 @@ use log_commit::version_of;
 use std::alloc::{AllocError, Global};
 
 // The versions of those segments that name one.
-pub fn versions_of(alloc: Global, names: &[Segment]) -> Result<Vec<u64>, AllocError>
+pub(crate) fn versions_of(alloc: Global, names: &[Segment]) -> Result<Vec<u64>, AllocError>
     ensures { IfOk result (λ versions. versions.items ≡ filter_map version_in names.now) }
 {
     let mut versions = Vec::new(alloc);
@@ -25,7 +25,7 @@ pub fn versions_of(alloc: Global, names: &[Segment]) -> Result<Vec<u64>, AllocEr
 }
 
 // How many versions in front are 0 and on, without a gap.
-pub fn leading(versions: &[u64]) -> usize
+pub(crate) fn leading(versions: &[u64]) -> usize
     ensures { result ≡ leading_from 0 versions.now }
 {
     let mut count = 0;
@@ -85,7 +85,7 @@ fn gap(versions: &[u64], count: usize) -> Option<Block>
 }
 
 // What was loaded of so many versions in front, with the block after it.
-pub fn before_gap(loaded: Loaded, versions: &[u64], count: usize) -> Loaded
+pub(crate) fn before_gap(loaded: Loaded, versions: &[u64], count: usize) -> Loaded
     requires kept { IsLoaded loaded }
     requires count { IfNone loaded.block (length loaded.commits ≡ count) }
     ensures value { result ≡ record { commits = loaded.commits; bytes = loaded.bytes; block = option_or loaded.block (gap_at versions.now count) } }
@@ -99,7 +99,7 @@ pub fn before_gap(loaded: Loaded, versions: &[u64], count: usize) -> Loaded
 }
 
 // The folder of the log of the table at a location.
-pub fn folder_name(alloc: Global, location: &Name) -> Result<Name, AllocError>
+pub(crate) fn folder_name(alloc: Global, location: &Name) -> Result<Name, AllocError>
     requires { length location.now ≤ 256 }
     ensures { IfOk result (λ n. n ≡ folder location.now) }
 {

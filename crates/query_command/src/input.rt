@@ -80,7 +80,7 @@ fn query_of_bytes(alloc: Global, bytes: &[u8]) -> Result<QueryBody, End>
 
 /// The query that the input asks; the input is then read to its end. `End::Input` comes exactly
 /// where it is longer than 16 MiB, is no query body, or asks for a page of the answer.
-pub fn asked<S: Source>(alloc: Global, input: &mut S) -> Result<QueryBody, End>
+pub(crate) fn asked<S: Source>(alloc: Global, input: &mut S) -> Result<QueryBody, End>
     ensures asked { IsAsked (S.left input.old) (S.left input.new) (S.faults input.old) (S.faults input.new) result }
 {
     match read_input(alloc, input) {

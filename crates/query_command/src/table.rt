@@ -106,7 +106,7 @@ fn snapshot_lines(
 
 /// Why there are no lines of a table.
 #[derive(Drop)]
-pub enum LinesFault {
+pub(crate) enum LinesFault {
     /// The table isn't read.
     Refused(TableRefusal),
     /// A call of the store failed.
@@ -251,7 +251,7 @@ fn log_lines<L>(
 ///
 /// `LinesFault::Refused` comes exactly where the table isn't read or hasn't the version,
 /// `StoreFault` only where the store's count of faults rose in this call.
-pub fn table_lines<W: Store, L>(
+pub(crate) fn table_lines<W: Store, L>(
     alloc: Global,
     store: &mut W,
     location: &Name,

@@ -18,7 +18,7 @@ use std::alloc::{AllocError, Global};
 
 /// Why no call is made.
 #[derive(Clone, Copy, Debug, PartialEq, Eq)]
-pub enum NoCall {
+pub(crate) enum NoCall {
     /// The profile is absent, longer than 16 MiB, or none.
     Profile,
     /// The input is longer than 16 MiB, or no body of a query.
@@ -201,7 +201,7 @@ fn go<S: Source, K: Sink, M: Sink, W: Store, C: Clock, G: Gate, L, V: Link>(
 
 /// Reads the profile of that name from the store, and asks its server over the way for what the words name: what is printed of the
 /// answer goes to the output.
-pub fn client<S: Source, K: Sink, M: Sink, W: Store, C: Clock, G: Gate, L, V: Link>(
+pub(crate) fn client<S: Source, K: Sink, M: Sink, W: Store, C: Clock, G: Gate, L, V: Link>(
     alloc: Global,
     profile: &Name,
     call_words: CallWords,

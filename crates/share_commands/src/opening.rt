@@ -22,7 +22,7 @@ const MOST_CONFIG: usize = 16 << 20;
 
 /// Why there is no server.
 #[derive(Clone, Copy, Debug, PartialEq, Eq)]
-pub enum NoServer {
+pub(crate) enum NoServer {
     /// The configuration is absent, longer than 16 MiB, or none.
     Configuration,
     /// The record of that number is none, or the catalogue refuses its edit after those before it.
@@ -60,10 +60,10 @@ impl From<OpenRefusal> for NoServer {
 
 /// A server that is opened: what it answers by, its hub, and the places of its callers there.
 #[derive(Drop)]
-pub struct Opened {
-    pub server: Server,
-    pub hub: Hub,
-    pub passes: Vec<HubPass>,
+pub(crate) struct Opened {
+    pub(crate) server: Server,
+    pub(crate) hub: Hub,
+    pub(crate) passes: Vec<HubPass>,
 }
 
 // The name of the configuration's object.
@@ -113,7 +113,11 @@ fn stored_config<W: Store>(alloc: Global, store: &mut W) -> Result<Option<Config
 }
 
 /// Opens a server for so many callers over a store: the configuration is read first, then the records. Nothing is stored.
-pub fn open_server<W: Store>(alloc: Global, store: &mut W, callers: u32) -> Result<Opened, NoServer>
+pub(crate) fn open_server<W: Store>(
+    alloc: Global,
+    store: &mut W,
+    callers: u32,
+) -> Result<Opened, NoServer>
     requires callers { (1 ≤ callers) × (callers ≤ 65) }
     ensures opened { IsOpened result callers (W.objects store.old) (W.objects store.new) (W.faults store.old) (W.faults store.new) }
     ensures looked { Looked (W.objects store.old) (W.objects store.new) (W.alone store.old) (W.alone store.new) }

@@ -122,7 +122,7 @@ fn used_desks(workers: u32, count: usize) -> usize
 
 /// Opens a server over the store, and has as many workers serve the connections that come to the port, each at a desk of its own: at
 /// the first desks, and at all where there are fewer. It comes back where every worker has ended.
-pub fn serve<
+pub(crate) fn serve<
     R: Threads + Wait + Sync,
     S: Source,
     K: Sink,

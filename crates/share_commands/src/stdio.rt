@@ -101,7 +101,7 @@ fn serve<R: Wait, S: Source, K: Sink, M: Sink, W: Store, C: Clock, G: Gate, L>(
 }
 
 /// Opens a server over the store, and serves one connection over the input and the output.
-pub fn stdio<R: Wait, S: Source, K: Sink, M: Sink, W: Store, C: Clock, G: Gate, L>(
+pub(crate) fn stdio<R: Wait, S: Source, K: Sink, M: Sink, W: Store, C: Clock, G: Gate, L>(
     rt: &R,
     alloc: Global,
     edge: &mut Edge<S, K, M, W, C, G, L>,

@@ -73,7 +73,7 @@ const MOST_REHEARSAL: u64 = (1 << 32) - 1;
 
 /// The call that the words of `client` name.
 #[derive(Drop)]
-pub enum CallWords {
+pub(crate) enum CallWords {
     /// `read`: the files of a table, by the query of the input.
     Read(SharedTable),
     /// Any other call, which the words name whole: `tables`; `changes`, from a version to another, both below 2^63; `fetch`, and with a
@@ -83,7 +83,7 @@ pub enum CallWords {
 
 /// A command, with what its words name.
 #[derive(Drop)]
-pub enum Command {
+pub(crate) enum Command {
     /// `--help`: print the usage.
     Help,
     /// `--version`: print the version.
@@ -356,7 +356,7 @@ fn long_of(
 }
 
 /// The command of the words, none where they are no row of the table of words.
-pub fn command_of(alloc: Global, words: &[String]) -> Result<Option<Command>, AllocError>
+pub(crate) fn command_of(alloc: Global, words: &[String]) -> Result<Option<Command>, AllocError>
     ensures { IfOk result (λ command. command ≡ command_in words.now) }
 {
     match words {

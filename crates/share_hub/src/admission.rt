@@ -16,11 +16,11 @@ use std::alloc::{AllocError, Global};
 
 /// The states that an offer is judged by.
 #[derive(Drop)]
-pub struct OfferStates {
+pub(crate) struct OfferStates {
     /// That of the version that it read, none where that isn't kept or nothing was read.
-    pub at: Option<SharedSnapshot>,
+    pub(crate) at: Option<SharedSnapshot>,
     /// That of the last version, none where there is none.
-    pub head: Option<SharedSnapshot>,
+    pub(crate) head: Option<SharedSnapshot>,
 }
 
 // The state of the version that was read, none where that isn't kept.
@@ -51,7 +51,7 @@ fn head_of(
 }
 
 /// The states that an offer is judged by. The error is want of memory.
-pub fn states_of(alloc: Global, log: &OfferLog) -> Result<OfferStates, AllocError>
+pub(crate) fn states_of(alloc: Global, log: &OfferLog) -> Result<OfferStates, AllocError>
     requires of { (read : Option ℕ) × (commits : List (List Action)) × IsOfferLog read commits log.now }
     ensures at { (read : Option ℕ) → (commits : List (List Action)) → IsOfferLog read commits log.now → IfOk result (λ s. s.at ≡ read_state commits read) }
     ensures head { (read : Option ℕ) → (commits : List (List Action)) → IsOfferLog read commits log.now → IfOk result (λ s. IsHead commits s.head) }
@@ -62,7 +62,7 @@ pub fn states_of(alloc: Global, log: &OfferLog) -> Result<OfferStates, AllocErro
 }
 
 /// The commit of an offer, or why there is none.
-pub fn admission(
+pub(crate) fn admission(
     alloc: Global,
     log: &OfferLog,
     states: &OfferStates,

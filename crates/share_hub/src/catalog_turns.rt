@@ -12,7 +12,7 @@ use std::alloc::Global;
 
 // Whether a Begin was added, and then how many edits there are.
 #[derive(Clone, Copy)]
-pub enum Opened {
+pub(crate) enum Opened {
     Open(u64),
     Held,
     NoMemory,
@@ -20,14 +20,14 @@ pub enum Opened {
 
 // How many edits there are after a found one was added. For want of memory the Begin was ended after it.
 #[derive(Clone, Copy)]
-pub enum Published {
+pub(crate) enum Published {
     Open(u64),
     NoMemory,
 }
 
 // Whether an edit may be added, and whether a log of the location that it binds is there.
 #[derive(Clone, Copy)]
-pub enum Checked {
+pub(crate) enum Checked {
     Located,
     Unlocated,
     Refused(EditRefusal),
@@ -35,10 +35,10 @@ pub enum Checked {
 
 // An edit to add: itself, the copy that readers share, and the log that was loaded for it.
 #[derive(Drop)]
-pub struct NewEdit {
-    pub edit: Edit,
-    pub shared: SharedEdit,
-    pub load: Option<ReadyLog>,
+pub(crate) struct NewEdit {
+    pub(crate) edit: Edit,
+    pub(crate) shared: SharedEdit,
+    pub(crate) load: Option<ReadyLog>,
 }
 
 // Whether a table that an edit binds has a log.
@@ -51,7 +51,7 @@ fn is_located(book: &Book, edit: &Edit) -> bool
     }
 }
 
-pub fn check_in(book: &Book, edit: &Edit) -> Checked
+pub(crate) fn check_in(book: &Book, edit: &Edit) -> Checked
     ensures { ChecksIn result edit.now book.now.past.history }
 {
     match book.admits(edit) {
@@ -66,7 +66,7 @@ pub fn check_in(book: &Book, edit: &Edit) -> Checked
     }
 }
 
-pub fn begin_in(alloc: Global, book: &mut Book, caller: u32) -> Opened
+pub(crate) fn begin_in(alloc: Global, book: &mut Book, caller: u32) -> Opened
     requires { rests book.old ≡ true }
     ensures rests { rests book.new ≡ true }
     ensures opened { Opens result caller book.old.past.history book.new.past.history }
@@ -84,7 +84,7 @@ pub fn begin_in(alloc: Global, book: &mut Book, caller: u32) -> Opened
     }
 }
 
-pub fn abort_in(book: &mut Book, caller: u32)
+pub(crate) fn abort_in(book: &mut Book, caller: u32)
     requires rests { rests book.old ≡ true }
     requires begun { open_on 0 book.old.past.history ≡ Some caller }
     ensures rests { rests book.new ≡ true }
@@ -129,7 +129,7 @@ fn go_on(alloc: Global, book: &mut Book, caller: u32) -> Published
 }
 
 // Publishes an edit that the store had, after the log that it needs.
-pub fn publish_in(alloc: Global, book: &mut Book, caller: u32, new: NewEdit) -> Published
+pub(crate) fn publish_in(alloc: Global, book: &mut Book, caller: u32, new: NewEdit) -> Published
     requires rests { rests book.old ≡ true }
     requires begun { open_on 0 book.old.past.history ≡ Some caller }
     requires takes { TakesEdit book.old.past.history new }
@@ -145,7 +145,7 @@ pub fn publish_in(alloc: Global, book: &mut Book, caller: u32, new: NewEdit) -> 
 }
 
 // Publishes the caller's own edit, after the log that it needs.
-pub fn own_in(book: &mut Book, caller: u32, new: NewEdit)
+pub(crate) fn own_in(book: &mut Book, caller: u32, new: NewEdit)
     requires rests { rests book.old ≡ true }
     requires begun { open_on 0 book.old.past.history ≡ Some caller }
     requires takes { TakesEdit book.old.past.history new }

@@ -40,14 +40,14 @@ pub enum CatalogRefusal {
 
 // How many edits there are after a found record was published; none was there; or the caller ended what it began.
 #[derive(Clone, Copy)]
-pub enum Next {
+pub(crate) enum Next {
     Found(u64),
     Absent,
     End(CatalogRefusal),
 }
 
 // The refusal that a failed load stands for.
-pub fn refused(refusal: LoadRefusal) -> CatalogRefusal
+pub(crate) fn refused(refusal: LoadRefusal) -> CatalogRefusal
     ensures { result ≡ refusal_by refusal }
 {
     match refusal {

@@ -18,9 +18,9 @@ pub struct Hub {
 // The hub as one caller uses it: its cell, the handle with which the caller waits for its turns, and the memory that it takes.
 #[derive(Drop)]
 pub(crate) struct Caller<'a, R> {
-    pub cell: &'a TurnCell<Book>,
-    pub rt: &'a R,
-    pub alloc: Global,
+    pub(crate) cell: &'a TurnCell<Book>,
+    pub(crate) rt: &'a R,
+    pub(crate) alloc: Global,
 }
 
 impl Hub {

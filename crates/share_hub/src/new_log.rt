@@ -17,7 +17,7 @@ use std::alloc::{AllocError, Global};
 
 // Whether an edit may be added, after which log, or why not.
 #[derive(Drop)]
-pub enum Allowed {
+pub(crate) enum Allowed {
     Fits(Option<ReadyLog>),
     Refused(EditRefusal),
     Failed(LoadRefusal),
@@ -62,7 +62,12 @@ fn new_log<W: Store>(
 }
 
 // What a check of an edit comes to, with the log that the edit needs.
-pub fn allow<W: Store>(alloc: Global, store: &mut W, edit: &Edit, checked: Checked) -> Allowed
+pub(crate) fn allow<W: Store>(
+    alloc: Global,
+    store: &mut W,
+    edit: &Edit,
+    checked: Checked,
+) -> Allowed
     ensures looked { Looked (W.objects store.old) (W.objects store.new) (W.alone store.old) (W.alone store.new) }
     ensures allowed { (h : List Entry) → ChecksIn checked edit.now h → AllowsIn result edit.now (W.objects store.old) (W.objects store.new) h }
     ensures cause { Cause (W.faults store.old) (W.faults store.new) (failed_allowed result) }

@@ -14,15 +14,15 @@ use std::alloc::{AllocError, Global};
 /// What an offer is judged by, as one turn finds it: of the log no more than what came after the version that it read, so that no
 /// commit costs the log's length.
 #[derive(Drop)]
-pub struct OfferLog {
+pub(crate) struct OfferLog {
     /// How many versions the log has.
-    pub versions: u64,
+    pub(crate) versions: u64,
     /// The commits after the version that was read, all where none was.
-    pub winners: Commits,
+    pub(crate) winners: Commits,
     /// What makes the state of the version that was read, none where that isn't kept or none was read.
-    pub read: Option<Replay>,
+    pub(crate) read: Option<Replay>,
     /// What makes the last state, none where there is none.
-    pub head: Option<Replay>,
+    pub(crate) head: Option<Replay>,
 }
 
 // What makes the state of the version that an offer read.
@@ -44,7 +44,7 @@ fn read_in(
 }
 
 /// What an offer to a table's log is judged by. The error is want of memory.
-pub fn offer_log_in(
+pub(crate) fn offer_log_in(
     book: &Book,
     alloc: Global,
     log: u32,

@@ -17,7 +17,7 @@ const MOST_RECORD: usize = 16 << 20;
 
 // What a store has as the record of a number.
 #[derive(Drop)]
-pub enum Read {
+pub(crate) enum Read {
     // No object has its name.
     Absent,
     // The edit that it records.
@@ -43,7 +43,11 @@ fn read_of(alloc: Global, fetched: Fetched) -> Result<Read, LoadRefusal>
 }
 
 // The record of that number. Nothing is stored.
-pub fn read_record<W: Store>(alloc: Global, store: &mut W, number: u64) -> Result<Read, LoadRefusal>
+pub(crate) fn read_record<W: Store>(
+    alloc: Global,
+    store: &mut W,
+    number: u64,
+) -> Result<Read, LoadRefusal>
     ensures looked { Looked (W.objects store.old) (W.objects store.new) (W.alone store.old) (W.alone store.new) }
     ensures record { IfSome (W.objects store.new) (λ os. IsRead (record_at os number) result) }
     ensures cause { Cause (W.faults store.old) (W.faults store.new) (failed_load result) }

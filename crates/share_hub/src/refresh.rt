@@ -21,7 +21,7 @@ use std::alloc::{AllocError, Global};
 use std::sync::Wait;
 
 // The most bytes of a location.
-pub const MOST_LOCATION: usize = 256;
+pub(crate) const MOST_LOCATION: usize = 256;
 
 /// What is known of a table's log after a refresh.
 #[derive(Clone, Copy, Debug, PartialEq, Eq)]

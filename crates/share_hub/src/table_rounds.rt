@@ -23,21 +23,21 @@ use std::sync::{Arc, Wait};
 
 // What is known of a log for its next version: the protocol and the metaData that hold, and the bytes of its printed texts.
 #[derive(Drop)]
-pub struct LogHead {
-    pub support: Support,
-    pub bytes: u64,
+pub(crate) struct LogHead {
+    pub(crate) support: Support,
+    pub(crate) bytes: u64,
 }
 
 // Where a table's log stands: its location in the store, and its number in the book.
 #[derive(Clone, Copy)]
-pub struct StoredLog<'a> {
-    pub location: &'a Name,
-    pub log: u32,
+pub(crate) struct StoredLog<'a> {
+    pub(crate) location: &'a Name,
+    pub(crate) log: u32,
 }
 
 // Whether a commit is kept as a log's next version.
 #[derive(Drop)]
-pub enum Taken {
+pub(crate) enum Taken {
     Kept(NewCommit),
     Unkept,
     NoMemory,
@@ -45,14 +45,14 @@ pub enum Taken {
 
 // Whether an object has a version's name.
 #[derive(Clone, Copy)]
-pub enum VersionObject {
+pub(crate) enum VersionObject {
     There,
     Absent,
 }
 
 // Why the caller ended what it began.
 #[derive(Clone, Copy)]
-pub enum LogEnd {
+pub(crate) enum LogEnd {
     Blocked,
     StoreFault,
     NoMemory,
@@ -60,7 +60,7 @@ pub enum LogEnd {
 
 // The next version was published; none was there; or the caller ended what it began.
 #[derive(Clone, Copy)]
-pub enum NextCommit {
+pub(crate) enum NextCommit {
     Found,
     Absent,
     End(LogEnd),
@@ -98,7 +98,7 @@ fn take_next(alloc: Global, head: &mut LogHead, commit: Commit, bytes: u64) -> T
 
 // Whether the store has an object as a version.
 #[tactic(auto, using(crate::proofs::TableRounding::sized_there, crate::proofs::TableRounding::absent_there))]
-pub fn has_version<W: Store>(
+pub(crate) fn has_version<W: Store>(
     alloc: Global,
     store: &mut W,
     location: &Name,

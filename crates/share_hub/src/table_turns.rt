@@ -15,14 +15,14 @@ use std::sync::Arc;
 
 // The number of a table's log, and how far the log is known.
 #[derive(Clone, Copy)]
-pub struct KnownLog {
-    pub log: u32,
-    pub state: LogState,
+pub(crate) struct KnownLog {
+    pub(crate) log: u32,
+    pub(crate) state: LogState,
 }
 
 // How far the log is known on which a Begin was added, or why none was.
 #[derive(Clone, Copy)]
-pub enum LogOpened {
+pub(crate) enum LogOpened {
     Open(LogState),
     Held,
     NoMemory,
@@ -30,21 +30,21 @@ pub enum LogOpened {
 
 // A found commit was added. For want of memory the Begin was ended after it.
 #[derive(Clone, Copy)]
-pub enum CommitPublished {
+pub(crate) enum CommitPublished {
     Open,
     NoMemory,
 }
 
 // A commit to add: itself, the copy that readers share, and the length of its text.
 #[derive(Drop)]
-pub struct NewCommit {
-    pub commit: Arc<Commit>,
-    pub shared: SharedCommit,
-    pub bytes: u64,
+pub(crate) struct NewCommit {
+    pub(crate) commit: Arc<Commit>,
+    pub(crate) shared: SharedCommit,
+    pub(crate) bytes: u64,
 }
 
 // The log of the table at a location.
-pub fn find_in(book: &Book, location: &str) -> Option<KnownLog>
+pub(crate) fn find_in(book: &Book, location: &str) -> Option<KnownLog>
     ensures { FindsLog result location.now book.now.past.history }
 {
     book.len();
@@ -56,7 +56,7 @@ pub fn find_in(book: &Book, location: &str) -> Option<KnownLog>
 }
 
 // What makes the state after all commits of a table's log, none where it has none.
-pub fn head_in(book: &Book, alloc: Global, log: u32) -> Result<Option<Replay>, AllocError>
+pub(crate) fn head_in(book: &Book, alloc: Global, log: u32) -> Result<Option<Replay>, AllocError>
     requires { IsLog log book.now.past.history }
     ensures makes { IfOk result (λ r. There (table_on log book.now.past.history) (λ t. MakesHead t.commits r)) }
     ensures fits { IfOk result (λ r. IfSome r CanReplay) }
@@ -66,7 +66,7 @@ pub fn head_in(book: &Book, alloc: Global, log: u32) -> Result<Option<Replay>, A
 }
 
 // Keeps a state of a table's log, where memory is there for it.
-pub fn keep_in(book: &mut Book, log: u32, state: &SharedSnapshot)
+pub(crate) fn keep_in(book: &mut Book, log: u32, state: &SharedSnapshot)
     requires there { IsLog log book.old.past.history }
     requires state { There (table_on log book.old.past.history) (λ t. IsStateIn t.commits state.now) }
     ensures { book.new ≡ book.old }
@@ -77,7 +77,7 @@ pub fn keep_in(book: &mut Book, log: u32, state: &SharedSnapshot)
     }
 }
 
-pub fn begin_log_in(book: &mut Book, caller: u32, log: u32) -> LogOpened
+pub(crate) fn begin_log_in(book: &mut Book, caller: u32, log: u32) -> LogOpened
     requires rests { rests book.old ≡ true }
     requires there { IsLog log book.old.past.history }
     ensures rests { rests book.new ≡ true }
@@ -96,7 +96,7 @@ pub fn begin_log_in(book: &mut Book, caller: u32, log: u32) -> LogOpened
     }
 }
 
-pub fn abort_log_in(book: &mut Book, caller: u32, log: u32)
+pub(crate) fn abort_log_in(book: &mut Book, caller: u32, log: u32)
     requires rests { rests book.old ≡ true }
     requires there { IsLog log book.old.past.history }
     requires begun { open_on log book.old.past.history ≡ Some caller }
@@ -108,7 +108,7 @@ pub fn abort_log_in(book: &mut Book, caller: u32, log: u32)
 }
 
 // Says that the next version isn't kept, and ends what the caller began.
-pub fn block_log_in(book: &mut Book, caller: u32, log: u32)
+pub(crate) fn block_log_in(book: &mut Book, caller: u32, log: u32)
     requires rests { rests book.old ≡ true }
     requires there { IsLog log book.old.past.history }
     requires begun { open_on log book.old.past.history ≡ Some caller }
@@ -143,7 +143,12 @@ fn go_on_log(book: &mut Book, caller: u32, log: u32) -> CommitPublished
 }
 
 // Publishes a commit that the store had.
-pub fn publish_commit_in(book: &mut Book, caller: u32, log: u32, new: NewCommit) -> CommitPublished
+pub(crate) fn publish_commit_in(
+    book: &mut Book,
+    caller: u32,
+    log: u32,
+    new: NewCommit,
+) -> CommitPublished
     requires rests { rests book.old ≡ true }
     requires there { IsLog log book.old.past.history }
     requires begun { open_on log book.old.past.history ≡ Some caller }
@@ -157,7 +162,7 @@ pub fn publish_commit_in(book: &mut Book, caller: u32, log: u32, new: NewCommit)
 }
 
 // Publishes the caller's own commit.
-pub fn own_commit_in(book: &mut Book, caller: u32, log: u32, new: NewCommit)
+pub(crate) fn own_commit_in(book: &mut Book, caller: u32, log: u32, new: NewCommit)
     requires rests { rests book.old ≡ true }
     requires there { IsLog log book.old.past.history }
     requires begun { open_on log book.old.past.history ≡ Some caller }

@@ -15,9 +15,9 @@ pub(crate) type SharedPeer<W, C, G> = Arc<Mutex<Peer<W, C, G>>, Global>;
 #[derive(Drop)]
 pub(crate) struct Exchange {
     /// What was written to it.
-    pub requests: Vec<u8>,
+    pub(crate) requests: Vec<u8>,
     /// What the server wrote.
-    pub answer: Vec<u8>,
+    pub(crate) answer: Vec<u8>,
 }
 
 /// What was said on the lines that were served, in the order in which they were.

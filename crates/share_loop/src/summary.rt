@@ -7,35 +7,35 @@ use std::alloc::{AllocError, Global};
 
 /// What a read of a table gave.
 #[derive(Clone, Copy, Debug, PartialEq, Eq)]
-pub struct ReadCount {
+pub(crate) struct ReadCount {
     /// How many pages came.
-    pub pages: u64,
+    pub(crate) pages: u64,
     /// How many files they have together.
-    pub files: u64,
+    pub(crate) files: u64,
     /// The sum of the files' sizes in bytes, or 2^64 - 1 where it passes that.
-    pub bytes: u64,
+    pub(crate) bytes: u64,
 }
 
 /// What the reads of a rehearsal gave.
 #[derive(Clone, Copy, Debug, PartialEq, Eq)]
-pub struct Reads {
+pub(crate) struct Reads {
     /// The version that was read.
-    pub version: u64,
+    pub(crate) version: u64,
     /// The read of the whole table.
-    pub whole: ReadCount,
+    pub(crate) whole: ReadCount,
     /// The read with a predicate.
-    pub part: ReadCount,
+    pub(crate) part: ReadCount,
     /// The table's version at the end.
-    pub head: u64,
+    pub(crate) head: u64,
 }
 
 /// What a rehearsal came to.
 #[derive(Clone, Copy, Debug, PartialEq, Eq)]
-pub struct Summary {
+pub(crate) struct Summary {
     /// What was read.
-    pub reads: Reads,
+    pub(crate) reads: Reads,
     /// Whether the pure machine's replies to the same events were the server's.
-    pub is_core_equal: bool,
+    pub(crate) is_core_equal: bool,
 }
 
 impl Summary {

@@ -148,9 +148,9 @@ impl<'a> Access<'a> {
 // What the links of a page are signed with: by which keys, for whom, and until when.
 #[derive(Drop)]
 pub(crate) struct Signing<'a> {
-    pub keys: &'a ReplyKeys,
-    pub access: Access<'a>,
-    pub expires: Millis,
+    pub(crate) keys: &'a ReplyKeys,
+    pub(crate) access: Access<'a>,
+    pub(crate) expires: Millis,
 }
 
 // When a link that is given now ends. No clock comes to 2^63 milliseconds.

@@ -12,8 +12,8 @@ use std::alloc::{AllocError, Global};
 // The files of a page, and the place at which the next one begins.
 #[derive(Drop)]
 pub(crate) struct FilesCut<'a> {
-    pub files: Vec<&'a AddFile>,
-    pub next: Option<u64>,
+    pub(crate) files: Vec<&'a AddFile>,
+    pub(crate) next: Option<u64>,
 }
 
 // Whether a page has all that it may have.

@@ -35,10 +35,10 @@ use std::sync::Arc;
 // What is asked of a table's changes: from where, to where, at most how many of them, and with which token.
 #[derive(Clone, Copy)]
 pub(crate) struct ChangesAsked<'q> {
-    pub from: Option<Bound>,
-    pub to: Option<Bound>,
-    pub max: Option<u64>,
-    pub token: &'q Option<Text>,
+    pub(crate) from: Option<Bound>,
+    pub(crate) to: Option<Bound>,
+    pub(crate) max: Option<u64>,
+    pub(crate) token: &'q Option<Text>,
 }
 
 // Where a page of changes begins.

@@ -1,5 +1,5 @@
 // Pages of a table's files.
-ghost use Rattle.std.specs.Prelude.{◌≡◌, [], Some, None, Ok, if◌then◌else◌, IfOk, is_some, map, option_copied, option_map, length};
+ghost use Rattle.std.specs.Prelude.{◌≡◌, [], Some, None, Ok, if◌then◌else◌, IfOk, is_some, map, option_copied, option_map};
 ghost use Rattle.page_token.specs.Token.{token_text};
 ghost use Rattle.pred_tree.specs.Grammar.{predicate_in};
 ghost use Rattle.share_reply.specs.Answer.{ends_with};

@@ -4,6 +4,6 @@ use crate::lines::LinePlan;
 // The version that is answered, and its lines.
 #[derive(Drop)]
 pub(crate) struct Paged<'a> {
-    pub version: u64,
-    pub lines: LinePlan<'a>,
+    pub(crate) version: u64,
+    pub(crate) lines: LinePlan<'a>,
 }

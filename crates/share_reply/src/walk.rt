@@ -22,18 +22,18 @@ pub(crate) enum Listed<'a> {
 // The names of a page, and whether one is left.
 #[derive(Drop)]
 pub(crate) struct Gathered<'a> {
-    pub names: Vec<Listed<'a>>,
-    pub is_left: bool,
+    pub(crate) names: Vec<Listed<'a>>,
+    pub(crate) is_left: bool,
 }
 
 // Which names are gathered: of which share and schema, behind which name, at most how many.
 #[derive(Clone, Copy)]
 pub(crate) struct Range<'a> {
-    pub kind: ListKind,
-    pub share: &'a str,
-    pub schema: &'a str,
-    pub after: &'a str,
-    pub most: u64,
+    pub(crate) kind: ListKind,
+    pub(crate) share: &'a str,
+    pub(crate) schema: &'a str,
+    pub(crate) after: &'a str,
+    pub(crate) most: u64,
 }
 
 // ---- which names are behind one

@@ -135,9 +135,9 @@ fn send_refusal<K: Sink>(
 /// What the steps of an object's response share: the memory that they take, the object's name, and how the response is delivered.
 #[derive(Drop)]
 pub(crate) struct Sending<'a> {
-    pub alloc: Global,
-    pub name: &'a Name,
-    pub delivery: Delivery,
+    pub(crate) alloc: Global,
+    pub(crate) name: &'a Name,
+    pub(crate) delivery: Delivery,
 }
 
 impl<'a> Sending<'a> {

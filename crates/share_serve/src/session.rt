@@ -6,9 +6,9 @@ use std::alloc::Global;
 // What a session shares with others, and the memory that it takes.
 #[derive(Drop)]
 pub(crate) struct Session<'a, R, G> {
-    pub rt: &'a R,
-    pub alloc: Global,
-    pub hub: &'a Hub,
-    pub server: &'a Server,
-    pub gate: &'a G,
+    pub(crate) rt: &'a R,
+    pub(crate) alloc: Global,
+    pub(crate) hub: &'a Hub,
+    pub(crate) server: &'a Server,
+    pub(crate) gate: &'a G,
 }

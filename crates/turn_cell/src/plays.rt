@@ -8,7 +8,7 @@ use atomic_table::{Join, Play, Split};
 use std::marker::PhantomData;
 
 /// Locks the lock, by a swap or a compare-exchange, and takes the value where the lock was free.
-pub struct Grab<T> {
+pub(crate) struct Grab<T> {
     of: PhantomData<T>,
 }
 
@@ -17,7 +17,7 @@ impl<T: Kept> Play<Option<T>, View<T::Entry>> for Grab<T> {
 }
 
 /// Loads the count during a turn.
-pub struct Count<T> {
+pub(crate) struct Count<T> {
     of: PhantomData<T>,
 }
 
@@ -26,7 +26,7 @@ impl<T: Kept> Play<Option<T>, View<T::Entry>> for Count<T> {
 }
 
 /// Loads the count with no turn, to see what the seat was told.
-pub struct Learn<T> {
+pub(crate) struct Learn<T> {
     of: PhantomData<T>,
 }
 
@@ -35,7 +35,7 @@ impl<T: Kept> Play<Option<T>, View<T::Entry>> for Learn<T> {
 }
 
 /// Adds 1 to the count, for one entry that the value's history has gained.
-pub struct Add<T> {
+pub(crate) struct Add<T> {
     of: PhantomData<T>,
 }
 
@@ -44,7 +44,7 @@ impl<T: Kept> Play<Option<T>, View<T::Entry>> for Add<T> {
 }
 
 /// Frees the lock, which brings the value home.
-pub struct Give<T> {
+pub(crate) struct Give<T> {
     of: PhantomData<T>,
 }
 
@@ -53,7 +53,7 @@ impl<T: Kept> Play<Option<T>, View<T::Entry>> for Give<T> {
 }
 
 /// The first caller of a seat gets a seat of its own.
-pub struct Caller;
+pub(crate) struct Caller;
 
 impl<E> Split<View<E>> for Caller {
     ghost left = { λ v. other_callers v };
@@ -62,7 +62,7 @@ impl<E> Split<View<E>> for Caller {
 }
 
 /// A seat of no caller, which has seen as much.
-pub struct Note;
+pub(crate) struct Note;
 
 impl<E> Split<View<E>> for Note {
     ghost left = { λ v. v };
@@ -71,7 +71,7 @@ impl<E> Split<View<E>> for Note {
 }
 
 /// What a note has seen is told to another seat.
-pub struct Tell;
+pub(crate) struct Tell;
 
 impl<E> Join<View<E>> for Tell {
     ghost both = { λ v other. told_by v other };

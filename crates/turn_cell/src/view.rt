@@ -6,7 +6,7 @@ use std::marker::PhantomData;
 use std::snapshot::Snapshot;
 
 /// Where a caller stands.
-pub enum Stage {
+pub(crate) enum Stage {
     /// It has no turn.
     Idle,
     /// It has the turn, and the value is with it.
@@ -14,27 +14,27 @@ pub enum Stage {
 }
 
 /// What a seat knows. No value of it is made: it stands in proofs alone.
-pub struct View<E> {
+pub(crate) struct View<E> {
     /// The callers that the seat stands for are those from `low` up to `high`: one for a pass, none for what is told in a
     /// meeting, all for the first seat of a cell.
-    pub low: u32,
-    pub high: u32,
-    pub stage: Stage,
+    pub(crate) low: u32,
+    pub(crate) high: u32,
+    pub(crate) stage: Stage,
     /// A beginning of the history.
-    pub seen: LinkedList<E>,
+    pub(crate) seen: LinkedList<E>,
     /// Another beginning of the history, which another seat has seen.
-    pub told: LinkedList<E>,
+    pub(crate) told: LinkedList<E>,
 }
 
 /// What the table is told when it is made: the value, and how many callers there are.
 #[derive(Drop)]
-pub struct Start<T> {
-    pub value: Snapshot<T>,
-    pub callers: u32,
+pub(crate) struct Start<T> {
+    pub(crate) value: Snapshot<T>,
+    pub(crate) callers: u32,
 }
 
 /// The rule of a cell with the value `T`.
-pub struct Turns<T> {
+pub(crate) struct Turns<T> {
     of: PhantomData<T>,
 }
 
