@@ -7,7 +7,7 @@ ghost use Rattle.share_pool.specs.Posts.{post};
 ghost use Rattle.share_pool.specs.Visits.{Works, lacks};
 ghost use Rattle.share_pool.specs.declared.desk.ServeEnd.TheVariants.{NoMemory};
 
-use crate::refresh::refresh_all;
+use crate::refresh::Refresher;
 use edge_core::{Clock, Gate, Listener, Store, Taken};
 use share_hub::{Hub, HubPass};
 use share_serve::{Server, SessionEnd, serve_conn};
@@ -77,12 +77,13 @@ fn serve_lines<R: Wait, N: Listener, W: Store, C: Clock, G: Gate, L>(
     ensures listens { N.listens door.new ≡ N.listens door.old }
     ensures works { Works server.now (post (N.coming door.old) (N.closed door.old) (C.coming clock.old) (held W.objects W.alone W.faults pass.old store.old)) (post (N.coming door.new) (N.closed door.new) (C.coming clock.new) (held W.objects W.alone W.faults pass.new store.new)) (N.faults door.old) (N.faults door.new) result }
 {
+    let refresher = Refresher { rt, alloc, hub };
     let mut served: u64 = 0;
     let mut lacking = false;
     for _ in rt.forever() {
         match door.accept() {
             Taken::Line(mut input, mut output) => {
-                refresh_all(rt, alloc, hub, pass, store);
+                refresher.refresh_all(pass, store);
                 let end = serve_conn(
                     rt,
                     alloc,
@@ -111,8 +112,8 @@ fn serve_lines<R: Wait, N: Listener, W: Store, C: Clock, G: Gate, L>(
 /// its answer in `end`.
 ///
 /// For each line that it accepts it refreshes the catalogue, and then each log that is loaded, so that a connection sees what other
-/// servers had stored before it; it serves the connection; and it closes the line. A refusal of a refresh, and want of memory for
-/// the logs' locations, is dropped. A session that ends in want of memory ends neither the others nor the worker, and the answer is
+/// servers had stored before it, up to 65,536 edits and as many commits of each table; it serves the connection; and it closes the
+/// line. A refusal of a refresh, and want of memory for the logs' locations, is dropped. A session that ends in want of memory ends neither the others nor the worker, and the answer is
 /// then `NoMemory`.
 pub fn serve_desk<R: Wait, N: Listener, W: Store, C: Clock, G: Gate, L>(
     rt: &R,

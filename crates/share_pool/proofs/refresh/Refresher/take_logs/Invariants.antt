@@ -2,7 +2,7 @@ use Rattle.std.proofs.Common.{take}
 use Rattle.share_hub.specs.Calls.{IsIdle}
 use Rattle.share_serve.specs.Sides.{held}
 use Rattle.share_pool.specs.Refreshing.{LogRefreshes}
-use Rattle.share_pool.proofs.refresh.refresh_logs.Given as goal
+use Rattle.share_pool.proofs.refresh.Refresher.take_logs.Given as goal
 
 abbrev pub invariant-loop-location : goal.invariant-loop-location
 invariant-loop-location g l =
