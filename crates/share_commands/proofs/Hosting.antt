@@ -21,12 +21,13 @@ use Rattle.share_serve.specs.declared.server.Server.{Server}
 use Rattle.turn_cell.specs.Passes.{AllFresh, fresh}
 use Rattle.query_command.specs.Outside.{Outside}
 use Rattle.share_commands.specs.Serve.{AllWait, DoorFails, IsServing, OpensServer, Serves, ServesAt, UsesDesks, Waits, WorkersServe, WorksAt, end_of}
-use Rattle.share_commands.specs.Stdio.{Configures}
+use Rattle.share_commands.specs.Stdio.{Configures, IsUnserved, end_without}
 use Rattle.share_commands.specs.StdioSteps.{LooksOnly, OpensFor}
 use Rattle.query_command.specs.Writing.{Tells}
 use Rattle.share_commands.specs.Steps.{Runs}
 use Rattle.query_command.specs.declared.ends.End.{End}
 use Rattle.query_command.specs.declared.ends.End.TheVariants as ends
+use Rattle.share_commands.specs.declared.opening.NoServer.{NoServer}
 use Rattle.share_commands.specs.declared.opening.NoServer.TheVariants as no_server
 use Rattle.share_commands.specs.declared.words.Command.{Command}
 use Rattle.share_commands.specs.declared.words.Command.TheVariants as command
@@ -112,16 +113,21 @@ module _ {N W C L : Type 0} (coming : N → Option (List (List ℕ))) (closed : 
 
   -- ---- a run of `serve`
 
-  -- the desks that were used came to what a run says of them
-  pub served_desks : (config : Config) (found : List Step) (port used n : ℕ) (e : ServeEnd) (desks part desks' : List (Desk N W C L)) → n ≡ used → Front used desks part desks'
-      → WorkersServe coming closed failed listens moments objects alone faults config found port n e (take used desks) part → IsServing coming closed failed listens moments objects alone faults config found port used e desks desks'
-  served_desks config found port used n e desks part desks' is f w =
+  -- workers at the first desks came to what a run says of all
+  pub first_serve : (config : Config) (found : List Step) (port used n : ℕ) (e : ServeEnd) (desks part desks' : List (Desk N W C L)) → n ≡ used → Front used desks part desks'
+      → IsServing coming closed failed listens moments objects alone faults config found port n e (take used desks) part → IsServing coming closed failed listens moments objects alone faults config found port used e desks desks'
+  first_serve config found port used n e desks part desks' is f (inl (fails, end)) =
+      inl (door_fails used desks part desks' f (subst (λ k. DoorFails coming closed failed listens moments objects alone faults k (take used desks) part) is fails), end)
+  first_serve config found port used n e desks part desks' is f (inr w) =
       inr (workers_serve config found port used e desks part desks' f (subst (λ k. WorkersServe coming closed failed listens moments objects alone faults config found port k e (take used desks) part) is w))
 
-  pub failed_desks : (config : Config) (found : List Step) (port used n : ℕ) (desks part desks' : List (Desk N W C L)) → n ≡ used → Front used desks part desks'
-      → DoorFails coming closed failed listens moments objects alone faults n (take used desks) part → IsServing coming closed failed listens moments objects alone faults config found port used serve_end.ListenerFault desks desks'
-  failed_desks config found port used n desks part desks' is f w =
-      inl (door_fails used desks part desks' f (subst (λ k. DoorFails coming closed failed listens moments objects alone faults k (take used desks) part) is w), refl)
+  -- with no desk no worker ended
+  pub none_serve : (hub : TableId) (config : Config) (found : List Step) (port n : ℕ) (first last : List (Desk N W C L)) → n ≡ 0 → WorkersServe coming closed failed listens moments objects alone faults config found port n (serve_end.Closed 0) first last
+  none_serve hub config found port n first last none = record {
+    hub = hub;
+    each = λ i d less. absurd (omega (arith, less, none));
+    end = ap (λ k. all_end (map (λ (d : Desk N W C L). d.end) (take k last))) (sym none);
+  }
 
   pub serves_at : (config : Config) (found : List Step) (port used workers : ℕ) (e : ServeEnd) (end : End) (old new : Outside) (desks part desks' : List (Desk N W C L)) → used ≡ min workers (length desks) → Front used desks part desks' → end ≡ end_of e → OpensServer config found old new
       → IsServing coming closed failed listens moments objects alone faults config found port used e desks desks' → Serves coming closed failed listens moments objects alone faults port workers old new end desks desks'
@@ -167,6 +173,15 @@ opens_server config callers hub passes old mid looks configured opens = record {
 pub hosted_runs : (port workers : ℕ) (config : Config) (found : List Step) (e : ServeEnd) (end : End) (old mid : Outside) → LooksOnly old mid → end ≡ end_of e → OpensServer config found old mid → Runs (Some (command.Serve port workers)) old mid end
 hosted_runs port workers config found e end old mid looks is opens = record {
   means = inr (e, is, (config, found, opens));
+  notes = ap (λ o. o.noted) looks.rest;
+  note_faults = ap (λ o. o.note_faults) looks.rest;
+  grows = looks.looked.grows;
+  same = looks.looked.same;
+}
+
+pub unhosted_runs : (port workers : ℕ) (why : NoServer) (end : End) (old mid : Outside) → LooksOnly old mid → end ≡ end_without why → IsUnserved why old mid → Runs (Some (command.Serve port workers)) old mid end
+unhosted_runs port workers why end old mid looks is unserved = record {
+  means = inl (why, is, unserved);
   notes = ap (λ o. o.noted) looks.rest;
   note_faults = ap (λ o. o.note_faults) looks.rest;
   grows = looks.looked.grows;

@@ -5,3 +5,4 @@ pub mod Numbers
 pub mod Seating
 mod Hosting
 pub mod Calling
+mod Acting

@@ -138,11 +138,16 @@ told_runs asked old mid new end runs tells =
       same = subst (λ o. OnFalse (is_stdio asked) (OnTrue old.alone (o ≡ old.objects))) objects runs.same;
     }
 
--- ---- want of memory before anything was done
+-- ---- words that are no command
 
 on_true : {X : Type 0} (b : Bool) (x : X) → OnTrue b (x ≡ x)
 on_true true x = refl
 on_true false x = tt
+
+pub wordless_runs : (o : Outside) → Runs None o o ends.Words
+wordless_runs o = record { means = (refl, refl); notes = refl; note_faults = refl; grows = Grows-itself o.objects; same = on_true o.alone o.objects }
+
+-- ---- want of memory before anything was done
 
 on_false : (b : Bool) (A : Type 0) → A → OnFalse b A
 on_false true A a = tt

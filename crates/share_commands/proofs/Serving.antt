@@ -34,7 +34,7 @@ use Rattle.turn_cell.specs.Passes.{AllFresh, fresh}
 use Rattle.share_commands.specs.Configuration.{config_at, config_name, config_of, if_config}
 use Rattle.query_command.specs.Outside.{Outside}
 use Rattle.share_commands.specs.Steps.{Runs}
-use Rattle.share_commands.specs.Stdio.{Configures, HasReason, Opens, RefusesRecord, end_after, end_without, record_in, shelf_of}
+use Rattle.share_commands.specs.Stdio.{Configures, HasReason, IsUnserved, Opens, RefusesRecord, end_after, end_without, record_in, shelf_of}
 use Rattle.share_commands.specs.StdioSteps.{LooksOnly, OpensFor, ServesOne, without_hub, without_load}
 use Rattle.share_commands.specs.declared.opening.NoServer.{NoServer}
 use Rattle.share_commands.specs.declared.words.Command.TheVariants as command
@@ -161,9 +161,12 @@ cause_behind (session_end.NoMemory served) n m a b c o p q le cause = tt
 
 -- ---- a run
 
+pub unserved : (why : NoServer) (old new : Outside) → LooksOnly old new → HasReason why old.objects new.objects old.store_faults new.store_faults → IsUnserved why old new
+unserved why old new looks reason = record { reason = reason; left = ap (λ o. o.left) looks.rest; held = ap (λ o. o.held) looks.rest; coming = ap (λ o. o.coming) looks.rest; same = looks.looked.same }
+
 pub unserved_runs : (why : NoServer) (old new : Outside) → LooksOnly old new → HasReason why old.objects new.objects old.store_faults new.store_faults → Runs (Some command.Stdio) old new (end_without why)
 unserved_runs why old new looks reason = record {
-  means = inl (why, refl, record { reason = reason; left = ap (λ o. o.left) looks.rest; held = ap (λ o. o.held) looks.rest; coming = ap (λ o. o.coming) looks.rest; same = looks.looked.same });
+  means = inl (why, refl, unserved why old new looks reason);
   notes = ap (λ o. o.noted) looks.rest;
   note_faults = ap (λ o. o.note_faults) looks.rest;
   grows = looks.looked.grows;

@@ -1,5 +1,5 @@
 // The commands.
-ghost use Rattle.std.specs.Prelude.{◌≡◌, ◌≤◌, ℕ, Some};
+ghost use Rattle.std.specs.Prelude.{◌≡◌, Some};
 ghost use Rattle.share_commands.specs.Clients.{UsesWay};
 ghost use Rattle.query_command.specs.Ends.{status};
 ghost use Rattle.share_commands.specs.Expected.{IsExact, IsExactAlone};
@@ -8,11 +8,11 @@ ghost use Rattle.share_commands.specs.Serve.{UsesDesks};
 ghost use Rattle.share_commands.specs.Steps.{Runs};
 ghost use Rattle.share_commands.specs.Words.{command_in};
 ghost use Rattle.query_command.specs.declared.ends.End.{End};
-ghost use Rattle.share_commands.specs.declared.words.Command.TheVariants.{Rehearse, Serve};
+ghost use Rattle.share_commands.specs.declared.words.Command.TheVariants.{Rehearse};
 
 use crate::client::client;
-use crate::serve::serve;
-use crate::stdio::stdio;
+use crate::serve::{serve, used_desks};
+use crate::stdio::{end_without, open_over, stdio};
 use crate::words::{Command, HELP, VERSION, command_of};
 use edge_core::{Clock, Gate, Link, Listener, Sink, Source, Store};
 use query_command::{Edge, End, print, query, tell};
@@ -34,48 +34,6 @@ fn rehearsal<R: Wait, S: Source, K: Sink, M: Sink, W: Store, C: Clock, G: Gate, 
     match rehearse(rt, alloc, number) {
         Ok(text) => print(edge, text.as_str().as_bytes()),
         Err(_) => End::NoMemory,
-    }
-}
-
-// Runs a command, up to the notes.
-fn answer<
-    R: Threads + Wait + Sync,
-    S: Source,
-    K: Sink,
-    M: Sink,
-    W: Store + Send,
-    C: Clock + Send,
-    N: Listener + Send,
-    G: Gate + Sync,
-    L: Send,
-    V: Link,
->(
-    rt: &R,
-    alloc: Global,
-    command: Option<Command>,
-    edge: &mut Edge<S, K, M, W, C, G, L>,
-    desks: &mut [Desk<N, W, C, L>],
-    way: &mut V,
-) -> End
-    requires workers { (port workers : ℕ) → command ≡ Some (Serve port workers) → (1 ≤ workers) × (workers ≤ 64) }
-    ensures runs { Runs command edge.old edge.new result }
-    ensures desks { UsesDesks N.coming N.closed N.faults N.listens C.coming W.objects W.alone W.faults command edge.old edge.new result desks.old desks.new }
-    ensures way { UsesWay V.coming V.closed V.faults V.read_faults V.write_faults command edge.old edge.new result way.old way.new }
-{
-    match command {
-        Some(Command::Help) => print(edge, HELP.as_bytes()),
-        Some(Command::Version) => print(edge, VERSION.as_bytes()),
-        Some(Command::Query(location)) => query(alloc, location.name(), edge),
-        Some(Command::Stdio) => stdio(rt, alloc, edge),
-        Some(Command::Rehearse(number)) => rehearsal(rt, alloc, number, edge),
-        Some(Command::Serve { port, workers }) => serve(rt, alloc, port, workers, edge, desks),
-        Some(
-            Command::Client {
-                profile,
-                call_words,
-            },
-        ) => client(alloc, &profile, call_words, edge, way),
-        None => End::Words,
     }
 }
 
@@ -132,15 +90,30 @@ pub fn run<
     ensures exact { IsExact words.now edge.old edge.new result }
     ensures alone { IsExactAlone words.now edge.old edge.new result }
 {
-    match command_of(alloc, words) {
-        Ok(command) => {
-            let end = answer(rt, alloc, command, edge, desks, way);
-            tell(edge, &end);
-            end.status()
-        }
-        Err(_) => {
-            tell(edge, &End::NoMemory);
-            End::NoMemory.status()
-        }
-    }
+    let end = match command_of(alloc, words) {
+        Ok(Some(Command::Help)) => print(edge, HELP.as_bytes()),
+        Ok(Some(Command::Version)) => print(edge, VERSION.as_bytes()),
+        Ok(Some(Command::Query(location))) => query(alloc, location.name(), edge),
+        Ok(Some(Command::Stdio)) => stdio(rt, alloc, edge),
+        Ok(Some(Command::Rehearse(number))) => rehearsal(rt, alloc, number, edge),
+        Ok(Some(Command::Serve { port, workers })) => match open_over(alloc, workers, edge) {
+            Ok(opened) => {
+                let used = used_desks(workers, desks.len());
+                serve(rt, alloc, opened, port, &mut desks[..used], &edge.gate)
+            }
+            Err(why) => end_without(why),
+        },
+        Ok(
+            Some(
+                Command::Client {
+                    profile,
+                    call_words,
+                },
+            ),
+        ) => client(alloc, &profile, call_words, edge, way),
+        Ok(None) => End::Words,
+        Err(_) => End::NoMemory,
+    };
+    tell(edge, &end);
+    end.status()
 }

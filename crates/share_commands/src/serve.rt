@@ -1,21 +1,19 @@
 // The command `serve`.
-ghost use Rattle.std.specs.Prelude.{◌≡◌, ◌<◌, ◌≤◌, ℕ, List, MatchOption, Some, None, drop, length, min, slice_index_or};
+ghost use Rattle.std.specs.Prelude.{◌≡◌, ◌<◌, ◌≤◌, ℕ, List, Some, length, min, slice_index_or};
 ghost use Rattle.std.specs.Bool.{OnFalse, OnTrue};
 ghost use Rattle.edge_core.specs.Faults.{Rose};
 ghost use Rattle.share_book.specs.declared.entry.Entry.{Entry};
 ghost use Rattle.share_hub.specs.CatalogCalls.{Step};
 ghost use Rattle.share_hub.specs.Opens.{first_history};
 ghost use Rattle.share_config.specs.declared.config.Config.{Config};
+ghost use Rattle.share_pool.specs.declared.desk.ServeEnd.{ServeEnd};
 ghost use Rattle.share_serve.specs.Callers.{server_of};
 ghost use Rattle.turn_cell.specs.Passes.{AllFresh};
-ghost use Rattle.share_commands.specs.Serve.{AllWait, DoorFails, Serves, Waits, WorkersServe, end_of as end_is};
-ghost use Rattle.share_commands.specs.Steps.{Runs};
-ghost use Rattle.share_commands.specs.declared.words.Command.TheVariants.{Serve};
+ghost use Rattle.share_commands.specs.Serve.{AllWait, DoorFails, IsServing, Waits, end_of as end_is};
 
 use crate::opening::Opened;
-use crate::stdio::{end_without, open_over};
-use edge_core::{Clock, Gate, Listener, Listening, Sink, Source, Store};
-use query_command::{Edge, End};
+use edge_core::{Clock, Gate, Listener, Listening, Store};
+use query_command::End;
 use share_hub::HubPass;
 use share_pool::{Desk, ServeEnd, serve_all};
 use std::alloc::Global;
@@ -73,44 +71,8 @@ fn make_all_ready<N: Listener, W: Store, C: Clock, L>(
     true
 }
 
-// Has a worker at each desk serve what comes to the port. None where a door can't listen.
-fn serve_at<
-    R: Threads + Wait + Sync,
-    W: Store + Send,
-    C: Clock + Send,
-    N: Listener + Send,
-    G: Gate + Sync,
-    L: Send,
->(
-    rt: &R,
-    alloc: Global,
-    opened: Opened,
-    port: u16,
-    desks: &mut [Desk<N, W, C, L>],
-    gate: &G,
-) -> Option<ServeEnd>
-    requires enough { length desks.old ≤ length opened.passes.items }
-    requires fresh { (h : List Entry) × AllFresh opened.hub h 0 opened.passes.items }
-    ensures count { length desks.new ≡ length desks.old }
-    ensures serves { (config : Config) (found : List Step) → opened.server ≡ server_of config → AllFresh opened.hub (first_history found) 0 opened.passes.items
-        → MatchOption result (DoorFails N.coming N.closed N.faults N.listens C.coming W.objects W.alone W.faults (length desks.old) desks.old desks.new) (λ e. WorkersServe N.coming N.closed N.faults N.listens C.coming W.objects W.alone W.faults config found port (length desks.old) e desks.old desks.new) }
-{
-    let Opened {
-        server,
-        hub,
-        passes,
-    } = opened;
-    if !make_all_ready(desks, passes, port) {
-        return None;
-    }
-    if desks.is_empty() {
-        return Some(ServeEnd::Closed { served: 0 });
-    }
-    Some(serve_all(rt, alloc, &hub, &server, desks, gate))
-}
-
-// At how many desks workers serve, of so many.
-fn used_desks(workers: u32, count: usize) -> usize
+/// At how many desks workers serve, of so many: at the first desks, and at all where there are fewer than workers.
+pub(crate) fn used_desks(workers: u32, count: usize) -> usize
     ensures { result ≡ min workers count }
 {
     if (workers as usize) < count {
@@ -120,37 +82,32 @@ fn used_desks(workers: u32, count: usize) -> usize
     }
 }
 
-/// Opens a server over the store, and has as many workers serve the connections that come to the port, each at a desk of its own: at
-/// the first desks, and at all where there are fewer. It comes back where every worker has ended.
+/// Has a worker at each desk serve the connections that come to the port, by a server that is opened. It comes back where every worker
+/// has ended, or, with no worker begun, where a door can't listen.
 pub(crate) fn serve<
     R: Threads + Wait + Sync,
-    S: Source,
-    K: Sink,
-    M: Sink,
     W: Store + Send,
     C: Clock + Send,
     N: Listener + Send,
     G: Gate + Sync,
     L: Send,
->(
-    rt: &R,
-    alloc: Global,
-    port: u16,
-    workers: u32,
-    edge: &mut Edge<S, K, M, W, C, G, L>,
-    desks: &mut [Desk<N, W, C, L>],
-) -> End
-    requires workers { (1 ≤ workers) × (workers ≤ 64) }
-    ensures runs { Runs (Some (Serve port workers)) edge.old edge.new result }
-    ensures desks { Serves N.coming N.closed N.faults N.listens C.coming W.objects W.alone W.faults port workers edge.old edge.new result desks.old desks.new }
+>(rt: &R, alloc: Global, opened: Opened, port: u16, desks: &mut [Desk<N, W, C, L>], gate: &G) -> End
+    requires enough { length desks.old ≤ length opened.passes.items }
+    requires fresh { (h : List Entry) × AllFresh opened.hub h 0 opened.passes.items }
+    ensures count { length desks.new ≡ length desks.old }
+    ensures serves { (config : Config) (found : List Step) → opened.server ≡ server_of config → AllFresh opened.hub (first_history found) 0 opened.passes.items
+        → (e : ServeEnd) × (result ≡ end_is e) × IsServing N.coming N.closed N.faults N.listens C.coming W.objects W.alone W.faults config found port (length desks.old) e desks.old desks.new }
 {
-    let opened = match open_over(alloc, workers, edge) {
-        Ok(opened) => opened,
-        Err(why) => return end_without(why),
-    };
-    let used = used_desks(workers, desks.len());
-    match serve_at(rt, alloc, opened, port, &mut desks[..used], &edge.gate) {
-        Some(end) => end_of(end),
-        None => End::ListenerFault,
+    let Opened {
+        server,
+        hub,
+        passes,
+    } = opened;
+    if !make_all_ready(desks, passes, port) {
+        return End::ListenerFault;
     }
+    if desks.is_empty() {
+        return End::Done;
+    }
+    end_of(serve_all(rt, alloc, &hub, &server, desks, gate))
 }

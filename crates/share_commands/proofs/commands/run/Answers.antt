@@ -1,68 +1,80 @@
-use Rattle.std.proofs.Common.{◌∙◌, Option, sym, subst}
+use Rattle.std.proofs.Common.{◌≡◌, ◌≤◌, ◌++◌, ◌∙◌, length, min, take, drop, Some, None, refl, sym, ap, subst, arith, inl}
+use Rattle.std.proofs.lemmas.List.{length-take}
 use Rattle.query_command.specs.Ends.{note}
-use Rattle.query_command.specs.declared.ends.End.TheVariants as ends
-use Rattle.share_commands.specs.Clients.{UsesWay}
-use Rattle.share_commands.specs.Serve.{UsesDesks}
 use Rattle.share_commands.specs.Steps.{Runs}
 use Rattle.share_commands.specs.Words.{command_in}
-use Rattle.share_commands.specs.declared.words.Command.{Command}
-use Rattle.share_commands.proofs.Calling.{way_still, way_told}
-use Rattle.share_commands.proofs.Hosting.{desks_still, desks_told}
+use Rattle.share_commands.specs.declared.words.Command.TheVariants as command
+use Rattle.share_commands.proofs.Acting.{Acts, acts_as}
+use Rattle.share_commands.proofs.Calling.{client_runs, way_still, way_told}
+use Rattle.share_commands.proofs.Hosting.{Front, desks_still, desks_told, first_serve, hosted_runs, opens_server, serves_at, unhosted_runs}
 use Rattle.share_commands.proofs.Laws.{alone_law, exact_law}
 use Rattle.share_commands.proofs.Numbers.{workers_bounded}
-use Rattle.share_commands.proofs.Runs.{runs_still, told_runs}
+use Rattle.share_commands.proofs.Runs.{help_runs, query_runs, runs_still, told_runs, version_runs, wordless_runs}
+use Rattle.share_commands.proofs.Serving.{unserved}
+use Rattle.share_commands.proofs.commands.run.Goals.{in-Ok-Some-Help, in-Ok-Some-Version, in-Ok-Some-Query, in-Ok-Some-Stdio, in-Ok-Some-Rehearse, in-Ok-Some-Serve, in-Ok, in-Err-open_over, in-Ok-Some-Client, in-Ok-None, in-Err}
 use Rattle.share_commands.proofs.commands.run.Goals as goal
 
-pub answer-end-requires-clause-workers : goal.answer-end-requires-clause-workers
-answer-end-requires-clause-workers g c κs within = λ port workers is. workers_bounded c.args.words.now port workers (sym c.in-Ok.ensures ∙ is)
+pub open_over-requires : goal.open_over-requires
+open_over-requires g c =
+    let bounds = workers_bounded c.args.words.now c.in-Ok-Some-Serve.port c.in-Ok-Some-Serve.workers (sym c.in-Ok-Some-Serve.ensures ∙ c.in-Ok-Some-Serve.field-0-is ∙ ap Some c.in-Ok-Some-Serve.field-0-0-is) in
+    let most = bounds.1 in
+    record { callers = (bounds.0, omega (arith, most)) }
 
--- ---- the words were read
-
-pub returns-in-Ok-clause-cause : goal.returns-in-Ok-clause-cause
-returns-in-Ok-clause-cause g c =
+pub returns-clause-cause : goal.returns-clause-cause
+returns-clause-cause g c =
     let asked = command_in c.args.words.now in
     let was = c.args.edge.now in
-    let mid = c.answer-end.new.edge in
-    let end = c.answer-end.result in
-    let runs = subst (λ (x : Option Command). Runs x was mid end) c.in-Ok.ensures c.answer-end.ensures.runs in
-    let desks = subst (λ (x : Option Command). UsesDesks g.N.Listener.coming g.N.Listener.closed g.N.Listener.faults g.N.Listener.listens g.C.Clock.coming g.W.Store.objects g.W.Store.alone g.W.Store.faults x was mid end c.args.desks.now c.answer-end.new.desks) c.in-Ok.ensures c.answer-end.ensures.desks in
-    let way = subst (λ (x : Option Command). UsesWay g.V.Link.coming g.V.Link.closed g.V.Link.faults g.V.Link.read_faults g.V.Link.write_faults x was mid end c.args.way.now c.answer-end.new.way) c.in-Ok.ensures c.answer-end.ensures.way in (
+    let mid = c.match-command_of.edge in
+    let end = c.match-command_of.end in
+    let desks = c.args.desks.now in
+    let way = c.args.way.now in
+    let same = acts_as g.N.Listener.coming g.N.Listener.closed g.N.Listener.faults g.N.Listener.listens g.C.Clock.coming g.W.Store.objects g.W.Store.alone g.W.Store.faults g.V.Link.coming g.V.Link.closed g.V.Link.faults g.V.Link.read_faults g.V.Link.write_faults in
+    let acts : Acts g.N.Listener.coming g.N.Listener.closed g.N.Listener.faults g.N.Listener.listens g.C.Clock.coming g.W.Store.objects g.W.Store.alone g.W.Store.faults g.V.Link.coming g.V.Link.closed g.V.Link.faults g.V.Link.read_faults g.V.Link.write_faults asked was mid end desks c.match-command_of.desks way c.match-command_of.way' = elim c.match-command_of.branch [
+      | in-Ok-Some-Help w ↦ same (Some command.Help) _ _ _ _ _ _ _ _ _ _ _ _ (ap Some (sym w.in-Ok-Some-Help.field-0-0-is) ∙ sym w.in-Ok-Some-Help.field-0-is ∙ w.in-Ok-Some-Help.ensures) w.edge-is w.end-is w.desks-is w.way'-is (record { runs = help_runs _ _ _ _ w.as_bytes.ensures.value w.print-end.ensures.prints; by_desks = refl; by_way = refl })
+      | in-Ok-Some-Version w ↦ same (Some command.Version) _ _ _ _ _ _ _ _ _ _ _ _ (ap Some (sym w.in-Ok-Some-Version.field-0-0-is) ∙ sym w.in-Ok-Some-Version.field-0-is ∙ w.in-Ok-Some-Version.ensures) w.edge-is w.end-is w.desks-is w.way'-is (record { runs = version_runs _ _ _ _ w.as_bytes-in-Ok-Some-Version.ensures.value w.print-end-in-Ok-Some-Version.ensures.prints; by_desks = refl; by_way = refl })
+      | in-Ok-Some-Query w ↦ same (Some (command.Query w.in-Ok-Some-Query.location)) _ _ _ _ _ _ _ _ _ _ _ _ (ap Some (sym w.in-Ok-Some-Query.field-0-0-is) ∙ sym w.in-Ok-Some-Query.field-0-is ∙ w.in-Ok-Some-Query.ensures) w.edge-is w.end-is w.desks-is w.way'-is (record { runs = subst (λ l. Runs (Some (command.Query l)) was w.query-end.new.edge w.query-end.result) w.name.ensures.value (query_runs _ _ _ _ w.query-end.ensures); by_desks = refl; by_way = refl })
+      | in-Ok-Some-Stdio w ↦ same (Some command.Stdio) _ _ _ _ _ _ _ _ _ _ _ _ (ap Some (sym w.in-Ok-Some-Stdio.field-0-0-is) ∙ sym w.in-Ok-Some-Stdio.field-0-is ∙ w.in-Ok-Some-Stdio.ensures) w.edge-is w.end-is w.desks-is w.way'-is (record { runs = w.stdio-end.ensures; by_desks = refl; by_way = refl })
+      | in-Ok-Some-Rehearse w ↦ same (Some (command.Rehearse w.in-Ok-Some-Rehearse.number)) _ _ _ _ _ _ _ _ _ _ _ _ (ap Some (sym w.in-Ok-Some-Rehearse.field-0-0-is) ∙ sym w.in-Ok-Some-Rehearse.field-0-is ∙ w.in-Ok-Some-Rehearse.ensures) w.edge-is w.end-is w.desks-is w.way'-is (record { runs = w.rehearsal-end.ensures; by_desks = refl; by_way = refl })
+      | in-Ok-Some-Serve w ↦
+          let port = w.in-Ok-Some-Serve.port in
+          let workers = w.in-Ok-Some-Serve.workers in
+          let next = w.open_over.new.edge in
+          let asks = ap Some (sym w.in-Ok-Some-Serve.field-0-0-is) ∙ sym w.in-Ok-Some-Serve.field-0-is ∙ w.in-Ok-Some-Serve.ensures in
+          elim w.match-open_over.branch [
+            | in-Ok v ↦
+                let looks = v.in-Ok.ensures.looks in
+                let opened = v.in-Ok.ensures.opened in
+                let config = opened.0.0 in
+                let found = opened.1.found in
+                let opens = opens_server config workers v.in-Ok.opened.hub v.in-Ok.opened.passes.items was next looks opened.0.2 opened.1 in
+                let used = v.used_desks-used.result in
+                let part = v.serve.new.desks in
+                let is : used ≡ min workers (length desks) = v.used_desks-used.ensures in
+                let few : length (take used desks) ≡ used = (let a = length-take used desks in omega (arith, a, is)) in
+                let most : used ≤ length desks = omega (arith, is) in
+                let front : Front g.N.Listener.coming g.N.Listener.closed g.N.Listener.faults g.N.Listener.listens g.C.Clock.coming g.W.Store.objects g.W.Store.alone g.W.Store.faults used desks part (part ++ drop used desks) = record { most = most; count = v.serve.ensures.count ∙ few; rest = refl } in
+                let serves = v.serve.ensures.serves config found opened.0.1 opened.1.begin in
+                let by_desks = serves_at g.N.Listener.coming g.N.Listener.closed g.N.Listener.faults g.N.Listener.listens g.C.Clock.coming g.W.Store.objects g.W.Store.alone g.W.Store.faults config found port used workers serves.0 v.serve.result was next desks part (part ++ drop used desks) is front serves.1 opens (first_serve g.N.Listener.coming g.N.Listener.closed g.N.Listener.faults g.N.Listener.listens g.C.Clock.coming g.W.Store.objects g.W.Store.alone g.W.Store.faults config found port used (length (take used desks)) serves.0 desks part (part ++ drop used desks) few front serves.2) in
+                same (Some (command.Serve port workers)) _ _ _ _ _ _ _ _ _ _ _ _ asks w.edge-is (w.end-is ∙ v.end-is) (w.desks-is ∙ v.desks-is) w.way'-is (record { runs = hosted_runs port workers config found serves.0 v.serve.result was next looks serves.1 opens; by_desks = by_desks; by_way = refl })
+            | in-Err-open_over v ↦
+                let why = v.in-Err-open_over.why in
+                let looks = v.in-Err-open_over.ensures.looks in
+                let none = unserved why was next looks v.in-Err-open_over.ensures.opened in
+                same (Some (command.Serve port workers)) _ _ _ _ _ _ _ _ _ _ _ _ asks w.edge-is (w.end-is ∙ v.end-is) (w.desks-is ∙ v.desks-is) w.way'-is (record { runs = unhosted_runs port workers why v.end_without.result was next looks v.end_without.ensures none; by_desks = inl (why, v.end_without.ensures, none, refl); by_way = refl })
+          ]
+      | in-Ok-Some-Client w ↦ same (Some (command.Client w.in-Ok-Some-Client.profile w.in-Ok-Some-Client.call_words)) _ _ _ _ _ _ _ _ _ _ _ _ (ap Some (sym w.in-Ok-Some-Client.field-0-0-is) ∙ sym w.in-Ok-Some-Client.field-0-is ∙ w.in-Ok-Some-Client.ensures) w.edge-is w.end-is w.desks-is w.way'-is (record { runs = client_runs g.V.Link.coming g.V.Link.closed g.V.Link.faults g.V.Link.read_faults g.V.Link.write_faults w.in-Ok-Some-Client.profile w.in-Ok-Some-Client.call_words was w.client-end.new.edge w.client-end.result way w.client-end.new.way w.client-end.ensures.runs w.client-end.ensures.notes; by_desks = refl; by_way = w.client-end.ensures.runs })
+      | in-Ok-None w ↦ same None _ _ _ _ _ _ _ _ _ _ _ _ (sym w.in-Ok-None.field-0-is ∙ w.in-Ok-None.ensures) w.edge-is w.end-is w.desks-is w.way'-is (record { runs = wordless_runs was; by_desks = refl; by_way = refl })
+      | in-Err w ↦ same asked _ _ _ _ _ _ _ _ _ _ _ _ refl w.edge-is w.end-is w.desks-is w.way'-is (record { runs = runs_still asked was; by_desks = desks_still g.N.Listener.coming g.N.Listener.closed g.N.Listener.faults g.N.Listener.listens g.C.Clock.coming g.W.Store.objects g.W.Store.alone g.W.Store.faults asked was desks; by_way = way_still g.V.Link.coming g.V.Link.closed g.V.Link.faults g.V.Link.read_faults g.V.Link.write_faults asked was way })
+    ] in (
       end,
       c.status.ensures,
-      told_runs _ _ _ _ _ runs c.tell.ensures,
-      desks_told g.N.Listener.coming g.N.Listener.closed g.N.Listener.faults g.N.Listener.listens g.C.Clock.coming g.W.Store.objects g.W.Store.alone g.W.Store.faults asked was mid c.tell.new.edge (note end) end c.args.desks.now c.answer-end.new.desks c.tell.ensures desks,
-      way_told g.V.Link.coming g.V.Link.closed g.V.Link.faults g.V.Link.read_faults g.V.Link.write_faults asked was mid c.tell.new.edge (note end) end c.args.way.now c.answer-end.new.way c.tell.ensures way,
+      told_runs _ _ _ _ _ acts.runs c.tell.ensures,
+      desks_told g.N.Listener.coming g.N.Listener.closed g.N.Listener.faults g.N.Listener.listens g.C.Clock.coming g.W.Store.objects g.W.Store.alone g.W.Store.faults asked was mid c.tell.new.edge (note end) end desks c.match-command_of.desks c.tell.ensures acts.by_desks,
+      way_told g.V.Link.coming g.V.Link.closed g.V.Link.faults g.V.Link.read_faults g.V.Link.write_faults asked was mid c.tell.new.edge (note end) end way c.match-command_of.way' c.tell.ensures acts.by_way,
     )
 
-pub returns-in-Ok-clause-exact : goal.returns-in-Ok-clause-exact
-returns-in-Ok-clause-exact g c =
-    let runs = subst (λ (x : Option Command). Runs x c.args.edge.now c.answer-end.new.edge c.answer-end.result) c.in-Ok.ensures c.answer-end.ensures.runs in
-    exact_law c.args.words.now c.args.edge.now c.tell.new.edge c.answer-end.result _ c.status.ensures (told_runs _ _ _ _ _ runs c.tell.ensures)
+pub returns-clause-exact : goal.returns-clause-exact
+returns-clause-exact g c = let cause = returns-clause-cause g c in exact_law c.args.words.now c.args.edge.now c.tell.new.edge cause.0 _ cause.1 cause.2
 
-pub returns-in-Ok-clause-alone : goal.returns-in-Ok-clause-alone
-returns-in-Ok-clause-alone g c =
-    let runs = subst (λ (x : Option Command). Runs x c.args.edge.now c.answer-end.new.edge c.answer-end.result) c.in-Ok.ensures c.answer-end.ensures.runs in
-    alone_law c.args.words.now c.args.edge.now c.tell.new.edge c.answer-end.result _ c.status.ensures (told_runs _ _ _ _ _ runs c.tell.ensures)
-
--- ---- memory was wanting for it
-
-pub returns-in-Err-clause-cause : goal.returns-in-Err-clause-cause
-returns-in-Err-clause-cause g c =
-    let asked = command_in c.args.words.now in
-    let was = c.args.edge.now in (
-      ends.NoMemory,
-      c.status-in-Err.ensures,
-      told_runs _ _ _ _ _ (runs_still asked was) c.tell-in-Err.ensures,
-      desks_told g.N.Listener.coming g.N.Listener.closed g.N.Listener.faults g.N.Listener.listens g.C.Clock.coming g.W.Store.objects g.W.Store.alone g.W.Store.faults asked was was c.tell-in-Err.new.edge (note ends.NoMemory) ends.NoMemory c.args.desks.now c.args.desks.now c.tell-in-Err.ensures
-          (desks_still g.N.Listener.coming g.N.Listener.closed g.N.Listener.faults g.N.Listener.listens g.C.Clock.coming g.W.Store.objects g.W.Store.alone g.W.Store.faults asked was c.args.desks.now),
-      way_told g.V.Link.coming g.V.Link.closed g.V.Link.faults g.V.Link.read_faults g.V.Link.write_faults asked was was c.tell-in-Err.new.edge (note ends.NoMemory) ends.NoMemory c.args.way.now c.args.way.now c.tell-in-Err.ensures
-          (way_still g.V.Link.coming g.V.Link.closed g.V.Link.faults g.V.Link.read_faults g.V.Link.write_faults asked was c.args.way.now),
-    )
-
-pub returns-in-Err-clause-exact : goal.returns-in-Err-clause-exact
-returns-in-Err-clause-exact g c =
-    exact_law c.args.words.now c.args.edge.now c.tell-in-Err.new.edge ends.NoMemory _ c.status-in-Err.ensures (told_runs _ _ _ _ _ (runs_still (command_in c.args.words.now) c.args.edge.now) c.tell-in-Err.ensures)
-
-pub returns-in-Err-clause-alone : goal.returns-in-Err-clause-alone
-returns-in-Err-clause-alone g c =
-    alone_law c.args.words.now c.args.edge.now c.tell-in-Err.new.edge ends.NoMemory _ c.status-in-Err.ensures (told_runs _ _ _ _ _ (runs_still (command_in c.args.words.now) c.args.edge.now) c.tell-in-Err.ensures)
+pub returns-clause-alone : goal.returns-clause-alone
+returns-clause-alone g c = let cause = returns-clause-cause g c in alone_law c.args.words.now c.args.edge.now c.tell.new.edge cause.0 _ cause.1 cause.2
