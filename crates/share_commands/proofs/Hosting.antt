@@ -9,9 +9,9 @@ use Rattle.edge_core.specs.Lines.{ClosedLine}
 use Rattle.edge_core.specs.Objects.{Objects}
 use Rattle.share_book.specs.declared.entry.Entry.{Entry}
 use Rattle.share_config.specs.declared.config.Config.{Config}
-use Rattle.share_hub.specs.CatalogCalls.{Step}
-use Rattle.share_hub.specs.Calls.{P}
-use Rattle.share_hub.specs.Opens.{first_history}
+use Rattle.hub_catalog.specs.CatalogCalls.{Step}
+use Rattle.hub_calls.specs.Calls.{P}
+use Rattle.hub_catalog.specs.Opens.{first_history}
 use Rattle.share_pool.specs.Desks.{DeskWorks, HasPass, all_end}
 use Rattle.share_pool.specs.declared.desk.Desk.{Desk}
 use Rattle.share_pool.specs.declared.desk.ServeEnd.{ServeEnd}

@@ -22,7 +22,7 @@ use Rattle.share_commands.specs.declared.client.NoCall.TheVariants as no_call
 use Rattle.share_commands.specs.Run.{Because, IsText, TextEnds, IsRun, is_stdio}
 use Rattle.share_commands.specs.Steps.{Runs}
 use Rattle.share_config.specs.declared.config.Config.{Config}
-use Rattle.share_hub.specs.CatalogCalls.{Step}
+use Rattle.hub_catalog.specs.CatalogCalls.{Step}
 use Rattle.share_commands.specs.Serve.{IsServe, OpensServer}
 use Rattle.share_commands.specs.Stdio.{IsStdio, IsUnserved}
 use Rattle.share_commands.specs.declared.opening.NoServer.{NoServer}

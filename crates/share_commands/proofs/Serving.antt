@@ -18,13 +18,13 @@ use Rattle.catalog_log.specs.RecordNames.{record_name_of}
 use Rattle.share_config.specs.Configuration.{config_in}
 use Rattle.share_config.specs.declared.config.Config.{Config}
 use Rattle.share_book.specs.declared.entry.Entry.{Entry}
-use Rattle.share_hub.specs.Calls.{P}
-use Rattle.share_hub.specs.CatalogCalls.{Step}
-use Rattle.share_hub.specs.Edits.{AreSteps}
-use Rattle.share_hub.specs.Opens.{OpensAs, first_history, failed_open}
-use Rattle.share_hub.specs.declared.open.OpenRefusal.{OpenRefusal}
-use Rattle.share_hub.specs.declared.open.OpenRefusal.TheVariants as refusal
-use Rattle.share_hub.proofs.Rounding.{steps_wider}
+use Rattle.hub_calls.specs.Calls.{P}
+use Rattle.hub_catalog.specs.CatalogCalls.{Step}
+use Rattle.hub_catalog.specs.Edits.{AreSteps}
+use Rattle.hub_catalog.specs.Opens.{OpensAs, first_history, failed_open}
+use Rattle.hub_catalog.specs.declared.open.OpenRefusal.{OpenRefusal}
+use Rattle.hub_catalog.specs.declared.open.OpenRefusal.TheVariants as refusal
+use Rattle.hub_catalog.proofs.Rounding.{steps_wider}
 use Rattle.share_serve.specs.Callers.{server_of}
 use Rattle.share_serve.specs.Sessions.{HasCause, IsSession}
 use Rattle.share_serve.specs.Sides.{hold, side}

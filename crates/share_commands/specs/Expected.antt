@@ -15,7 +15,7 @@ use Rattle.share_commands.specs.Configuration.{config_at}
 use Rattle.share_commands.specs.Words.{command_in}
 use Rattle.query_command.specs.Ends.{status, note}
 use Rattle.query_command.specs.Query.{asked_in}
-use Rattle.share_hub.specs.CatalogCalls.{Step}
+use Rattle.hub_catalog.specs.CatalogCalls.{Step}
 use Rattle.share_commands.specs.Serve.{OpensServer, end_of}
 use Rattle.share_commands.specs.Stdio.{IsServed, IsUnserved, end_after}
 use Rattle.share_pool.specs.declared.desk.ServeEnd.{ServeEnd}

@@ -7,9 +7,9 @@ use Rattle.edge_core.specs.Objects.{Lacks, Objects}
 use Rattle.catalog_log.specs.RecordNames.{record_name_of}
 use Rattle.log_store.specs.Loads.{Looked}
 use Rattle.share_config.specs.declared.config.Config.{Config}
-use Rattle.share_hub.specs.CatalogCalls.{Step}
-use Rattle.share_hub.specs.Edits.{AreSteps}
-use Rattle.share_hub.specs.Opens.{first_history}
+use Rattle.hub_catalog.specs.CatalogCalls.{Step}
+use Rattle.hub_catalog.specs.Edits.{AreSteps}
+use Rattle.hub_catalog.specs.Opens.{first_history}
 use Rattle.share_pool.specs.Desks.{DeskWorks, all_end}
 use Rattle.share_pool.specs.declared.desk.Desk.{Desk}
 use Rattle.share_pool.specs.declared.desk.ServeEnd.{ServeEnd}

@@ -6,12 +6,12 @@ use Rattle.edge_core.specs.Objects.{Objects, Between, Lacks}
 use Rattle.catalog_log.specs.RecordNames.{record_name_of}
 use Rattle.log_store.specs.Loads.{Looked}
 use Rattle.share_config.specs.declared.config.Config.{Config}
-use Rattle.share_hub.specs.CatalogCalls.{Step}
-use Rattle.share_hub.specs.Calls.{P}
-use Rattle.share_hub.specs.Edits.{AreSteps}
-use Rattle.share_hub.specs.Opens.{OpensAs, first_history}
-use Rattle.share_hub.specs.declared.open.OpenRefusal.{OpenRefusal}
-use Rattle.share_hub.specs.declared.open.OpenRefusal.TheVariants as refusal
+use Rattle.hub_catalog.specs.CatalogCalls.{Step}
+use Rattle.hub_calls.specs.Calls.{P}
+use Rattle.hub_catalog.specs.Edits.{AreSteps}
+use Rattle.hub_catalog.specs.Opens.{OpensAs, first_history}
+use Rattle.hub_catalog.specs.declared.open.OpenRefusal.{OpenRefusal}
+use Rattle.hub_catalog.specs.declared.open.OpenRefusal.TheVariants as refusal
 use Rattle.share_serve.specs.Callers.{server_of}
 use Rattle.share_serve.specs.Sessions.{HasCause, IsSession}
 use Rattle.share_serve.specs.Sides.{hold, shelf, side}

@@ -7,12 +7,12 @@ use Rattle.log_store.specs.Loads.{Looked}
 use Rattle.log_store.specs.declared.refusal.LoadRefusal.{LoadRefusal}
 use Rattle.log_store.specs.declared.refusal.LoadRefusal.TheVariants as load
 use Rattle.share_config.specs.declared.config.Config.{Config}
-use Rattle.share_hub.specs.CatalogCalls.{Step}
-use Rattle.share_hub.specs.Calls.{P}
-use Rattle.share_hub.specs.Edits.{AreSteps}
-use Rattle.share_hub.specs.Opens.{first_history}
-use Rattle.share_hub.specs.declared.open.OpenRefusal.{OpenRefusal}
-use Rattle.share_hub.specs.declared.open.OpenRefusal.TheVariants as refusal
+use Rattle.hub_catalog.specs.CatalogCalls.{Step}
+use Rattle.hub_calls.specs.Calls.{P}
+use Rattle.hub_catalog.specs.Edits.{AreSteps}
+use Rattle.hub_catalog.specs.Opens.{first_history}
+use Rattle.hub_catalog.specs.declared.open.OpenRefusal.{OpenRefusal}
+use Rattle.hub_catalog.specs.declared.open.OpenRefusal.TheVariants as refusal
 use Rattle.share_serve.specs.Callers.{server_of}
 use Rattle.share_serve.specs.Sessions.{HasCause, IsSession}
 use Rattle.share_serve.specs.Sides.{hold, side}

@@ -3,8 +3,8 @@ ghost use Rattle.std.specs.Prelude.{◌≡◌, ◌<◌, ◌≤◌, ℕ, List, So
 ghost use Rattle.std.specs.Bool.{OnFalse, OnTrue};
 ghost use Rattle.edge_core.specs.Faults.{Rose};
 ghost use Rattle.share_book.specs.declared.entry.Entry.{Entry};
-ghost use Rattle.share_hub.specs.CatalogCalls.{Step};
-ghost use Rattle.share_hub.specs.Opens.{first_history};
+ghost use Rattle.hub_catalog.specs.CatalogCalls.{Step};
+ghost use Rattle.hub_catalog.specs.Opens.{first_history};
 ghost use Rattle.share_config.specs.declared.config.Config.{Config};
 ghost use Rattle.share_pool.specs.declared.desk.ServeEnd.{ServeEnd};
 ghost use Rattle.share_serve.specs.Callers.{server_of};

@@ -1,7 +1,7 @@
 // The command `stdio`.
 ghost use Rattle.std.specs.Prelude.{◌≡◌, ◌∷◌, [], ◌≤◌, List, length, Some};
 ghost use Rattle.share_book.specs.declared.entry.Entry.{Entry};
-ghost use Rattle.share_hub.specs.Calls.{P};
+ghost use Rattle.hub_calls.specs.Calls.{P};
 ghost use Rattle.turn_cell.specs.Passes.{AllFresh};
 ghost use Rattle.share_commands.specs.Steps.{Runs};
 ghost use Rattle.share_commands.specs.Stdio.{end_after as end_is, end_without as end_with_none};

@@ -1,25 +1,11 @@
 -- What a look keeps, and what is found again.
-use Rattle.std.proofs.Common.{◌≡◌, ℕ, List, [], Option, Some, None, Result, Ok, Err, sym, ◌∙◌, subst}
+use Rattle.std.proofs.Common.{List, Option, Some, None, Result, Ok, Err, subst}
 use Rattle.std.specs.Prelude.{IfSome, OnOk}
-use Rattle.std.proofs.lemmas.List.{append-nil}
 use mathlib.Core.List.{IsPrefix}
-use Rattle.log_replay.specs.Standing.{Standing, standing_of}
-use Rattle.share_book.specs.Bases.{FilesStand, MakesHead}
-use Rattle.share_book.specs.History.{open_on, table_on}
-use Rattle.share_book.specs.Legal.{There}
-use Rattle.share_book.specs.TableView.{TableLog}
-use Rattle.share_book.specs.declared.replay.Replay.{Replay}
-use Rattle.share_book.specs.declared.table.LogState.{LogState}
-use Rattle.share_book.proofs.Bookkeeping.{there_at}
+use Rattle.share_book.specs.Bases.{FilesStand}
 use Rattle.share_book.specs.declared.entry.Entry.{Entry}
 use Rattle.share_book.specs.declared.look.Seen.{Seen}
 use Rattle.share_book.proofs.FilesStanding.{stands_later}
-use Rattle.share_hub.specs.Calls.{P}
-use Rattle.share_hub.specs.RefreshRounds.{OpensOn}
-use Rattle.share_hub.specs.TableCalls.{GoesOn}
-use Rattle.share_hub.specs.TableRounds.{HoldsHead}
-use Rattle.share_hub.proofs.CommitSteps.{same_table}
-use Rattle.share_hub.proofs.TablePasses.{adds_then, with_none}
 
 -- files that were found are still states of their logs
 pub found_later : (o : Option Seen) (h k : List Entry) → IsPrefix h k → IfSome o (λ s. FilesStand h s.found) → IfSome o (λ s. FilesStand k s.found)
@@ -30,26 +16,3 @@ found_later (Some s) h k p w = subst (λ (x : List Entry). FilesStand x s.found)
 pub on_ok : {A E : Type 0} (r : Result A E) (P Q : Type 0) → (P → Q) → OnOk r P → OnOk r Q
 on_ok (Ok x) P Q f p = f p
 on_ok (Err e) P Q f p = tt
-
--- ---- a log's head
-
--- nothing was found in two calls
-pub goes_again : (p q r : P) (j : ℕ) → GoesOn p q j [] → GoesOn q r j [] → GoesOn p r j []
-goes_again p q r j a b = record { added = adds_then p q r [] [] a.added b.added; holder = b.holder; table = same_table q r j b ∙ a.table }
-
-pub goes_none : (p : P) (j : ℕ) → open_on j p.seen ≡ Some p.number → GoesOn p p j []
-goes_none p j o = record { added = sym (append-nil _); holder = o; table = with_none (table_on j p.seen) }
-
--- what is known of the log on which was begun
-pub head_held : (p q : P) (j : ℕ) (s : LogState) (support : Standing) (o : OpensOn p j s) → s.block ≡ None → GoesOn p q j [] → support ≡ standing_of o.log.commits
-    → HoldsHead q j (record { support = support; bytes = s.bytes })
-head_held p q j s support o free g stands = record {
-  log = o.log;
-  holds = record { log = o.holds.log; holder = g.holder; table = same_table p q j g ∙ o.holds.table };
-  free = sym o.state.block ∙ free;
-  head = record { kept = o.kept; stands = stands; counted = o.state.bytes };
-}
-
--- what makes the head of the log on which was begun
-pub makes_there : (p : P) (j : ℕ) (s : LogState) (o : OpensOn p j s) (r : Option Replay) → There (table_on j p.seen) (λ t. MakesHead t.commits r) → MakesHead o.log.commits r
-makes_there p j s o r w = there_at (table_on j p.seen) o.log (λ (t : TableLog). MakesHead t.commits r) o.holds.table w

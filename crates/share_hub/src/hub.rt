@@ -4,10 +4,7 @@ ghost use Rattle.std.specs.Prelude.{◌≡◌};
 use share_book::Book;
 use std::alloc::Global;
 use std::marker::Model;
-use turn_cell::{Pass, TurnCell};
-
-/// A caller's place at a hub.
-pub type HubPass = Pass<Book>;
+use turn_cell::TurnCell;
 
 /// The server's shared state: one book, which callers have in turn. No turn is held over a call of a store.
 #[derive(Drop)]
@@ -15,20 +12,23 @@ pub struct Hub {
     pub(crate) cell: TurnCell<Book>,
 }
 
-// The hub as one caller uses it: its cell, the handle with which the caller waits for its turns, and the memory that it takes.
-#[derive(Drop)]
-pub(crate) struct Caller<'a, R> {
-    pub(crate) cell: &'a TurnCell<Book>,
-    pub(crate) rt: &'a R,
-    pub(crate) alloc: Global,
-}
-
 impl Hub {
-    // The hub as the caller with this handle and this memory uses it.
-    pub(crate) fn caller<'a, R>(&'a self, rt: &'a R, alloc: Global) -> Caller<'a, R>
+    // The catalogue's calls for the caller with this handle and this memory.
+    pub(crate) fn catalog<'a, R>(&'a self, rt: &'a R, alloc: Global) -> hub_catalog::Caller<'a, R>
         ensures { result.cell.now ≡ self.now }
     {
-        Caller {
+        hub_catalog::Caller {
+            cell: &self.cell,
+            rt,
+            alloc,
+        }
+    }
+
+    // The calls on tables' logs for the caller with this handle and this memory.
+    pub(crate) fn tables<'a, R>(&'a self, rt: &'a R, alloc: Global) -> hub_tables::Caller<'a, R>
+        ensures { result.cell.now ≡ self.now }
+    {
+        hub_tables::Caller {
             cell: &self.cell,
             rt,
             alloc,

@@ -3,30 +3,29 @@ ghost use Rattle.std.specs.Prelude.{◌≡◌, [], false, IfOk, IfSome, OnOk, le
 ghost use Rattle.share_book.specs.Bases.{CanReplay, FilesStand, MakesFound};
 ghost use Rattle.share_book.specs.Looks.{commits_of, glance_of, look_of, who_of};
 ghost use Rattle.share_book.specs.Views.{view_by};
-ghost use Rattle.share_hub.specs.Calls.{Adds, IsIdle};
+ghost use Rattle.hub_calls.specs.Calls.{Adds, IsIdle};
 ghost use Rattle.share_hub.specs.Replays.{Replayed};
 
-use crate::hub::{Caller, Hub, HubPass};
+use crate::hub::Hub;
+use hub_calls::HubPass;
 use share_book::{Ask, Look, Pinned};
 use std::alloc::{AllocError, Global};
 use std::sync::Wait;
 use step_count::Steps;
 
-impl<'a, R: Wait> Caller<'a, R> {
+impl Hub {
     // Keeps the state of the files that were found, where memory is there for it.
-    fn keep_found(&self, pass: &mut HubPass, look: &Look)
-        requires cell { (pass.old.cell ≡ self.now.cell.now) × (pass.old.holds ≡ false) }
+    fn keep_found<R: Wait>(&self, rt: &R, pass: &mut HubPass, look: &Look)
+        requires cell { (pass.old.cell ≡ self.now) × (pass.old.holds ≡ false) }
         requires found { IfSome look.now.seen (λ s. FilesStand pass.old.seen s.found) }
         ensures same { IsIdle pass.old pass.new }
         ensures added { Adds pass.old pass.new [] }
     {
-        let mut turn = self.cell.take(self.rt, pass);
+        let mut turn = self.cell.take(rt, pass);
         turn.value.keep(look).ok();
         self.cell.give(pass, turn);
     }
-}
 
-impl Hub {
     /// What one turn gives of a look: all of it but the files, and what makes these. The state with which they begin is the one used
     /// last. The error is want of memory.
     pub fn pin<R: Wait>(
@@ -80,7 +79,7 @@ impl Hub {
         if !is_behind {
             return Ok(look);
         }
-        self.caller(rt, alloc).keep_found(pass, &look);
+        self.keep_found(rt, pass, &look);
         self.pin(rt, alloc, pass, ask)?.complete(alloc, steps)
     }
 }

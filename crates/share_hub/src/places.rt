@@ -2,10 +2,11 @@
 ghost use Rattle.std.specs.Prelude.{◌≡◌, [], false, IfOk};
 ghost use mathlib.Core.List.{IsPrefix};
 ghost use Rattle.share_book.specs.Legal.{locations_of};
-ghost use Rattle.share_hub.specs.Calls.{Adds, IsIdle};
+ghost use Rattle.hub_calls.specs.Calls.{Adds, IsIdle};
 
-use crate::hub::{Hub, HubPass};
+use crate::hub::Hub;
 use edge_core::Name;
+use hub_calls::HubPass;
 use std::alloc::{AllocError, Global};
 use std::sync::Wait;
 

@@ -4,13 +4,13 @@ use Rattle.std.proofs.lemmas.List.{take_more}
 use Rattle.edge_core.specs.Faults.{Cause}
 use Rattle.log_store.specs.Loads.{Looked}
 use Rattle.share_book.specs.Legal.{locations_of}
-use Rattle.share_hub.specs.Calls.{Adds, IsIdle, P}
-use Rattle.share_hub.specs.LogRefreshes.{Refreshes, failed_refresh}
-use Rattle.share_hub.specs.Refreshes as catalog
-use Rattle.share_hub.specs.declared.found.CatalogRefusal.{CatalogRefusal}
-use Rattle.share_hub.specs.declared.refresh.RefreshRefusal.{RefreshRefusal}
-use Rattle.share_hub.specs.declared.refresh.Refreshed.{Refreshed as LogState}
-use Rattle.share_hub.specs.declared.refresh_catalog.RefreshedCatalog.{RefreshedCatalog}
+use Rattle.hub_calls.specs.Calls.{Adds, IsIdle, P}
+use Rattle.hub_tables.specs.LogRefreshes.{Refreshes, failed_refresh}
+use Rattle.hub_catalog.specs.Refreshes as catalog
+use Rattle.hub_catalog.specs.declared.found.CatalogRefusal.{CatalogRefusal}
+use Rattle.hub_tables.specs.declared.refresh.RefreshRefusal.{RefreshRefusal}
+use Rattle.hub_tables.specs.declared.refresh.Refreshed.{Refreshed as LogState}
+use Rattle.hub_catalog.specs.declared.refresh_catalog.RefreshedCatalog.{RefreshedCatalog}
 use Rattle.share_serve.specs.Sides.{hold}
 use Rattle.share_serve.specs.Turns.{Grew, Hold, Shelf}
 use Rattle.share_serve.proofs.Holds.{grew_on, looked, replied}

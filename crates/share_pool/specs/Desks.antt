@@ -5,7 +5,7 @@ use Rattle.std.specs.Option.{IsSomeAnd}
 use Rattle.atomic_table.specs.Seated.{TableId}
 use Rattle.edge_core.specs.Lines.{ClosedLine}
 use Rattle.edge_core.specs.Objects.{Objects}
-use Rattle.share_hub.specs.Calls.{IsIdle, P}
+use Rattle.hub_calls.specs.Calls.{IsIdle, P}
 use Rattle.share_serve.specs.Sides.{held}
 use Rattle.share_serve.specs.declared.server.Server.{Server}
 use Rattle.share_pool.specs.Posts.{Post, post}

@@ -3,12 +3,12 @@ use Rattle.std.specs.Prelude.{◌≡◌, ◌⊎◌, ℕ, ◌<◌, ◌≤◌, Lis
 use Rattle.edge_core.specs.Faults.{Cause}
 use Rattle.log_store.specs.Loads.{Looked}
 use Rattle.share_book.specs.Legal.{locations_of}
-use Rattle.share_hub.specs.Calls.{Adds}
-use Rattle.share_hub.specs.Refreshes as catalog
-use Rattle.share_hub.specs.declared.found.CatalogRefusal.{CatalogRefusal}
-use Rattle.share_hub.specs.declared.refresh.RefreshRefusal.{RefreshRefusal}
-use Rattle.share_hub.specs.declared.refresh.Refreshed.{Refreshed as LogState}
-use Rattle.share_hub.specs.declared.refresh_catalog.RefreshedCatalog.{RefreshedCatalog}
+use Rattle.hub_calls.specs.Calls.{Adds}
+use Rattle.hub_catalog.specs.Refreshes as catalog
+use Rattle.hub_catalog.specs.declared.found.CatalogRefusal.{CatalogRefusal}
+use Rattle.hub_tables.specs.declared.refresh.RefreshRefusal.{RefreshRefusal}
+use Rattle.hub_tables.specs.declared.refresh.Refreshed.{Refreshed as LogState}
+use Rattle.hub_catalog.specs.declared.refresh_catalog.RefreshedCatalog.{RefreshedCatalog}
 use Rattle.share_serve.specs.Turns.{Grew, Hold, Sought}
 
 -- A refresh of the catalogue, by its answer. Where no further record is there it adds no entry.

@@ -1,6 +1,6 @@
 // One worker.
 ghost use Rattle.std.specs.Prelude.{◌≡◌, false, if◌then◌else◌};
-ghost use Rattle.share_hub.specs.Calls.{IsIdle};
+ghost use Rattle.hub_calls.specs.Calls.{IsIdle};
 ghost use Rattle.share_serve.specs.Sides.{held};
 ghost use Rattle.share_pool.specs.Desks.{DeskWorks, HasPass};
 ghost use Rattle.share_pool.specs.Posts.{post};

@@ -1,6 +1,6 @@
 // What others stored is taken over, before a connection is served.
 ghost use Rattle.std.specs.Prelude.{◌≡◌, false};
-ghost use Rattle.share_hub.specs.Calls.{IsIdle};
+ghost use Rattle.hub_calls.specs.Calls.{IsIdle};
 ghost use Rattle.share_serve.specs.Sides.{held};
 ghost use Rattle.share_pool.specs.Refreshing.{LogRefreshes, Refreshed, TakesCommits, TakesRecords};
 

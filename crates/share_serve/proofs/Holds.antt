@@ -4,8 +4,8 @@ use Rattle.std.proofs.lemmas.List.{append-nil}
 use Rattle.std.specs.Bool.{OnTrue}
 use Rattle.edge_core.specs.Objects.{Grows}
 use Rattle.edge_core.proofs.Growth.{Grows-itself, Grows-on}
-use Rattle.share_hub.specs.Calls.{Adds, IsIdle, P}
-use Rattle.share_hub.proofs.Passes.{idle_more}
+use Rattle.hub_calls.specs.Calls.{Adds, IsIdle, P}
+use Rattle.hub_calls.proofs.Passes.{idle_more}
 use Rattle.share_serve.specs.Sides.{hold}
 use Rattle.share_serve.specs.Turns.{Grew, Hold, Shelf}
 use Rattle.share_serve.proofs.Basics.{prefix_self}

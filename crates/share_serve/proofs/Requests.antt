@@ -5,7 +5,7 @@ use Rattle.std.specs.Io.KnownBytes.{append_known}
 use mathlib.Core.List.{IsPrefix}
 use Rattle.edge_core.specs.Clocks.{Ticks}
 use Rattle.http_message.specs.Sessions.{Request as Message}
-use Rattle.share_hub.specs.Calls.{P}
+use Rattle.hub_calls.specs.Calls.{P}
 use Rattle.share_request.specs.Requests.{request_in}
 use Rattle.share_request.specs.declared.asked.Request.{Request}
 use Rattle.share_serve.specs.Callers.{By, by_request}

@@ -7,13 +7,13 @@ use Rattle.commit_check.specs.declared.conflict.Conflict.{Conflict}
 use Rattle.commit_check.specs.declared.conflict.Conflict.TheVariants as conflict
 use Rattle.share_catalog.specs.declared.edit.EditRefusal.{EditRefusal}
 use Rattle.share_catalog.specs.declared.edit.EditRefusal.TheVariants as edit_refusal
-use Rattle.share_hub.specs.declared.commit.CommitRefusal.{CommitRefusal}
-use Rattle.share_hub.specs.declared.commit.CommitRefusal.TheVariants as commit_refusal
-use Rattle.share_hub.specs.declared.edit.EditEnd.{EditEnd}
-use Rattle.share_hub.specs.declared.edit.EditEnd.TheVariants as edit_end
-use Rattle.share_hub.specs.declared.refresh.RefreshRefusal.{RefreshRefusal}
-use Rattle.share_hub.specs.declared.refresh.RefreshRefusal.TheVariants as refresh_refusal
-use Rattle.share_hub.specs.declared.refresh.Refreshed.{Refreshed}
+use Rattle.hub_tables.specs.declared.commit.CommitRefusal.{CommitRefusal}
+use Rattle.hub_tables.specs.declared.commit.CommitRefusal.TheVariants as commit_refusal
+use Rattle.hub_catalog.specs.declared.edit.EditEnd.{EditEnd}
+use Rattle.hub_catalog.specs.declared.edit.EditEnd.TheVariants as edit_end
+use Rattle.hub_tables.specs.declared.refresh.RefreshRefusal.{RefreshRefusal}
+use Rattle.hub_tables.specs.declared.refresh.RefreshRefusal.TheVariants as refresh_refusal
+use Rattle.hub_tables.specs.declared.refresh.Refreshed.{Refreshed}
 use Rattle.share_reply.specs.Refusing.{Refused, plain}
 use Rattle.share_serve.specs.Responses.{json_response, refusal_response}
 use Rattle.share_serve.specs.declared.response.Response.{Response}

@@ -2,7 +2,7 @@
 use Rattle.std.specs.Prelude.{ℕ, Bool, true, List, Option}
 use Rattle.edge_core.specs.Objects.{Objects}
 use Rattle.http_wire.specs.Streams.{Buffer, stream}
-use Rattle.share_hub.specs.Calls.{P}
+use Rattle.hub_calls.specs.Calls.{P}
 use Rattle.share_serve.specs.Turns.{Hold, Shelf, Side, State}
 
 abbrev pub shelf : Option Objects → Bool → ℕ → Shelf

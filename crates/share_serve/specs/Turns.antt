@@ -17,14 +17,14 @@ use Rattle.http_wire.specs.Streams.{Moves, Told}
 use Rattle.log_store.specs.Loads.{Looked}
 use Rattle.share_book.specs.declared.entry.Entry.{Entry}
 use Rattle.share_catalog.specs.declared.edit.Edit.{Edit}
-use Rattle.share_hub.specs.Calls.{Adds, IsIdle, P}
-use Rattle.share_hub.specs.Commits.{CommitLeaves, Commits, failed_commit}
-use Rattle.share_hub.specs.Edits.{Edits, Leaves, failed_edit}
-use Rattle.share_hub.specs.LogRefreshes.{Refreshes, failed_refresh}
-use Rattle.share_hub.specs.declared.commit.CommitRefusal.{CommitRefusal}
-use Rattle.share_hub.specs.declared.edit.EditEnd.{EditEnd}
-use Rattle.share_hub.specs.declared.refresh.RefreshRefusal.{RefreshRefusal}
-use Rattle.share_hub.specs.declared.refresh.Refreshed.{Refreshed}
+use Rattle.hub_calls.specs.Calls.{Adds, IsIdle, P}
+use Rattle.hub_tables.specs.Commits.{CommitLeaves, Commits, failed_commit}
+use Rattle.hub_catalog.specs.Edits.{Edits, Leaves, failed_edit}
+use Rattle.hub_tables.specs.LogRefreshes.{Refreshes, failed_refresh}
+use Rattle.hub_tables.specs.declared.commit.CommitRefusal.{CommitRefusal}
+use Rattle.hub_catalog.specs.declared.edit.EditEnd.{EditEnd}
+use Rattle.hub_tables.specs.declared.refresh.RefreshRefusal.{RefreshRefusal}
+use Rattle.hub_tables.specs.declared.refresh.Refreshed.{Refreshed}
 use Rattle.share_reply.specs.Bodies.{reply_of}
 use Rattle.share_reply.specs.Refusing.{plain}
 use Rattle.share_reply.specs.Replies.{answered_at}

@@ -1,6 +1,6 @@
 // The loop of a session.
 ghost use Rattle.std.specs.Prelude.{◌≡◌, ◌≤◌, ◌<◌, ◌+◌, ℕ, [], None, MatchOption, IfOk, true, false};
-ghost use Rattle.share_hub.specs.Calls.{Adds, IsIdle};
+ghost use Rattle.hub_calls.specs.Calls.{Adds, IsIdle};
 ghost use Rattle.share_reply.specs.Replies.{seen_for, view_for};
 ghost use Rattle.share_serve.specs.CallerViews.{by_call};
 ghost use Rattle.share_serve.specs.Callers as by;

@@ -1,5 +1,5 @@
 use Rattle.std.proofs.Common.{◌||◌, [], ◌∷◌, ◌++◌, ◌∙◌, ap, arith}
-use Rattle.share_hub.proofs.Passes.{idle_more}
+use Rattle.hub_calls.proofs.Passes.{idle_more}
 use Rattle.share_serve.specs.Sides.{held}
 use Rattle.share_pool.specs.Posts.{post}
 use Rattle.share_pool.proofs.Attending.{attends}

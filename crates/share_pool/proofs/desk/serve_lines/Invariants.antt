@@ -1,5 +1,5 @@
 use Rattle.std.proofs.Common.{◌≡◌, ◌≤◌, ◌-◌, ◌^◌, min, length, List}
-use Rattle.share_hub.specs.Calls.{IsIdle}
+use Rattle.hub_calls.specs.Calls.{IsIdle}
 use Rattle.share_serve.specs.Sides.{held}
 use Rattle.share_pool.specs.Posts.{post}
 use Rattle.share_pool.specs.Visits.{Attended, Visit, any_lacks}

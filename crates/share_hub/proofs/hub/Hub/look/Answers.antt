@@ -7,7 +7,7 @@ use Rattle.share_book.specs.Views.{view_by}
 use Rattle.share_book.specs.declared.look.Seen.{Seen}
 use Rattle.share_book.proofs.Looking.{glances_become_looks, look_stands}
 use Rattle.share_hub.proofs.Keeping.{on_ok}
-use Rattle.share_hub.proofs.Passes.{prefix_more}
+use Rattle.hub_calls.proofs.Passes.{prefix_more}
 use Rattle.share_hub.proofs.hub.Hub.look.Goals as goal
 
 pub returns-then-not-is_behind-clause-seen : goal.returns-then-not-is_behind-clause-seen

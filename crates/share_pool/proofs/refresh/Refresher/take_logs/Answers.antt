@@ -1,4 +1,4 @@
-use Rattle.share_hub.proofs.Passes.{idle_more}
+use Rattle.hub_calls.proofs.Passes.{idle_more}
 use Rattle.share_serve.specs.Sides.{hold, shelved}
 use Rattle.share_pool.proofs.Refreshes.{logs_more}
 use Rattle.share_pool.proofs.refresh.Refresher.take_logs.Goals as goal

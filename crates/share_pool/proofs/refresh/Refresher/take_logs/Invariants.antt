@@ -1,5 +1,5 @@
 use Rattle.std.proofs.Common.{take}
-use Rattle.share_hub.specs.Calls.{IsIdle}
+use Rattle.hub_calls.specs.Calls.{IsIdle}
 use Rattle.share_serve.specs.Sides.{held}
 use Rattle.share_pool.specs.Refreshing.{LogRefreshes}
 use Rattle.share_pool.proofs.refresh.Refresher.take_logs.Given as goal

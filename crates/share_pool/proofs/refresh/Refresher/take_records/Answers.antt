@@ -1,7 +1,7 @@
 use Rattle.std.proofs.Common.{◌+◌, ◌∙◌, ◌∷◌, [], ◌++◌, Ok, ap}
 use Rattle.std.proofs.lemmas.List.{length_push}
-use Rattle.share_hub.proofs.Passes.{idle_more}
-use Rattle.share_hub.specs.declared.refresh_catalog.RefreshedCatalog.{RefreshedCatalog}
+use Rattle.hub_calls.proofs.Passes.{idle_more}
+use Rattle.hub_catalog.specs.declared.refresh_catalog.RefreshedCatalog.{RefreshedCatalog}
 use Rattle.share_serve.specs.Sides.{hold, shelved}
 use Rattle.share_pool.specs.Refreshing.{CatalogRefresh}
 use Rattle.share_pool.proofs.Refreshes.{catalog_refresh, full_more}

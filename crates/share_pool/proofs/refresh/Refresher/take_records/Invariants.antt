@@ -1,6 +1,6 @@
 use Rattle.std.proofs.Common.{◌≡◌, List, length}
-use Rattle.share_hub.specs.Calls.{IsIdle}
-use Rattle.share_hub.specs.declared.refresh_catalog.RefreshedCatalog.{RefreshedCatalog}
+use Rattle.hub_calls.specs.Calls.{IsIdle}
+use Rattle.hub_catalog.specs.declared.refresh_catalog.RefreshedCatalog.{RefreshedCatalog}
 use Rattle.share_serve.specs.Sides.{held}
 use Rattle.share_serve.specs.Turns.{Hold}
 use Rattle.share_pool.specs.Refreshing.{AllFull, CatalogRefresh}

@@ -1,0 +1,9 @@
+pub mod Limits
+pub mod Loads
+pub mod CatalogPasses
+pub mod Rounding
+pub mod Recording
+pub mod Storing
+pub mod Making
+pub mod Refreshing
+pub mod Opening

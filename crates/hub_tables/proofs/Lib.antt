@@ -1,0 +1,9 @@
+pub mod TableRests
+pub mod TablePasses
+pub mod TableRounding
+pub mod LogSteps
+pub mod RefreshSteps
+pub mod Admissions
+pub mod CommitSteps
+pub mod CommitStores
+pub mod Heads

@@ -1,0 +1,10 @@
+pub mod TableTurns
+pub mod OfferLogs
+pub mod TableCalls
+pub mod FoundCommits
+pub mod TableRounds
+pub mod LogRefreshes
+pub mod RefreshRounds
+pub mod Additions
+pub mod Commits
+pub mod CommitRounds
