@@ -1,26 +1,36 @@
-//! The work that `bench/turns` measures: threads that each add entries to one value, under a cell or under a lock.
-//!
-//! Words: `cell` or `lock`, the number of threads (1 to 65), the number of turns of each. With other words, or none, it does
-//! nothing. It prints nothing: the script has the clock.
-
-ghost use Rattle.std.specs.Prelude.{◌≡◌, ◌<◌, ◌≤◌, IfSome, length, All, false};
+// Threads that each add entries to one value, under a cell or under a lock.
+ghost use Rattle.std.specs.Prelude.{◌≡◌, ◌<◌, ◌≤◌, length, All, false};
 
 mod page;
 
 use crate::turns::page::Page;
-use crate::words::{number_at, word_at};
 use std::alloc::{AllocError, Global};
-use std::process::ExitCode;
 use std::sync::{Mutex, Wait};
+use std::thread;
 use std::thread::Threads;
-use std::{io, thread};
 use turn_cell::{Pass, TurnCell};
 
-// How many threads there are, and how many turns each takes.
+/// How many threads there are, and how many turns each takes.
 #[derive(Clone, Copy)]
-struct Load {
+pub(crate) struct Load {
     threads: u32,
     turns: u32,
+    ghost within: { (1 ≤ threads) × (threads ≤ 65) },
+}
+
+impl Load {
+    /// What these words say.
+    pub(crate) fn of(words: &[String]) -> Option<Load> {
+        let [threads, turns] = words else {
+            return None;
+        };
+        let threads = threads.as_str().parse::<u32>().ok()?;
+        let turns = turns.as_str().parse::<u32>().ok()?;
+        if threads < 1 || threads > 65 {
+            return None;
+        }
+        Some(Load { threads, turns })
+    }
 }
 
 // Adds one entry in a turn of its own.
@@ -64,9 +74,12 @@ fn add_all<R: Threads + Wait + Sync>(
     );
 }
 
-fn run_cell<R: Threads + Wait + Sync>(rt: &R, alloc: Global, load: Load) -> Result<(), AllocError>
-    requires { (1 ≤ load.threads) × (load.threads ≤ 65) }
-{
+/// Under a cell.
+pub(crate) fn run_cell<R: Threads + Wait + Sync>(
+    rt: &R,
+    alloc: Global,
+    load: Load,
+) -> Result<(), AllocError> {
     let page = Page {
         entries: Vec::new(alloc),
     };
@@ -81,15 +94,17 @@ fn push_entries<R: Wait>(rt: &R, lock: &Mutex<Vec<u32>>, caller: u32, turns: u32
     }
 }
 
-fn run_lock<R: Threads + Wait + Sync>(rt: &R, alloc: Global, load: Load) -> Result<(), AllocError>
-    requires { (1 ≤ load.threads) × (load.threads ≤ 65) }
-{
-    let lock = Mutex::new(Vec::new(alloc));
+/// Under a lock.
+pub(crate) fn run_lock<R: Threads + Wait + Sync>(
+    rt: &R,
+    alloc: Global,
+    load: Load,
+) -> Result<(), AllocError> {
+    let lock = &Mutex::new(Vec::new(alloc));
     let mut callers = Vec::new(alloc);
     for caller in 0..load.threads {
         callers.push(caller)?;
     }
-    let lock = &lock;
     thread::for_each_mut(
         rt,
         callers.as_mut_slice(),
@@ -97,30 +112,4 @@ fn run_lock<R: Threads + Wait + Sync>(rt: &R, alloc: Global, load: Load) -> Resu
         &|_, caller| push_entries(rt, lock, *caller, load.turns),
     );
     Ok(())
-}
-
-fn load_of(words: &[String]) -> Option<Load>
-    ensures { IfSome result (λ load. (1 ≤ load.threads) × (load.threads ≤ 65)) }
-{
-    let (threads, turns) = (number_at(words, 1)?, number_at(words, 2)?);
-    if threads < 1 || threads > 65 {
-        return None;
-    }
-    Some(Load { threads, turns })
-}
-
-pub(crate) fn run<R: Threads + Wait + Sync>(
-    rt: &R,
-    host: &HostRuntime,
-    words: &[String],
-) -> io::Result<ExitCode> {
-    let Some(load) = load_of(words) else {
-        return Ok(ExitCode::SUCCESS);
-    };
-    match word_at(words, 0) {
-        Some("cell") => run_cell(rt, host.alloc(), load)?,
-        Some("lock") => run_lock(rt, host.alloc(), load)?,
-        _ => {}
-    }
-    Ok(ExitCode::SUCCESS)
 }
