@@ -1,6 +1,6 @@
 //! A store in a real folder, which each test makes for itself.
-use crate::calls::{get, have_texts, name, put, size};
-use edge_core::{Got, Listed, Measured, Name, Put, Store};
+use crate::calls::{LARGE, get, list, name, size};
+use edge_core::{Got, Measured, Name, Put, Store};
 use edge_std::FileStore;
 use std::alloc::{AllocError, Global};
 use std::fs::DirBuilder;
@@ -29,155 +29,130 @@ fn store_in(rt: &HostRuntime, folder: &str) -> Result<FileStore, AllocError> {
     Ok(FileStore::new(rt.clone()?, String::from_str(rt.alloc(), folder)?))
 }
 
-// Whether the object has those bytes, which are read into as much room.
-fn has_bytes(
-    alloc: Global,
-    store: &mut FileStore,
-    object: &str,
-    wanted: &[u8],
-    out: &mut [u8],
-) -> Result<bool, Fail> {
-    let first = get(alloc, store, object, 0, out)? == Got::Bytes(wanted.len()) && *out == *wanted;
-    let end = get(alloc, store, object, wanted.len() as u64, out)? == Got::Bytes(0);
-    let measured = size(alloc, store, object)? == Measured::Size(wanted.len() as u64);
-    Ok(first && end && measured)
-}
-
-// Whether the object has those bytes, one or more.
-fn holds(alloc: Global, store: &mut FileStore, object: &str, wanted: &[u8]) -> Result<bool, Fail> {
-    let mut out = vec![in alloc; 0u8; wanted.len()]?;
-    has_bytes(alloc, store, object, wanted, &mut out)
-}
-
-fn is_absent(alloc: Global, store: &mut FileStore, object: &str) -> Result<bool, Fail> {
-    Ok(
-        get(alloc, store, object, 0, &mut [0u8; 4])? == Got::Absent
-            && size(alloc, store, object)? == Measured::Absent,
-    )
-}
-
-// Whether the folder has the objects of those last segments, in order.
-fn lists(alloc: Global, store: &mut FileStore, dir: &str, wanted: &[&str]) -> Result<bool, Fail> {
-    let dir = name(alloc, dir)?;
-    match store.list(alloc, &dir) {
-        Listed::Names(names) => Ok(have_texts(names.items(), wanted)),
-        Listed::Failed | Listed::NoMemory => Err(Fail::from("the folder isn't listed")),
-    }
-}
-
-// Ends the test where this doesn't hold, and says what.
-fn must(holds: bool, what: &str) -> Result<(), Fail> {
-    if holds { Ok(()) } else { Err(Fail::from(what)) }
-}
-
 fn remove(rt: &HostRuntime, folder: &str) -> Result<(), Fail> {
     fs::remove_dir_all(rt, folder)?;
     Ok(())
 }
 
-fn store_once(rt: &HostRuntime, store: &mut FileStore) -> Result<(), Fail> {
-    let alloc = rt.alloc();
-    must(
-        is_absent(alloc, store, "t/_delta_log/0.json")?,
-        "nothing is there yet",
-    )?;
-    for (object, bytes, wanted) in [
-        ("t/_delta_log/0.json", b"abc".as_slice(), Put::Stored),
-        ("t/_delta_log/0.json", b"other".as_slice(), Put::Exists),
-        ("t/_delta_log/1.json", b"d".as_slice(), Put::Stored),
-    ] {
-        must(
-            put(alloc, store, object, bytes)? == wanted,
-            "a name is stored once",
-        )?;
+// What is done in a folder with its store, and what is to come of it.
+enum Step {
+    // A put of bytes under a name, and its answer.
+    Put(&'static str, &'static str, Put),
+    // The object has those bytes, and that size.
+    Has(&'static str, &'static str),
+    // Reading from a place on gives so many bytes, and leaves these three in the room, where dashes were.
+    Piece(&'static str, u64, usize, &'static str),
+    // No object has the name.
+    Absent(&'static str),
+    // Neither a read nor a look at the size is answered.
+    Fails(&'static str),
+    // The folder has objects of those last segments, in order, each with a space behind it.
+    Lists(&'static str, &'static str),
+    // A symbolic link to a target, at a path of the disk.
+    Link(&'static str, &'static str),
+    // A file that a program leaves which was stopped while it wrote.
+    Leave(&'static str),
+    // How many entries a folder of the disk has.
+    Entries(&'static str, usize),
+}
+
+// A name of 300 bytes.
+const LONG: &str =
+    "nnnnnnnnnnnnnnnnnnnnnnnnnnnnnnnnnnnnnnnnnnnnnnnnnnnnnnnnnnnnnnnnnnnnnnnnnnnnnnnnnnnnnnnnnnnnnnnnnnnnnnnnnnnnnnnnnnnnnnnnnnnnnnnnnnnnnnnnnnnnnnnnnnnnnnnnnnnnnnnnnnnnnnnnnnnnnnnnnnnnnnnnnnnnnnnnnnnnnnnnnnnnnnnnnnnnnnnnnnnnnnnnnnnnnnnnnnnnnnnnnnnnnnnnnnnnnnnnnnnnnnnnnnnnnnnnnnnnnnnnnnnnnnnnnnnnnnnnnnnn";
+
+static STEPS: [Step; 44] = [
+    // An object is stored once, and read again.
+    Step::Absent("t/_delta_log/0.json"),
+    Step::Put("t/_delta_log/0.json", "abc", Put::Stored),
+    Step::Put("t/_delta_log/0.json", "other", Put::Exists),
+    Step::Put("t/_delta_log/1.json", "d", Put::Stored),
+    Step::Has("t/_delta_log/0.json", "abc"),
+    Step::Lists("t/_delta_log", "0.json 1.json "),
+    // Folders are no objects. The folder's name is told, and nothing is there to be read. A file in a folder's place: the folder
+    // isn't there, and nothing is below it.
+    Step::Put("a/b/c", "c", Put::Stored),
+    Step::Put("a/b", "x", Put::Failed),
+    Step::Absent("a/b"),
+    Step::Absent("a/b/c/d"),
+    Step::Lists("a", "b "),
+    Step::Lists("a/b/c", ""),
+    Step::Lists("none", ""),
+    // A link to a file is the file; links to themselves, to nothing and to a folder are no objects. Each name is told, and what a
+    // failed put wrote is gone.
+    Step::Put("links/file", "f", Put::Stored),
+    Step::Link("file", "links/good"),
+    Step::Link("loop", "links/loop"),
+    Step::Link("none", "links/nowhere"),
+    Step::Link(".", "links/up"),
+    Step::Has("links/good", "f"),
+    Step::Absent("links/loop"),
+    Step::Absent("links/nowhere"),
+    Step::Absent("links/up"),
+    Step::Put("links/loop", "x", Put::Failed),
+    Step::Put("links/nowhere", "x", Put::Failed),
+    Step::Put("links/up", "x", Put::Failed),
+    Step::Lists("links", "file good loop nowhere up "),
+    Step::Entries("links", 5),
+    // Pieces are those of the named object: names in another order than their bytes', and names of one length.
+    Step::Put("d/b1", "first.", Put::Stored),
+    Step::Put("d/a2", "second", Put::Stored),
+    Step::Put("d/a", "third.", Put::Stored),
+    Step::Put("d/10", "fourth", Put::Stored),
+    Step::Piece("d/b1", 0, 3, "fir"),
+    Step::Piece("d/a2", 3, 3, "ond"),
+    Step::Piece("d/b1", 3, 3, "st."),
+    Step::Piece("d/b1", 6, 0, "---"),
+    Step::Lists("d", "10 a a2 b1 "),
+    // A name that is too long for the disk fails.
+    Step::Put(LONG, "x", Put::Failed),
+    Step::Fails(LONG),
+    // What has no name yet is passed over.
+    Step::Put("halves/one", "1", Put::Stored),
+    Step::Leave("halves/.share-put-0"),
+    Step::Put("halves/two", "22", Put::Stored),
+    Step::Lists("halves", "one two "),
+    Step::Absent("halves/.share-put-0"),
+    Step::Put("halves/.share-put-1", "x", Put::Failed),
+];
+
+// Whether the object has those bytes, one or more, and no more.
+fn has(alloc: Global, store: &mut FileStore, object: &str, wanted: &[u8]) -> Result<bool, Fail> {
+    let mut out = vec![in alloc; 0u8; wanted.len()]?;
+    let end = wanted.len() as u64;
+    Ok(
+        get(alloc, store, object, 0, &mut out)? == Got::Bytes(wanted.len())
+            && out.as_slice() == wanted
+            && get(alloc, store, object, end, &mut out)? == Got::Bytes(0)
+            && size(alloc, store, object)? == Measured::Size(end),
+    )
+}
+
+// Whether reading and looking at the size are answered so.
+fn is_answered(
+    alloc: Global,
+    store: &mut FileStore,
+    object: &str,
+    got: Got,
+    measured: Measured,
+) -> Result<bool, Fail> {
+    Ok(
+        get(alloc, store, object, 0, &mut [0u8; 4])? == got
+            && size(alloc, store, object)? == measured,
+    )
+}
+
+// The objects of a folder, each with a space behind it.
+fn listed(alloc: Global, store: &mut FileStore, dir: &str) -> Result<String, Fail> {
+    let mut text = String::new(alloc);
+    for name in list(alloc, store, dir)?.items() {
+        text.push_str(name.as_str())?;
+        text.push(' ')?;
     }
-    must(
-        holds(alloc, store, "t/_delta_log/0.json", b"abc")?,
-        "the first bytes stay",
-    )?;
-    must(
-        lists(alloc, store, "t/_delta_log", &["0.json", "1.json"])?,
-        "both are listed",
-    )?;
-    Ok(())
+    Ok(text)
 }
 
-#[test]
-fn stores_once_and_reads_again(rt: HostRuntime) -> Result<(), Fail> {
-    let folder = fresh_folder(&rt)?;
-    let mut store = store_in(&rt, folder.as_str())?;
-    store_once(&rt, &mut store)?;
-    remove(&rt, folder.as_str())
-}
-
-fn store_large(rt: &HostRuntime, store: &mut FileStore) -> Result<(), Fail> {
-    let alloc = rt.alloc();
-    let bytes = vec![in alloc; b'x'; 1_048_576]?;
-    must(put(alloc, store, "large", &bytes)? == Put::Stored, "stored")?;
-    must(holds(alloc, store, "large", &bytes)?, "whole")?;
-    Ok(())
-}
-
-#[test]
-fn stores_a_large_object(rt: HostRuntime) -> Result<(), Fail> {
-    let folder = fresh_folder(&rt)?;
-    let mut store = store_in(&rt, folder.as_str())?;
-    store_large(&rt, &mut store)?;
-    remove(&rt, folder.as_str())
-}
-
-fn pass_folders_over(rt: &HostRuntime, folder: &str, store: &mut FileStore) -> Result<(), Fail> {
-    let alloc = rt.alloc();
-    must(
-        put(alloc, store, "a/b/c", b"c")? == Put::Stored,
-        "a folder is made",
-    )?;
-    must(
-        put(alloc, store, "a/b", b"x")? == Put::Failed,
-        "no object in place of a folder",
-    )?;
-    // The folder's name is told, and nothing is there to be read. A file in a folder's place: the folder isn't there, and
-    // nothing is below it.
-    for object in ["a/b", "a/b/c/d"] {
-        must(is_absent(alloc, store, object)?, "no object")?;
-    }
-    must(lists(alloc, store, "a", &["b"])?, "the folder is told")?;
-    for dir in ["a/b/c", "none"] {
-        must(lists(alloc, store, dir, &[])?, "nothing is below a file")?;
-    }
-    Ok(())
-}
-
-#[test]
-fn folders_are_no_objects(rt: HostRuntime) -> Result<(), Fail> {
-    let folder = fresh_folder(&rt)?;
-    let mut store = store_in(&rt, folder.as_str())?;
-    pass_folders_over(&rt, folder.as_str(), &mut store)?;
-    remove(&rt, folder.as_str())
-}
-
-// Makes a link in the folder `d`.
-fn link_to(rt: &HostRuntime, folder: &str, target: &str, link: &str) -> Result<(), Fail> {
-    let path = format!(in rt.alloc(); "{folder}/d/{link}")?;
-    symlink(rt, target, path.as_str())?;
-    Ok(())
-}
-
-// Links to a file, to itself, to nothing and to the folder.
-fn link_all(rt: &HostRuntime, folder: &str) -> Result<(), Fail> {
-    for (target, link) in [
-        ("file", "good"),
-        ("loop", "loop"),
-        ("none", "nowhere"),
-        (".", "up"),
-    ] {
-        link_to(rt, folder, target, link)?;
-    }
-    Ok(())
-}
-
-// How many entries a folder has on the disk.
-fn entries_at(rt: &HostRuntime, path: &str) -> Result<usize, Fail> {
+// How many entries a folder of the disk has.
+fn entries(rt: &HostRuntime, path: &str) -> Result<usize, Fail> {
     let mut count = 0usize;
     for entry in fs::read_dir(rt, path)? {
         entry?;
@@ -186,142 +161,59 @@ fn entries_at(rt: &HostRuntime, path: &str) -> Result<usize, Fail> {
     Ok(count)
 }
 
-// The same of the folder `d`.
-fn entries(rt: &HostRuntime, folder: &str) -> Result<usize, Fail> {
-    let path = format!(in rt.alloc(); "{folder}/d")?;
-    entries_at(rt, path.as_str())
+// Whether a step of the disk's own comes so.
+fn is_made(rt: &HostRuntime, folder: &str, step: &Step) -> Result<bool, Fail> {
+    let (Step::Link(_, below) | Step::Leave(below) | Step::Entries(below, _)) = step else {
+        return Ok(false);
+    };
+    let path = format!(in rt.alloc(); "{folder}/{below}")?;
+    match step {
+        Step::Link(target, _) => symlink(rt, *target, path.as_str())?,
+        Step::Entries(_, count) => return Ok(entries(rt, path.as_str())? == *count),
+        _ => fs::write(rt, path.as_str(), b"half")?,
+    }
+    Ok(true)
 }
 
-fn pass_links_over(rt: &HostRuntime, folder: &str, store: &mut FileStore) -> Result<(), Fail> {
+// Whether a step comes so.
+fn holds(rt: &HostRuntime, folder: &str, store: &mut FileStore, step: &Step) -> Result<bool, Fail> {
     let alloc = rt.alloc();
-    must(put(alloc, store, "d/file", b"f")? == Put::Stored, "a file")?;
-    link_all(rt, folder)?;
-    must(
-        holds(alloc, store, "d/good", b"f")?,
-        "a link to a file is the file",
-    )?;
-    for link in ["d/loop", "d/nowhere", "d/up"] {
-        must(is_absent(alloc, store, link)?, link)?;
-        must(put(alloc, store, link, b"x")? == Put::Failed, link)?;
+    match step {
+        Step::Put(object, bytes, wanted) => {
+            let name = name(alloc, object)?;
+            Ok(store.put_absent(&name, bytes.as_bytes()) == *wanted)
+        }
+        Step::Has(object, bytes) => has(alloc, store, object, bytes.as_bytes()),
+        Step::Piece(object, from, count, room) => {
+            let mut out = *b"---";
+            let got = get(alloc, store, object, *from, &mut out)?;
+            Ok(got == Got::Bytes(*count) && out.as_slice() == room.as_bytes())
+        }
+        Step::Absent(object) => { is_answered(alloc, store, object, Got::Absent, Measured::Absent) }
+        Step::Fails(object) => is_answered(alloc, store, object, Got::Failed, Measured::Failed),
+        Step::Lists(dir, wanted) => Ok(listed(alloc, store, dir)?.as_str() == *wanted),
+        _ => is_made(rt, folder, step),
     }
-    // Each name is told, and what a failed put wrote is gone.
-    let names = ["file", "good", "loop", "nowhere", "up"];
-    must(lists(alloc, store, "d", &names)?, "each name is told")?;
-    must(
-        entries(rt, folder)? == names.len(),
-        "what a failed put wrote is gone",
-    )?;
-    Ok(())
+}
+
+// Whether an object of 1 MiB is stored and read again.
+fn stores_large(alloc: Global, store: &mut FileStore) -> Result<bool, Fail> {
+    let bytes = vec![in alloc; b'x'; LARGE]?;
+    let name = name(alloc, "large")?;
+    Ok(store.put_absent(&name, &bytes) == Put::Stored && has(alloc, store, "large", &bytes)?)
 }
 
 #[test]
-fn links_that_lead_to_no_file_are_no_objects(rt: HostRuntime) -> Result<(), Fail> {
+fn a_folder_is_a_store(rt: HostRuntime) -> Result<(), Fail> {
     let folder = fresh_folder(&rt)?;
     let mut store = store_in(&rt, folder.as_str())?;
-    pass_links_over(&rt, folder.as_str(), &mut store)?;
-    remove(&rt, folder.as_str())
-}
-
-fn read_pieces(rt: &HostRuntime, store: &mut FileStore) -> Result<(), Fail> {
-    let alloc = rt.alloc();
-    // Names in another order than their bytes', and names of one length.
-    for (object, bytes) in [
-        ("d/b1", b"first."),
-        ("d/a2", b"second"),
-        ("d/a", b"third."),
-        ("d/10", b"fourth"),
-    ] {
-        must(put(alloc, store, object, bytes)? == Put::Stored, object)?;
+    for (place, step) in STEPS.iter().enumerate() {
+        assert!(rt;
+            holds(&rt, folder.as_str(), &mut store, step)?,
+            "step {place}"
+        );
     }
-    let mut out = [0u8; 3];
-    for (object, from, count, piece) in [
-        ("d/b1", 0, 3, b"fir"),
-        ("d/a2", 3, 3, b"ond"),
-        ("d/b1", 3, 3, b"st."),
-        ("d/b1", 6, 0, b"st."),
-    ] {
-        must(
-            get(alloc, store, object, from, &mut out)? == Got::Bytes(count),
-            "the named object is read",
-        )?;
-        must(out == *piece, "its bytes at that place")?;
-    }
-    must(
-        lists(alloc, store, "d", &["10", "a", "a2", "b1"])?,
-        "all are listed in order",
-    )?;
-    Ok(())
-}
-
-#[test]
-fn pieces_are_those_of_the_named_object(rt: HostRuntime) -> Result<(), Fail> {
-    let folder = fresh_folder(&rt)?;
-    let mut store = store_in(&rt, folder.as_str())?;
-    read_pieces(&rt, &mut store)?;
-    remove(&rt, folder.as_str())
-}
-
-fn name_too_long(rt: &HostRuntime, store: &mut FileStore) -> Result<(), Fail> {
-    let alloc = rt.alloc();
-    let mut long = String::new(alloc);
-    for _ in 0..300 {
-        long.push('n')?;
-    }
-    must(
-        put(alloc, store, long.as_str(), b"x")? == Put::Failed,
-        "not stored",
-    )?;
-    must(
-        get(alloc, store, long.as_str(), 0, &mut [0u8; 4])? == Got::Failed,
-        "not read",
-    )?;
-    must(
-        size(alloc, store, long.as_str())? == Measured::Failed,
-        "not measured",
-    )?;
-    Ok(())
-}
-
-#[test]
-fn a_name_too_long_for_the_disk_fails(rt: HostRuntime) -> Result<(), Fail> {
-    let folder = fresh_folder(&rt)?;
-    let mut store = store_in(&rt, folder.as_str())?;
-    name_too_long(&rt, &mut store)?;
-    remove(&rt, folder.as_str())
-}
-
-// Leaves what a program leaves that was stopped while it wrote.
-fn leave_half(rt: &HostRuntime, folder: &str) -> Result<(), Fail> {
-    let path = format!(in rt.alloc(); "{folder}/d/.share-put-0")?;
-    fs::write(rt, path.as_str(), b"half")?;
-    Ok(())
-}
-
-fn pass_halves_over(rt: &HostRuntime, folder: &str, store: &mut FileStore) -> Result<(), Fail> {
-    let alloc = rt.alloc();
-    must(put(alloc, store, "d/one", b"1")? == Put::Stored, "one")?;
-    leave_half(rt, folder)?;
-    must(put(alloc, store, "d/two", b"22")? == Put::Stored, "two")?;
-    must(
-        lists(alloc, store, "d", &["one", "two"])?,
-        "what is half written is passed over",
-    )?;
-    must(
-        is_absent(alloc, store, "d/.share-put-0")?,
-        "half an object is none",
-    )?;
-    must(
-        put(alloc, store, "d/.share-put-1", b"x")? == Put::Failed,
-        "the name is taken",
-    )?;
-    Ok(())
-}
-
-#[test]
-fn what_has_no_name_yet_is_passed_over(rt: HostRuntime) -> Result<(), Fail> {
-    let folder = fresh_folder(&rt)?;
-    let mut store = store_in(&rt, folder.as_str())?;
-    pass_halves_over(&rt, folder.as_str(), &mut store)?;
+    assert!(rt; stores_large(rt.alloc(), &mut store)?);
     remove(&rt, folder.as_str())
 }
 

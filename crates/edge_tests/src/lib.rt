@@ -1,15 +1,12 @@
-//! Tests of what stands outside a program: in memory, shared by threads, and the real one, which is a folder, streams, connections and
-//! the clock. They stand in a crate of their own since a crate with tests is proved twice, with them and without.
+//! Tests of the real outside, which is a folder, streams, connections and the clock, and of what threads share. They stand in a crate of
+//! their own since a crate with tests is proved twice, with them and without. What stands in memory is tested by rows, which
+//! `leaf_rows` runs.
 #![tactic(auto)]
 
 #[cfg(test)]
 mod calls;
 #[cfg(test)]
 mod folder;
-#[cfg(test)]
-mod lines;
-#[cfg(test)]
-mod memory;
 #[cfg(test)]
 mod streams;
 #[cfg(test)]

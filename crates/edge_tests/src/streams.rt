@@ -2,9 +2,8 @@
 ghost use Rattle.std.specs.Prelude.{◌≤◌, length};
 
 use crate::calls::{LARGE, read, write};
-use edge_core::{Gave, Sink, Source, Took};
+use edge_core::{Gave, Took};
 use edge_std::{StdSink, StdSource};
-use std::alloc::{AllocError, Global};
 use std::io;
 use std::io::{ErrorKind, Read, Write};
 use std::test::Fail;
@@ -42,12 +41,15 @@ impl Read for Given {
 fn a_source_gives_each_piece_once(rt: HostRuntime) {
     let mut source = StdSource::new(Given { calls: 0 });
     let mut out = [0u8; 4];
-    assert!(rt; matches!(source.read(&mut out), Took::Bytes(2)));
-    assert!(rt; &out[..2] == b"ab".as_slice());
-    assert!(rt; matches!(source.read(&mut out), Took::Failed));
-    assert!(rt; matches!(source.read(&mut out), Took::Bytes(1)));
-    assert!(rt; &out[..1] == b"c".as_slice());
-    assert!(rt; matches!(source.read(&mut out), Took::End));
+    for (wanted, room) in [
+        (Took::Bytes(2), b"ab\0\0"),
+        (Took::Failed, b"ab\0\0"),
+        (Took::Bytes(1), b"cb\0\0"),
+        (Took::End, b"cb\0\0"),
+    ] {
+        assert!(rt; read(&mut source, &mut out) == wanted);
+        assert!(rt; out == *room);
+    }
 }
 
 // Takes two bytes, fails, takes none, then takes three at a time, and keeps what it took.
@@ -82,34 +84,27 @@ fn a_sink_tells_how_much_went_out(rt: HostRuntime) -> Result<(), Fail> {
         calls: 0,
     };
     let mut sink = StdSink::new(&mut taken);
-    assert!(rt; matches!(sink.write(b"abcdefg"), Gave::Bytes(2)));
-    assert!(rt; matches!(sink.write(b"cdefg"), Gave::Failed));
-    assert!(rt; matches!(sink.write(b"cdefg"), Gave::Failed));
-    assert!(rt; matches!(sink.write(b"cdefg"), Gave::Bytes(3)));
-    assert!(rt; matches!(sink.write(b"fg"), Gave::Bytes(2)));
+    for (bytes, wanted) in [
+        (b"abcdefg".as_slice(), Gave::Bytes(2)),
+        (b"cdefg".as_slice(), Gave::Failed),
+        (b"cdefg".as_slice(), Gave::Failed),
+        (b"cdefg".as_slice(), Gave::Bytes(3)),
+        (b"fg".as_slice(), Gave::Bytes(2)),
+    ] {
+        assert!(rt; write(&mut sink, bytes) == wanted);
+    }
     drop(sink);
     assert!(rt; taken.kept.as_slice() == b"abcdefg".as_slice());
     Ok(())
 }
 
-// Whether the bytes are read in one piece.
-fn are_read(alloc: Global, bytes: &[u8]) -> Result<bool, AllocError> {
-    let mut out = vec![in alloc; 0u8; bytes.len()]?;
-    let took = read(&mut StdSource::new(bytes), &mut out);
-    Ok(took == Took::Bytes(bytes.len()) && out.as_slice() == bytes)
-}
-
-// Whether the bytes are written in one piece.
-fn are_written(alloc: Global, bytes: &[u8]) -> bool {
-    let mut written = Vec::new(alloc);
-    let gave = write(&mut StdSink::new(&mut written), bytes);
-    gave == Gave::Bytes(bytes.len()) && written.as_slice() == bytes
-}
-
 #[test]
 fn large_pieces_pass(rt: HostRuntime) -> Result<(), Fail> {
     let bytes = vec![in rt.alloc(); b'x'; LARGE]?;
-    assert!(rt; are_read(rt.alloc(), &bytes)?);
-    assert!(rt; are_written(rt.alloc(), &bytes));
+    let mut out = vec![in rt.alloc(); 0u8; LARGE]?;
+    let mut written = Vec::new(rt.alloc());
+    assert!(rt; read(&mut StdSource::new(bytes.as_slice()), &mut out) == Took::Bytes(LARGE));
+    assert!(rt; write(&mut StdSink::new(&mut written), &bytes) == Gave::Bytes(LARGE));
+    assert!(rt; out == bytes && written == bytes);
     Ok(())
 }

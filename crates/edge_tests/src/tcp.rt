@@ -109,16 +109,24 @@ fn a_reset_is_a_fault(rt: HostRuntime) -> Result<(), Fail> {
     Ok(())
 }
 
-// Sends a body, and counts what is answered up to the end.
-fn send_and_drain(rt: &HostRuntime, port: u16, size: usize) -> Result<usize, Fail> {
+// Sends bytes, whose end the peer sees where it is to, and reads the answer up to its end: how many bytes it has, and the last of them.
+fn send_and_drain(
+    rt: &HostRuntime,
+    port: u16,
+    bytes: &[u8],
+    ends: bool,
+) -> Result<(usize, u8), Fail> {
     let mut stream = TcpStream::connect(rt, (HOST, port))?;
-    stream.write_all(&[b'b'; 40_000][..size.min(40_000)])?;
-    let mut out = [0u8; 1000];
+    stream.write_all(bytes)?;
+    if ends {
+        stream.shutdown(std::net::Shutdown::Write)?;
+    }
+    let mut out = [0u8; 16_384];
     let mut total = 0usize;
-    for _ in 0..1000u32 {
+    for _ in 0..=LARGE {
         let n = stream.read(&mut out)?;
         if n == 0 {
-            return Ok(total);
+            return Ok((total, out[0]));
         }
         total = total.saturating_add(n);
     }
@@ -144,10 +152,10 @@ fn a_refusal_arrives_whole(rt: HostRuntime) -> Result<(), Fail> {
     let (whole, answered) = thread::join(
         &rt,
         || refuse(&mut door),
-        || send_and_drain(&rt, port, 40_000),
+        || send_and_drain(&rt, port, &[b'b'; 40_000], false),
     );
     assert!(rt; whole);
-    assert!(rt; answered? == 700);
+    assert!(rt; answered? == (700, b'r'));
     Ok(())
 }
 
@@ -215,27 +223,11 @@ fn serve<N: Listener>(alloc: Global, door: &mut N) -> u32 {
     served
 }
 
-// Sends 1 MiB over a connection, and reads the answer to its end: how many bytes it has, and the last of them.
-fn send_large(alloc: Global, rt: &HostRuntime, port: u16) -> Result<(usize, u8), Fail> {
-    let mut stream = TcpStream::connect(rt, (HOST, port))?;
-    stream.write_all(&vec![in alloc; b'y'; LARGE]?)?;
-    stream.shutdown(std::net::Shutdown::Write)?;
-    let mut out = [0u8; 16_384];
-    let mut total = 0usize;
-    for _ in 0..=LARGE {
-        let n = stream.read(&mut out)?;
-        if n == 0 {
-            return Ok((total, out[0]));
-        }
-        total = total.saturating_add(n);
-    }
-    Err(Fail::from("no end"))
-}
-
-// Whether each of three such answers is whole.
+// Sends 1 MiB over each of three connections; whether each answer is whole.
 fn send_thrice(alloc: Global, rt: &HostRuntime, port: u16) -> Result<bool, Fail> {
+    let bytes = vec![in alloc; b'y'; LARGE]?;
     for _ in 0..3u32 {
-        if send_large(alloc, rt, port)? != (LARGE, 1) {
+        if send_and_drain(rt, port, &bytes, true)? != (LARGE, 1) {
             return Ok(false);
         }
     }

@@ -1,12 +1,6 @@
-// A book after one Begin on the catalogue, and a log that it may load.
-use edge_core::Name;
-use log_store::Commits;
-use share_book::{Ask, Book, Want, Who, ready};
+// A book after one Begin on the catalogue.
+use share_book::Book;
 use std::alloc::Global;
-use step_count::Steps;
-
-// The work of a replay.
-struct Work;
 
 // How many logs are kept, none where there is one at `t`.
 fn locations(alloc: Global, book: &Book) -> Option<usize> {
@@ -34,39 +28,4 @@ fn begun(alloc: Global) -> Option<(bool, u64, u64, usize)> {
 fn begins_on_the_catalogue(rt: HostRuntime) {
     let alloc = rt.alloc();
     assert!(rt; matches!(begun(alloc), Some((true, 1, 0, 0))));
-}
-
-fn is_ready(alloc: Global, location: &str) -> Option<bool> {
-    let location = Name::of(String::from_str(alloc, location).ok()?)?;
-    let log = ready(alloc, location, Commits::of(Vec::new(alloc)), 0, None);
-    Some(log.is_ok())
-}
-
-#[test]
-fn a_log_without_commits_is_ready(rt: HostRuntime) {
-    assert!(rt; is_ready(rt.alloc(), "t") == Some(true));
-}
-
-fn looked(alloc: Global, book: &Book, ask: &Ask) -> Option<(u64, bool)> {
-    let mut steps: Steps<Work> = Steps::new();
-    let pinned = book.pin(alloc, ask).ok()?;
-    match pinned.complete(alloc, &mut steps) {
-        Ok(look) => Some((look.at, look.seen.is_none())),
-        Err(_) => None,
-    }
-}
-
-// What is found of an empty book: how many entries it has, and whether nobody is seen.
-fn look(alloc: Global, want: Want) -> Option<(u64, bool)> {
-    let book = Book::new(alloc).ok()?;
-    let ask = Ask {
-        who: Who::Token([7; 32]),
-        want,
-    };
-    looked(alloc, &book, &ask)
-}
-
-#[test]
-fn nobody_is_seen_by_an_unknown_token(rt: HostRuntime) {
-    assert!(rt; matches!(look(rt.alloc(), Want::Names), Some((0, true))));
 }

@@ -1,6 +1,6 @@
-//! Tests of the book, of the library that says whether an offer may be added to a table's log, and of the hub: what its calls tell, what
-//! is found and refused of looks, and a catalogue with as many logs as there may be. They stand in a crate of their own since a crate
-//! with tests is proved twice, with them and without.
+//! Tests of the book and of the hub, of what no request shows: with which state a look begins, and what callers of one hub are told of
+//! each other. What requests show are rows of `session_rows`. They stand in a crate of their own since a crate with tests is proved
+//! twice, with them and without.
 #![tactic(auto)]
 
 #[cfg(test)]
@@ -8,24 +8,10 @@ mod book;
 #[cfg(test)]
 mod cache;
 #[cfg(test)]
-mod commit_begun;
+mod callers;
 #[cfg(test)]
-mod commit_large;
-#[cfg(test)]
-mod commit_offers;
-#[cfg(test)]
-mod commit_replayed;
-#[cfg(test)]
-mod commit_rows;
-#[cfg(test)]
-mod commits;
-#[cfg(test)]
-mod look_limits;
-#[cfg(test)]
-mod look_refusals;
+mod predicate;
 #[cfg(test)]
 mod script;
 #[cfg(test)]
 mod server;
-#[cfg(test)]
-mod servers;

@@ -2,10 +2,6 @@
 #![tactic(auto)]
 
 #[cfg(test)]
-mod faults;
-#[cfg(test)]
-mod outside;
-#[cfg(test)]
 mod pool;
 #[cfg(test)]
 mod rows;

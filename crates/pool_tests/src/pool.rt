@@ -3,9 +3,8 @@ ghost use Rattle.std.specs.Prelude.{◌≡◌, All, false};
 ghost use Rattle.std.proofs.Props.{props};
 ghost use Rattle.share_pool.specs.Desks.{HasPass};
 
-use crate::outside::{clock, store};
 use edge_core::{Gate, Listener, MemClock, MemStore};
-use share_config::{Config, config_of};
+use share_config::config_of;
 use share_hub::{Hub, HubPass};
 use share_pool::{Desk, ServeEnd, serve_all};
 use share_serve::Server;
@@ -17,22 +16,16 @@ use step_count::Steps;
 /// The work of a replay.
 pub(crate) struct Work;
 
-// Keys of 32 bytes each, the digests of the tokens `admin` and `provider`, and the endpoint up to its port.
-const CONFIG: &str =
-    "{\"tokenKey\":\"0101010101010101010101010101010101010101010101010101010101010101\",\
+// Keys of 32 bytes each, the digests of the tokens `admin` and `provider`, and the endpoint.
+const CONFIG: &[u8] =
+    b"{\"tokenKey\":\"0101010101010101010101010101010101010101010101010101010101010101\",\
     \"linkKey\":\"0202020202020202020202020202020202020202020202020202020202020202\",\
     \"adminDigest\":\"8c6976e5b5410415bde908bd4dee15dfb167a9c873fc4bb8a81f6f2ab448a918\",\
     \"providerDigests\":[\"5c4c1964340aca5b65393bbe9d3249cdd71be26665b3320ad694f034f2743283\"],\
     \"linkTtlSeconds\":3600,\
-    \"endpoint\":\"http://127.0.0.1:";
+    \"endpoint\":\"http://127.0.0.1:8080/delta-sharing\"}";
 
-// The configuration of a server at that port.
-fn config(alloc: Global, port: u16) -> Option<Config> {
-    let text = format!(in alloc; "{CONFIG}{port}/delta-sharing\"}}").ok()?;
-    config_of(alloc, text.as_bytes()).ok()
-}
-
-/// What a worker works with.
+/// What a worker works with. Its clock stands at 0.
 pub(crate) type Place<N> = Desk<N, MemStore, MemClock, Work>;
 
 #[derive(Drop)]
@@ -46,13 +39,13 @@ pub(crate) struct Pool<N> {
 }
 
 impl<N: Listener + Send + Drop> Pool<N> {
-    /// A server at that port, of two callers over what the store has, and no worker.
-    pub(crate) fn open(alloc: Global, store: &mut MemStore, port: u16) -> Option<Pool<N>> {
-        let config = config(alloc, port)?;
+    /// A server of two callers over what the store has, and no worker.
+    pub(crate) fn open(alloc: Global, store: &mut MemStore) -> Option<Pool<N>> {
+        let server = Server::of(config_of(alloc, CONFIG).ok()?);
         let (hub, passes) = Hub::open(alloc, store, 2).ok()?;
         Some(Pool {
             hub,
-            server: Server::of(config),
+            server,
             passes,
             desks: Vec::new(alloc),
         })
@@ -65,7 +58,7 @@ impl<N: Listener + Send + Drop> Pool<N> {
             pass: Some(pass),
             door,
             store,
-            clock: clock(alloc),
+            clock: MemClock::new(Vec::new(alloc)),
             steps: Steps::new(),
             end: None,
         };
@@ -91,20 +84,4 @@ impl<N: Listener + Send + Drop> Pool<N> {
         let end = serve_all(rt, alloc, &hub, &server, desks.as_mut_slice(), gate);
         Some((end, desks))
     }
-}
-
-/// A server at that port over what every test begins with, and no worker.
-pub(crate) fn empty<N: Listener + Send + Drop>(alloc: Global, port: u16) -> Option<Pool<N>> {
-    let mut store = store(alloc, &[], 0, &[])?;
-    Pool::open(alloc, &mut store, port)
-}
-
-/// Adds a worker at that door, over a store of the same.
-pub(crate) fn add<N: Listener + Send + Drop>(
-    alloc: Global,
-    pool: &mut Pool<N>,
-    door: N,
-) -> Option<()> {
-    let store = store(alloc, &[], 0, &[])?;
-    pool.add(alloc, door, store)
 }

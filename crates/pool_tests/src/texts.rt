@@ -14,6 +14,11 @@ pub(crate) const VERSION: &str =
     Host: x\r\n\
     Authorization: Bearer abc\r\n\r\n";
 
+// The link of the table's file, which another program signed.
+pub(crate) const LINK: &str =
+    "GET /delta-sharing/files/s1/sc/t1/a?b=1&e=3600000&g=1&r=r1&t=0ff11fb3bbaeefa6a0399bca8526e68e949d35e5b810cf4f364d36fceb9651aa HTTP/1.1\r\n\
+    Host: x\r\n\r\n";
+
 // ---- responses, by the formats, worked out outside
 
 pub(crate) const NOT_FOUND: &str = "HTTP/1.1 404 Not Found\r\n\
@@ -44,13 +49,17 @@ pub(crate) const VERSION_1: &str = "HTTP/1.1 200 OK\r\n\
     Delta-Table-Version: 1\r\n\
     Content-Length: 0\r\n\r\n";
 
+pub(crate) const FILE_A: &str = "HTTP/1.1 200 OK\r\n\
+    Date: Thu, 01 Jan 1970 00:00:00 GMT\r\n\
+    Accept-Ranges: bytes\r\n\
+    Content-Type: application/octet-stream\r\n\
+    Content-Length: 10\r\n\r\n\
+    0123456789";
+
 // ---- what is stored
 
 /// An object's name, and what it holds.
 pub(crate) type Object = (&'static str, &'static str);
-
-/// What the table's file holds.
-pub(crate) const FILE: &str = "0123456789";
 
 /// The share `s1` with the table `t1` at version 0, and the recipient `r1` with the token `abc`, to whom the share is granted.
 pub(crate) const STORED: &[Object] = &[
@@ -76,7 +85,7 @@ pub(crate) const STORED: &[Object] = &[
             {\"metaData\":{\"configuration\":{},\"id\":\"m1\",\"partitionColumns\":[],\"schemaString\":\"{}\"}}\n\
             {\"add\":{\"path\":\"a\",\"size\":10}}\n",
     ),
-    ("tables/t1/a", FILE),
+    ("tables/t1/a", "0123456789"),
 ];
 
 /// Record 4, by another server: the share is no longer granted.

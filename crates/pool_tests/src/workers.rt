@@ -1,188 +1,215 @@
 // Workers side by side, and one after another's records.
-use crate::rows::{Row, Worker, holds};
+use crate::rows::{Fault, PIECE, Row, Worker, holds};
 use crate::texts::{
     COMMITTED, NO_RECORD, NO_SHARES, NOT_FOUND, REVOKED, ROOT, SHARES, SHARES_S1, VERSION,
     VERSION_0, VERSION_1,
 };
-use edge_core::{HoldGate, OpenGate};
 use share_pool::ServeEnd;
+use std::alloc::Global;
+use std::sync::Wait;
+use std::thread::Threads;
 
-// One line for each of two workers.
-static TWO: Row = Row {
-    later: &[],
-    from: 0,
-    fails: &[],
-    workers: &[
-        Worker {
-            asked: &[ROOT],
-            most: 10,
-            fails: &[],
-            told: &[NOT_FOUND],
-        },
-        Worker {
-            asked: &[SHARES],
-            most: 10,
-            fails: &[],
-            told: &[SHARES_S1],
-        },
-    ],
-    end: ServeEnd::Closed { served: 2 },
-};
+const CLOSED_1: ServeEnd = ServeEnd::Closed { served: 1 };
 
-#[test]
-fn two_workers_serve_their_lines(rt: HostRuntime) {
-    assert!(rt; holds(&rt, rt.alloc(), &TWO, &OpenGate) == Some(true));
-}
+const CLOSED_2: ServeEnd = ServeEnd::Closed { served: 2 };
 
-// The first that passes the gate goes on once the other is done.
-#[test]
-fn two_workers_are_at_work_at_the_same_time(rt: HostRuntime) {
-    let gate = HoldGate::new();
-    assert!(rt; holds(&rt, rt.alloc(), &TWO, &gate) == Some(true));
-    assert!(rt; gate.met());
-}
+const CLOSED_3: ServeEnd = ServeEnd::Closed { served: 3 };
 
-// How doors end: behind their lines, at a limit, and by a fault in front of a line, of which another worker knows nothing.
-static DOORS: [Row; 4] = [
+static ROWS: &[Row<'static>] = &[
     Row {
-        later: &[],
-        from: 0,
-        fails: &[],
-        workers: &[Worker {
-            asked: &[VERSION, ROOT, SHARES],
-            most: 10,
-            fails: &[],
-            told: &[VERSION_0, NOT_FOUND, SHARES_S1],
-        }],
-        end: ServeEnd::Closed { served: 3 },
-    },
-    Row {
-        later: &[],
-        from: 0,
-        fails: &[],
-        workers: &[Worker {
-            asked: &[ROOT, SHARES],
-            most: 1,
-            fails: &[],
-            told: &[NOT_FOUND],
-        }],
-        end: ServeEnd::Closed { served: 1 },
-    },
-    Row {
-        later: &[],
-        from: 0,
-        fails: &[],
-        workers: &[Worker {
-            asked: &[ROOT, SHARES],
-            most: 10,
-            fails: &[1],
-            told: &[NOT_FOUND],
-        }],
-        end: ServeEnd::ListenerFault,
-    },
-    Row {
+        name: "two workers serve their lines",
         later: &[],
         from: 0,
         fails: &[],
         workers: &[
             Worker {
-                asked: &[],
-                most: 10,
-                fails: &[0],
-                told: &[],
+                lines: &[(ROOT, NOT_FOUND)],
+                fault: Fault::Nothing,
+                fails: &[],
+                closed: 1,
+                end: CLOSED_1,
             },
             Worker {
-                asked: &[ROOT, SHARES],
-                most: 10,
+                lines: &[(SHARES, SHARES_S1)],
+                fault: Fault::Nothing,
                 fails: &[],
-                told: &[NOT_FOUND, SHARES_S1],
+                closed: 1,
+                end: CLOSED_1,
+            },
+        ],
+        end: CLOSED_2,
+    },
+    Row {
+        name: "a worker serves all lines of its door",
+        later: &[],
+        from: 0,
+        fails: &[],
+        workers: &[Worker {
+            lines: &[(VERSION, VERSION_0), (ROOT, NOT_FOUND), (SHARES, SHARES_S1)],
+            fault: Fault::Nothing,
+            fails: &[],
+            closed: 3,
+            end: CLOSED_3,
+        }],
+        end: CLOSED_3,
+    },
+    Row {
+        name: "a door that fails in front of a line ends its worker",
+        later: &[],
+        from: 0,
+        fails: &[],
+        workers: &[Worker {
+            lines: &[(ROOT, NOT_FOUND), (SHARES, SHARES_S1)],
+            fault: Fault::Nothing,
+            fails: &[1],
+            closed: 1,
+            end: ServeEnd::ListenerFault,
+        }],
+        end: ServeEnd::ListenerFault,
+    },
+    Row {
+        name: "of a door that fails another worker knows nothing",
+        later: &[],
+        from: 0,
+        fails: &[],
+        workers: &[
+            Worker {
+                lines: &[],
+                fault: Fault::Nothing,
+                fails: &[0],
+                closed: 0,
+                end: ServeEnd::ListenerFault,
+            },
+            Worker {
+                lines: &[(ROOT, NOT_FOUND), (SHARES, SHARES_S1)],
+                fault: Fault::Nothing,
+                fails: &[],
+                closed: 2,
+                end: CLOSED_2,
             },
         ],
         end: ServeEnd::ListenerFault,
     },
-];
-
-#[test]
-fn a_worker_serves_until_its_door_ends_or_fails(rt: HostRuntime) {
-    for (number, row) in DOORS.iter().enumerate() {
-        assert!(rt;
-            holds(&rt, rt.alloc(), row, &OpenGate) == Some(true),
-            "at {number}"
-        );
-    }
-}
-
-// What others stored behind the server's opening is seen by the next connection. What is no record hides nothing, and neither does a
-// store that fails once.
-static FOUND: [Row; 5] = [
     Row {
+        name: "a connection sees what others stored before it",
         later: REVOKED,
         from: 0,
         fails: &[],
         workers: &[Worker {
-            asked: &[SHARES],
-            most: 10,
+            lines: &[(SHARES, NO_SHARES)],
+            fault: Fault::Nothing,
             fails: &[],
-            told: &[NO_SHARES],
+            closed: 1,
+            end: CLOSED_1,
         }],
-        end: ServeEnd::Closed { served: 1 },
+        end: CLOSED_1,
     },
     Row {
+        name: "a connection doesn't see the record that others store behind it, and the next does",
         later: REVOKED,
         from: 2,
         fails: &[],
         workers: &[Worker {
-            asked: &[SHARES, SHARES],
-            most: 10,
+            lines: &[(SHARES, SHARES_S1), (SHARES, NO_SHARES)],
+            fault: Fault::Nothing,
             fails: &[],
-            told: &[SHARES_S1, NO_SHARES],
+            closed: 2,
+            end: CLOSED_2,
         }],
-        end: ServeEnd::Closed { served: 2 },
+        end: CLOSED_2,
     },
     Row {
+        name: "a connection sees the commit that others stored before it",
         later: COMMITTED,
         from: 3,
         fails: &[],
         workers: &[Worker {
-            asked: &[VERSION, VERSION],
-            most: 10,
+            lines: &[(VERSION, VERSION_0), (VERSION, VERSION_1)],
+            fault: Fault::Nothing,
             fails: &[],
-            told: &[VERSION_0, VERSION_1],
+            closed: 2,
+            end: CLOSED_2,
         }],
-        end: ServeEnd::Closed { served: 2 },
+        end: CLOSED_2,
     },
     Row {
+        name: "what is no record hides nothing",
         later: NO_RECORD,
         from: 0,
         fails: &[],
         workers: &[Worker {
-            asked: &[SHARES, VERSION],
-            most: 10,
+            lines: &[(SHARES, SHARES_S1), (VERSION, VERSION_0)],
+            fault: Fault::Nothing,
             fails: &[],
-            told: &[SHARES_S1, VERSION_0],
+            closed: 2,
+            end: CLOSED_2,
         }],
-        end: ServeEnd::Closed { served: 2 },
+        end: CLOSED_2,
     },
     Row {
+        name: "a store that fails once hides nothing from the next connection",
         later: REVOKED,
         from: 0,
         fails: &[0],
         workers: &[Worker {
-            asked: &[SHARES, SHARES],
-            most: 10,
+            lines: &[(SHARES, SHARES_S1), (SHARES, NO_SHARES)],
+            fault: Fault::Nothing,
             fails: &[],
-            told: &[SHARES_S1, NO_SHARES],
+            closed: 2,
+            end: CLOSED_2,
         }],
-        end: ServeEnd::Closed { served: 2 },
+        end: CLOSED_2,
     },
 ];
 
 #[test]
-fn a_connection_sees_what_others_stored_before_it(rt: HostRuntime) {
-    for (number, row) in FOUND.iter().enumerate() {
-        assert!(rt;
-            holds(&rt, rt.alloc(), row, &OpenGate) == Some(true),
-            "at {number}"
-        );
+fn workers_serve_what_comes_to_their_doors(rt: HostRuntime) {
+    for row in ROWS {
+        let name = row.name;
+        assert!(rt; holds(&rt, rt.alloc(), row) == Some(true), "{name}");
+    }
+}
+
+// The fault on a line of the one worker, of the other, and of both; another line comes behind it.
+fn holds_beside<R: Threads + Wait + Sync>(rt: &R, alloc: Global, fault: Fault) -> bool {
+    let sound = Worker {
+        lines: &[(SHARES, SHARES_S1), (ROOT, NOT_FOUND)],
+        fault: Fault::Nothing,
+        fails: &[],
+        closed: 2,
+        end: CLOSED_2,
+    };
+    let struck = Worker { fault, ..sound };
+    [[struck, sound], [sound, struck], [struck, struck]]
+        .iter()
+        .all(|workers| {
+            let row = Row {
+                name: "a line that fails",
+                later: &[],
+                from: 0,
+                fails: &[],
+                workers: workers.as_slice(),
+                end: ServeEnd::Closed { served: 4 },
+            };
+            holds(rt, alloc, &row) == Some(true)
+        })
+}
+
+// The request has 74 bytes, which 11 reads take, and the end is read behind them.
+#[test]
+fn a_line_that_fails_leaves_the_others_alone(rt: HostRuntime) {
+    assert!(rt;
+        (
+            SHARES.len().div_ceil(PIECE),
+            SHARES_S1.len().div_ceil(PIECE)
+        ) == (11, 22)
+    );
+    for number in 0..12 {
+        let fault = Fault::Read(number);
+        assert!(rt; holds_beside(&rt, rt.alloc(), fault), "read {number}");
+    }
+    for number in 0..22 {
+        let fault = Fault::Write(number);
+        assert!(rt; holds_beside(&rt, rt.alloc(), fault), "write {number}");
     }
 }

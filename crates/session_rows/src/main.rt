@@ -5,11 +5,11 @@
 //! the objects of `behind` are stored with these bytes, and those of the names `absent` aren't.
 //!
 //! A connection has the number of its `server`, 0 where it has none: a server is opened when it is first named, over the one store.
-//! Then others store the objects of `later`, before anything comes. It has the `moments` of the clock; `turns`, each a request and its response, or all
-//! that comes as `in` and all that is written as `out`; and how it ends (`end`). The calls that fail, and the sizes of pieces, are those
-//! of `row_files`. A sink that `gathers` keeps what is written up to a flush: `kept` is what it still has at the end, and a number in
-//! `out_fails` is that of a flush that hands on. `pieces` are the sizes of the first writes. `opening` is why no server is opened: then
-//! that is all.
+//! Then others store the objects of `later`, before anything comes. It has the `moments` of the clock; `turns`, each a request and its
+//! response, or all that comes as `in` and all that is written as `out`; and how it ends (`end`). The calls that fail, and the sizes of
+//! pieces, are those of `row_files`. A sink that `gathers` keeps what is written up to a flush: `kept` is what it still has at the end,
+//! and a number in `out_fails` is that of a flush that hands on. `pieces` are the sizes of the first writes. `opening` is why no server
+//! is opened: then that is all.
 #![tactic(auto)]
 
 mod place;
