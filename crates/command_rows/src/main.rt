@@ -21,29 +21,40 @@ use crate::clients::client_row;
 use crate::commands::command_row;
 use crate::loops::served_row;
 use crate::worlds::{world_row, worlds_row};
-use row_files::{RowFault, RowFile, Runs, Told, run_rows};
+use row_files::{RowFault, RowFile, Told, run_rows};
 use serde_json::Value;
 use std::io;
 use std::process::ExitCode;
 use std::sync::Wait;
 use std::thread::Threads;
 
-// Rows, run with that handle.
-#[derive(Drop)]
-struct Rows<'a, R>(&'a R);
-
-impl<R: Threads + Wait + Sync> Runs for Rows<'_, R> {
-    fn run(&self, file: &RowFile, row: &Value, told: &mut Told) -> Result<(), RowFault> {
-        match row.get("call").and_then(Value::as_str) {
-            None => command_row(self.0, file, row, told),
-            Some("world") => world_row(file, row, told),
-            Some("served") => served_row(self.0, file, row, told),
-            Some("worlds") => worlds_row(file, row, told),
-            Some(call) => client_row(file, row, call, told),
-        }
+// Runs a row, and compares what comes of it.
+fn run_row<R: Threads + Wait + Sync>(
+    rt: &R,
+    file: &RowFile,
+    row: &Value,
+    told: &mut Told,
+) -> Result<(), RowFault> {
+    match row.get("call").and_then(Value::as_str) {
+        None => command_row(rt, file, row, told),
+        Some("world") => world_row(file, row, told),
+        Some("served") => served_row(rt, file, row, told),
+        Some("worlds") => worlds_row(file, row, told),
+        Some(call) => client_row(file, row, call, told),
     }
 }
 
+// Only the handle of `main` can wait and start threads, so it is passed beside the runtime.
+fn run_all<R: Threads + Wait + Sync>(rt: &R, host: &HostRuntime) -> io::Result<ExitCode> {
+    run_rows(
+        host,
+        &|file: &RowFile, row: &Value, told: &mut Told| {
+            let ran = run_row(rt, file, row, told);
+            told.end(ran);
+        },
+    )
+}
+
 fn main(rt: HostRuntime) -> io::Result<ExitCode> {
-    run_rows(&rt, &Rows(&rt))
+    run_all(&rt, &rt)
 }

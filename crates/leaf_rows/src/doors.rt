@@ -206,7 +206,7 @@ pub(crate) fn answer(file: &RowFile, call: &str, with: &Value) -> Answered {
     let mut out = Answer::new(file.alloc());
     let done = match call {
         "listener" => listener(file, with, &mut out),
-        "link" => link(file, with, &mut out),
+        "link_lines" => link(file, with, &mut out),
         "gathering" => gathering(file, with, &mut out),
         _ => return Ok(None),
     };

@@ -280,7 +280,7 @@ pub(crate) fn answer(file: &RowFile, call: &str, with: &Value) -> Answered {
         "version of" => version_in_name(file, with, &mut out),
         "path name" => file_name(file, with, &mut out),
         "good path" => good_path(file, with, &mut out),
-        "number" => number(with, &mut out),
+        "small_number" => number(with, &mut out),
         _ => return Ok(None),
     };
     out.after(done)

@@ -24,7 +24,7 @@ mod tokens;
 mod trees;
 mod wire;
 
-use row_files::{RowFault, RowFile, Runs, Told, run_rows, text_at};
+use row_files::{RowFault, RowFile, Told, run_rows, text_at};
 use serde_json::Value;
 use std::io;
 use std::process::ExitCode;
@@ -49,21 +49,23 @@ fn answer(file: &RowFile, call: &str, with: &Value) -> Result<Vec<u8>, RowFault>
     Err(RowFault::Unknown("the call"))
 }
 
-#[derive(Drop)]
-struct Calls;
-
-impl Runs for Calls {
-    fn run(&self, file: &RowFile, row: &Value, told: &mut Told) -> Result<(), RowFault> {
-        let Some(call) = row.get("call").and_then(Value::as_str) else {
-            return Err(RowFault::Member("call"));
-        };
-        let with = row.get("with").unwrap_or(row);
-        let wanted = text_at(file, row, "gives")?;
-        let came = answer(file, call, with)?;
-        Ok(told.compare(call, &wanted, &came)?)
-    }
+// Compares what a row's call answers with what it is to give.
+fn run(file: &RowFile, row: &Value, told: &mut Told) -> Result<(), RowFault> {
+    let Some(call) = row.get("call").and_then(Value::as_str) else {
+        return Err(RowFault::Member("call"));
+    };
+    let with = row.get("with").unwrap_or(row);
+    let wanted = text_at(file, row, "gives")?;
+    let came = answer(file, call, with)?;
+    Ok(told.compare(call, &wanted, &came)?)
 }
 
 fn main(rt: HostRuntime) -> io::Result<ExitCode> {
-    run_rows(&rt, &Calls)
+    run_rows(
+        &rt,
+        &|file: &RowFile, row: &Value, told: &mut Told| {
+            let ran = run(file, row, told);
+            told.end(ran);
+        },
+    )
 }

@@ -24,5 +24,5 @@ mod told;
 pub use file::{Item, RowFault, RowFile};
 pub use members::{flag_at, list_at, member_at, number_at, numbers_at, text_at};
 pub use outside::{clock_of, sink_of, source_of, stock, store_of};
-pub use running::{Runs, run_rows};
+pub use running::run_rows;
 pub use told::Told;

@@ -11,6 +11,8 @@ const SHOWN: usize = 120;
 pub struct Told {
     alloc: Global,
     text: String,
+    // Memory was wanting for what is to be told.
+    is_cut: bool,
 }
 
 // The place of the first byte in which the two differ, or where the shorter one ends.
@@ -39,7 +41,24 @@ impl Told {
         Told {
             alloc,
             text: String::new(alloc),
+            is_cut: false,
         }
+    }
+
+    fn add_fault(&mut self, fault: RowFault) -> Result<(), AllocError> {
+        let line = format!(in self.alloc; "  {fault}\n")?;
+        self.text.push_str(line.as_str())
+    }
+
+    /// Tells why the row wasn't run, where it wasn't.
+    pub fn end(&mut self, ran: Result<(), RowFault>) {
+        if let Err(fault) = ran {
+            self.is_cut = self.add_fault(fault).is_err();
+        }
+    }
+
+    fn is_empty(&self) -> bool {
+        self.text.is_empty() && !self.is_cut
     }
 
     /// Compares what is wanted of that part of an answer with what came.
@@ -105,26 +124,17 @@ impl Totals {
         &mut self,
         alloc: Global,
         row: &Row,
-        ran: Result<(), RowFault>,
         told: Told,
     ) -> Result<String, AllocError> {
+        if told.is_empty() {
+            self.passed = self.passed.saturating_add(1);
+            return Ok(String::new(alloc));
+        }
+        self.failed = self.failed.saturating_add(1);
         let name = row.name.as_str();
         let line = self.line;
-        match ran {
-            Ok(()) if told.text.is_empty() => {
-                self.passed = self.passed.saturating_add(1);
-                Ok(String::new(alloc))
-            }
-            Ok(()) => {
-                self.failed = self.failed.saturating_add(1);
-                let text = told.text.as_str();
-                format!(in alloc; "{name} (line {line}):\n{text}")
-            }
-            Err(fault) => {
-                self.failed = self.failed.saturating_add(1);
-                format!(in alloc; "{name} (line {line}): {fault}\n")
-            }
-        }
+        let text = told.text.as_str();
+        format!(in alloc; "{name} (line {line}):\n{text}")
     }
 
     /// Whether there were rows, and all came as they are wanted.

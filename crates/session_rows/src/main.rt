@@ -16,22 +16,23 @@ mod place;
 mod session;
 
 use crate::session::run;
-use row_files::{RowFault, RowFile, Runs, Told, run_rows};
+use row_files::{RowFile, Told, run_rows};
 use serde_json::Value;
 use std::io;
 use std::process::ExitCode;
 use std::sync::Wait;
 
-// Sessions, served with that handle.
-#[derive(Drop)]
-struct Sessions<'a, R>(&'a R);
-
-impl<R: Wait> Runs for Sessions<'_, R> {
-    fn run(&self, file: &RowFile, row: &Value, told: &mut Told) -> Result<(), RowFault> {
-        run(self.0, file, row, told)
-    }
+// Only the handle of `main` can wait, so it is passed beside the runtime.
+fn run_sessions<R: Wait>(rt: &R, host: &HostRuntime) -> io::Result<ExitCode> {
+    run_rows(
+        host,
+        &|file: &RowFile, row: &Value, told: &mut Told| {
+            let ran = run(rt, file, row, told);
+            told.end(ran);
+        },
+    )
 }
 
 fn main(rt: HostRuntime) -> io::Result<ExitCode> {
-    run_rows(&rt, &Sessions(&rt))
+    run_sessions(&rt, &rt)
 }
