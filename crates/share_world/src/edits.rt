@@ -58,10 +58,10 @@ fn edit_on(
     requires fits { LoadFits book.old.past.history (bound_location edit.now) load }
     ensures { OnOk result (book.new.past.history ≡ edited_history book.old.past.history load edit.now) }
 {
-    let own = edit.copy(alloc)?;
-    let shared = SharedEdit::copied(alloc, edit)?;
     book.len();
     book.reserve_catalog(alloc)?;
+    let shared = SharedEdit::copied(alloc, edit)?;
+    let own = edit.copy(alloc)?;
     if book.begin(0, 0) {
         load_in(book, load);
         match book.edit(0, own, shared, true) {

@@ -54,11 +54,11 @@ pub(crate) fn log_before(
     ensures start { IfOk result (λ r. r ≡ record { location = location.now; commits = commits_of events.now location.now; block = None }) }
     ensures kept { IfOk result (λ r. IsKeptLog r.commits) }
 {
+    let name = location.name().copy(alloc)?;
     let mut log = Kept::new(alloc);
     for event in events {
         add(&mut log, alloc, location.as_str(), event)?;
     }
-    let name = location.name().copy(alloc)?;
     let Loaded { commits, bytes, .. } = log.loaded(None);
     ready(alloc, name, commits, bytes, None)
 }
