@@ -91,11 +91,12 @@ fn read<L: Link, K: Sink>(
     ensures url { TellsBadUrl (calls.Read table.now body.now) result }
     ensures told { Known L.coming L.closed link.old link.new (Performs (client_profile client.now) (calls.Read table.now body.now) (K.holds sink.old) (K.holds sink.new) result) }
 {
-    let read = match client.read_table(alloc, link, table, body) {
-        Ok(read) => read,
+    // What was read is dropped in one place.
+    let text = match client.read_table(alloc, link, table, body) {
+        Ok(read) => read_text(alloc, &read),
         Err(fault) => return Err(fault),
     };
-    match read_text(alloc, &read) {
+    match text {
         Ok(text) => send(sink, &text),
         Err(_) => Err(ClientFault::NoMemory),
     }
