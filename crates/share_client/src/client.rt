@@ -12,7 +12,7 @@ ghost use Rattle.share_client.specs.Targets.{target_in};
 
 use crate::fetch::fetch_from;
 use crate::lists::list_tables;
-use crate::pieces::fetch_each;
+use crate::pieces::fetch_sized;
 use crate::server::server_of;
 use crate::size::size_from;
 use crate::table_request::TableRequest;
@@ -117,7 +117,7 @@ impl Client {
                 let mut changes = Vec::new(alloc);
                 let request = TableRequest::Changes(table, from, to);
                 match read_pages(alloc, link, &server, &request, &mut changes) {
-                    Ok(_) => Ok(changes),
+                    Ok((_head, _pages)) => Ok(changes),
                     Err(fault) => Err(fault),
                 }
             }
@@ -197,13 +197,7 @@ impl Client {
         ensures told { Known L.coming L.closed link.old link.new (PiecesAt (target_in url.now) piece (K.holds sink.old) (K.holds sink.new) result) }
     {
         match target_of(alloc, url) {
-            Ok(Some(target)) => match size_from(alloc, link, &target) {
-                Ok(size) => match fetch_each(alloc, link, &target, size, piece, sink) {
-                    Ok(()) => Ok(size),
-                    Err(fault) => Err(fault),
-                },
-                Err(fault) => Err(fault),
-            },
+            Ok(Some(target)) => fetch_sized(alloc, link, &target, piece, sink),
             Ok(None) => Err(ClientFault::BadUrl),
             Err(_) => Err(ClientFault::NoMemory),
         }

@@ -2,7 +2,7 @@
 ghost use Rattle.std.specs.Prelude.{◌≡◌, ◌≤◌, ◌<◌, ◌*◌, ℕ, IfOk, MatchResult, Ok, Err, if◌then◌else◌, Some, None, nat_lt, string_bytes};
 ghost use Rattle.share_client.specs.declared.fault.ClientFault.TheVariants as fault;
 ghost use Rattle.share_client.specs.Files.{FetchCause};
-ghost use Rattle.share_client.specs.Pieces.{Delivers, FetchesPieces, Takes, TakesOfAll, TakesPart, piece_range, piece_text};
+ghost use Rattle.share_client.specs.Pieces.{Delivers, FetchesPieces, PiecesFrom, Takes, TakesOfAll, TakesPart, piece_range, piece_text};
 ghost use Rattle.share_client.specs.Sides.{counts, Known, Later};
 
 use crate::ClientFault;
@@ -10,6 +10,7 @@ use crate::ask::{Wanted, ask};
 use crate::exchange::{Response, send};
 use crate::fetch::path_with_query;
 use crate::request::part_text;
+use crate::size::size_from;
 use crate::target::Target;
 use edge_core::{Link, Sink};
 use file_ranges::content_range::range_read;
@@ -124,7 +125,7 @@ fn range_from(at: u64, piece: u64, size: u64) -> Option<ByteRange>
 }
 
 // Fetches the pieces of a file of that size, in order.
-pub(crate) fn fetch_each<L: Link, K: Sink>(
+fn fetch_each<L: Link, K: Sink>(
     alloc: Global,
     link: &mut L,
     target: &Target,
@@ -152,4 +153,28 @@ pub(crate) fn fetch_each<L: Link, K: Sink>(
         return Ok(());
     }
     Err(ClientFault::TooManyPages)
+}
+
+// Asks how many bytes a link's file has, and fetches its pieces. The answer is the size.
+pub(crate) fn fetch_sized<L: Link, K: Sink>(
+    alloc: Global,
+    link: &mut L,
+    target: &Target,
+    piece: u64,
+    sink: &mut K,
+) -> Result<u64, ClientFault>
+    requires { (0 < piece) × (piece ≤ 134_217_728) }
+    ensures url { ¬ (result ≡ Err fault.BadUrl) }
+    ensures later { Later (counts L.faults L.read_faults L.write_faults link.old) (counts L.faults L.read_faults L.write_faults link.new) }
+    ensures sink_later { K.faults sink.old ≤ K.faults sink.new }
+    ensures cause { FetchCause result (counts L.faults L.read_faults L.write_faults link.old) (counts L.faults L.read_faults L.write_faults link.new) (K.faults sink.old) (K.faults sink.new) }
+    ensures told { Known L.coming L.closed link.old link.new (PiecesFrom target.now piece (K.holds sink.old) (K.holds sink.new) result) }
+{
+    match size_from(alloc, link, target) {
+        Ok(size) => match fetch_each(alloc, link, target, size, piece, sink) {
+            Ok(()) => Ok(size),
+            Err(fault) => Err(fault),
+        },
+        Err(fault) => Err(fault),
+    }
 }

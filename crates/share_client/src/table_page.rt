@@ -62,11 +62,12 @@ impl Content for Line {
 fn take_protocol(lines: &mut VecDeque<Line>) -> bool
     ensures { MatchBool result (after_protocol lines.old.items ≡ Some lines.new.items) (after_protocol lines.old.items ≡ None) }
 {
-    match lines.pop_front() {
-        Some(Line::Protocol) => true,
-        Some(_) => false,
-        None => false,
+    match lines.front() {
+        Some(Line::Protocol) => {}
+        _ => return false,
     }
+    lines.pop_front();
+    true
 }
 
 // Takes the metadata away, which stands in front.
@@ -85,19 +86,8 @@ fn end_of(line: Line, last: bool) -> Result<Option<Text>, ClientFault>
     ensures { GivesText result (token_of line last) }
 {
     match line {
-        Line::End(end) => {
-            if last {
-                Ok(unless_empty(end.token))
-            } else {
-                Err(ClientFault::BadReply { at: 0 })
-            }
-        }
-        Line::Protocol => Err(ClientFault::BadReply { at: 0 }),
-        Line::MetaData(_) => Err(ClientFault::BadReply { at: 0 }),
-        Line::File(_) => Err(ClientFault::BadReply { at: 0 }),
-        Line::Add(_) => Err(ClientFault::BadReply { at: 0 }),
-        Line::Cdf(_) => Err(ClientFault::BadReply { at: 0 }),
-        Line::Remove(_) => Err(ClientFault::BadReply { at: 0 }),
+        Line::End(end) if last => Ok(unless_empty(end.token)),
+        _ => Err(ClientFault::BadReply { at: 0 }),
     }
 }
 

@@ -15,9 +15,9 @@ returns-in-Ok-read_pages-clause-told g c =
     let was = c.new-changes.result.items in
     let now = c.read_pages.new.found.items in
     known_as g.L.Link.coming g.L.Link.closed c.args.link.now c.read_pages.new.link
-    (PagesOnto asked was now (Ok c.in-Ok-read_pages.field-0))
+    (PagesOnto asked was now (Ok (c.in-Ok-read_pages._head, c.in-Ok-read_pages._pages)))
     (ReadsChangesOf (server_in profile) table c.args.from c.args.to (Ok now))
-    (λ s t onto. subst (λ o. ReadsChangesOf o table c.args.from c.args.to (Ok now) s t) (sym c.in-Ok.ensures) (changes_read asked was now c.in-Ok-read_pages.field-0 s t c.new-changes.ensures.items onto))
+    (λ s t onto. subst (λ o. ReadsChangesOf o table c.args.from c.args.to (Ok now) s t) (sym c.in-Ok.ensures) (changes_read asked was now (c.in-Ok-read_pages._head, c.in-Ok-read_pages._pages) s t c.new-changes.ensures.items onto))
     c.in-Ok-read_pages.ensures.told
 
 pub returns-in-Ok-clause-told : goal.returns-in-Ok-clause-told
