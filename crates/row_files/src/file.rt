@@ -1,13 +1,13 @@
 // The lines of a file, and what they name.
-use crate::parts::push_part;
-use json_tree::tree_of;
+use crate::members::member_at;
+use crate::parts::push_text;
+use edge_core::{Name, Stored};
 use serde_json::{Map, Value};
 use std::alloc::{AllocError, AllocFailed, Global};
 use std::collections::BTreeMap;
-use std::fmt;
 
 /// Why a line isn't read, or a row isn't run.
-#[derive(Clone, Copy, Debug)]
+#[derive(Clone, Copy)]
 pub enum RowFault {
     /// The line is no JSON object.
     NotAnObject,
@@ -37,32 +37,19 @@ impl<T: Drop> From<AllocFailed<T>> for RowFault {
     }
 }
 
-impl fmt::Display for RowFault {
-    fn fmt<W: fmt::Write>(&self, f: &mut fmt::Formatter<W>) -> fmt::Result {
+impl RowFault {
+    // What is told of it, in three parts.
+    pub(crate) fn words(self) -> [&'static str; 3] {
         match self {
-            RowFault::NotAnObject => f.write_str("the line is no JSON object"),
-            RowFault::NoName => f.write_str("the object has no name"),
-            RowFault::Member(name) => write!(f, "the member {name} is lacking, or of another kind"),
-            RowFault::Text => f.write_str("a text is none"),
-            RowFault::Unnamed => f.write_str("a text has a name that no line above gives"),
-            RowFault::Unknown(what) => write!(f, "{what} isn't known"),
-            RowFault::NoMemory => f.write_str("memory is wanting"),
+            RowFault::NotAnObject => ["the line is no JSON object", "", ""],
+            RowFault::NoName => ["the object has no name", "", ""],
+            RowFault::Member(name) => ["the member ", name, " is lacking, or of another kind"],
+            RowFault::Text => ["a text is none", "", ""],
+            RowFault::Unnamed => ["a text has a name that no line above gives", "", ""],
+            RowFault::Unknown(what) => ["", what, " isn't known"],
+            RowFault::NoMemory => ["memory is wanting", "", ""],
         }
     }
-}
-
-/// An object of a store: its name, and its bytes.
-#[derive(Drop)]
-pub struct Item {
-    pub name: String,
-    pub bytes: Vec<u8>,
-}
-
-/// A row: its name, and its members.
-#[derive(Drop)]
-pub(crate) struct Row {
-    pub(crate) name: String,
-    pub(crate) members: Value,
 }
 
 /// What the lines of a file up to here name.
@@ -70,11 +57,19 @@ pub(crate) struct Row {
 pub struct RowFile {
     alloc: Global,
     texts: BTreeMap<String, Vec<u8>>,
-    lists: BTreeMap<String, Vec<Item>>,
+    lists: BTreeMap<String, Vec<Stored>>,
 }
 
 fn copied(alloc: Global, text: &str) -> Result<String, RowFault> {
     Ok(String::from_str(alloc, text)?)
+}
+
+/// The name of an object that a text is.
+pub fn name_of(alloc: Global, text: &str) -> Result<Name, RowFault> {
+    match Name::of(copied(alloc, text)?) {
+        Some(name) => Ok(name),
+        None => Err(RowFault::Unknown("the name of an object")),
+    }
 }
 
 impl RowFile {
@@ -107,104 +102,82 @@ impl RowFile {
 
     /// The bytes of a TEXT.
     pub fn text(&self, value: &Value) -> Result<Vec<u8>, RowFault> {
-        let mut out = Vec::new(self.alloc);
-        match value {
-            Value::Array(parts) => {
-                for part in parts {
-                    push_part(self, part, &mut out)?;
-                }
-            }
-            _ => push_part(self, value, &mut out)?,
-        }
-        Ok(out)
+        let mut bytes = Vec::new(self.alloc);
+        push_text(self, value, &mut bytes)?;
+        Ok(bytes)
     }
 
     fn push_members(
         &self,
         members: &Map<String, Value>,
-        items: &mut Vec<Item>,
+        objects: &mut Vec<Stored>,
     ) -> Result<(), RowFault> {
         for (name, value) in members.iter() {
+            let name = name_of(self.alloc, name)?;
             let bytes = self.text(value)?;
-            let name = copied(self.alloc, name)?;
-            items.push(Item { name, bytes })?;
+            objects.push(Stored { name, bytes })?;
         }
         Ok(())
     }
 
-    fn push_list(&self, name: &str, items: &mut Vec<Item>) -> Result<(), RowFault> {
+    fn push_list(&self, name: &str, objects: &mut Vec<Stored>) -> Result<(), RowFault> {
         let Some(list) = self.lists.get(name) else {
             return Err(RowFault::Unnamed);
         };
-        for item in list {
-            let bytes = item.bytes.clone()?;
-            let name = copied(self.alloc, item.name.as_str())?;
-            items.push(Item { name, bytes })?;
+        for object in list {
+            let name = object.name.copy(self.alloc)?;
+            let bytes = object.bytes.clone()?;
+            objects.push(Stored { name, bytes })?;
         }
         Ok(())
     }
 
-    fn push_items(&self, value: &Value, items: &mut Vec<Item>) -> Result<(), RowFault> {
+    fn push_objects(&self, value: &Value, objects: &mut Vec<Stored>) -> Result<(), RowFault> {
         match value {
-            Value::Object(members) => self.push_members(members, items),
+            Value::Object(members) => self.push_members(members, objects),
             Value::String(text) => match text.as_str().strip_prefix('$') {
-                Some(name) => self.push_list(name, items),
+                Some(name) => self.push_list(name, objects),
                 None => Err(RowFault::Member("objects")),
             },
             _ => Err(RowFault::Member("objects")),
         }
     }
 
-    /// Objects: those of a JSON object, each with its TEXT, those of a name, or the ones of a list of both.
-    pub fn items(&self, value: &Value) -> Result<Vec<Item>, RowFault> {
-        let mut items = Vec::new(self.alloc);
-        match value {
-            Value::Array(parts) => {
-                for part in parts {
-                    self.push_items(part, &mut items)?;
-                }
-            }
-            _ => self.push_items(value, &mut items)?,
-        }
-        Ok(items)
-    }
-
-    // Takes over what a line names.
-    fn name(&mut self, name: &str, members: &Value) -> Result<(), RowFault> {
-        if let Some(value) = members.get("be") {
-            let bytes = self.text(value)?;
-            self.texts.insert(copied(self.alloc, name)?, bytes)?;
-            return Ok(());
-        }
-        let Some(value) = members.get("objects") else {
-            return Err(RowFault::Member("be"));
+    fn push_items(&self, value: &Value, objects: &mut Vec<Stored>) -> Result<(), RowFault> {
+        let Value::Array(parts) = value else {
+            return self.push_objects(value, objects);
         };
-        let items = self.items(value)?;
-        self.lists.insert(copied(self.alloc, name)?, items)?;
+        for part in parts {
+            self.push_objects(part, objects)?;
+        }
         Ok(())
     }
 
-    // The row that an object is; none where it names something.
-    fn row_of(&mut self, members: Value) -> Result<Option<Row>, RowFault> {
-        if let Some(name) = members.get("let").and_then(Value::as_str) {
-            self.name(name, &members)?;
-            return Ok(None);
-        }
-        let Some(name) = members.get("name").and_then(Value::as_str) else {
-            return Err(RowFault::NoName);
-        };
-        let name = copied(self.alloc, name)?;
-        Ok(Some(Row { name, members }))
+    /// Objects: those of a JSON object, each with its TEXT, those of a name, or the ones of a list of both.
+    pub fn items(&self, value: &Value) -> Result<Vec<Stored>, RowFault> {
+        let mut objects = Vec::new(self.alloc);
+        self.push_items(value, &mut objects)?;
+        Ok(objects)
     }
 
-    /// The row of a line; none where it has none. What it names is known from here on.
-    pub(crate) fn read(&mut self, line: &str) -> Result<Option<Row>, RowFault> {
-        if line.is_empty() || line.starts_with('#') {
-            return Ok(None);
-        }
-        match tree_of(self.alloc, line.as_bytes()) {
-            Ok(members) if members.is_object() => self.row_of(members),
-            _ => Err(RowFault::NotAnObject),
+    fn name_objects(&mut self, name: &str, value: &Value) -> Result<(), RowFault> {
+        let objects = self.items(value)?;
+        self.lists.insert(copied(self.alloc, name)?, objects)?;
+        Ok(())
+    }
+
+    fn name_text(&mut self, name: &str, value: &Value) -> Result<(), RowFault> {
+        let bytes = self.text(value)?;
+        self.texts.insert(copied(self.alloc, name)?, bytes)?;
+        Ok(())
+    }
+
+    /// Takes over what a line names.
+    pub(crate) fn name(&mut self, name: &str, line: &Value) -> Result<(), RowFault> {
+        match (member_at(line, "be"), member_at(line, "objects")) {
+            (Some(value), _) => self.name_text(name, value),
+            (None, Some(value)) => self.name_objects(name, value),
+            (None, None) => Err(RowFault::Member("be")),
         }
     }
 }

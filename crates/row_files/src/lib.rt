@@ -21,8 +21,10 @@ mod parts;
 mod running;
 mod told;
 
-pub use file::{Item, RowFault, RowFile};
-pub use members::{flag_at, list_at, member_at, number_at, numbers_at, text_at};
+pub use file::{RowFault, RowFile, name_of};
+pub use members::{
+    flag_at, list_at, member_at, number_at, numbers_at, text_at, text_or_nothing, word_at,
+};
 pub use outside::{clock_of, sink_of, source_of, stock, store_of};
 pub use running::run_rows;
-pub use told::Told;
+pub use told::{Told, push_words};

@@ -1,9 +1,10 @@
 // What is outside of a program, in memory, as rows have it.
 ghost use Rattle.std.specs.Prelude.{◌≡◌, ◌≤◌, ◌↔◌, All, IsTrue};
 
-use crate::file::{Item, RowFault, RowFile};
-use crate::members::{list_at, numbers_at};
-use edge_core::{Foreign, MemClock, MemSink, MemSource, MemStore, Name, Stored};
+use crate::file::{RowFault, RowFile};
+use crate::members::{list_at, member_at, number_at, numbers_at};
+use crate::parts::{count_of, two};
+use edge_core::{Foreign, MemClock, MemSink, MemSource, MemStore, Stored};
 use serde_json::Value;
 use std::alloc::Global;
 
@@ -16,18 +17,10 @@ const WRITTEN_BYTES: u64 = 400_000;
 
 const WRITES: u64 = 2_000;
 
-fn stored(item: Item) -> Result<Stored, RowFault> {
-    let Item { name, bytes } = item;
-    match Name::of(name) {
-        Some(name) => Ok(Stored { name, bytes }),
-        None => Err(RowFault::Unknown("the name of an object")),
-    }
-}
-
 /// Puts objects into a store: a fault where one is there already, or has no room.
-pub fn stock(store: &mut MemStore, items: Vec<Item>) -> Result<(), RowFault> {
-    for item in items {
-        if !store.stock(stored(item)?) {
+pub fn stock(store: &mut MemStore, objects: Vec<Stored>) -> Result<(), RowFault> {
+    for object in objects {
+        if !store.stock(object) {
             return Err(RowFault::Unknown("room for an object"));
         }
     }
@@ -35,25 +28,22 @@ pub fn stock(store: &mut MemStore, items: Vec<Item>) -> Result<(), RowFault> {
 }
 
 fn push_foreign(file: &RowFile, value: &Value, foreign: &mut Vec<Foreign>) -> Result<(), RowFault> {
-    let Some((call, items)) = value
-        .as_array()
-        .and_then(|pair| pair.as_slice().split_first())
-    else {
+    let Some((call, objects)) = two(value) else {
         return Err(RowFault::Member("foreign"));
     };
-    let (Some(call), [items]) = (call.as_u64(), items) else {
+    let Some(call) = count_of(call) else {
         return Err(RowFault::Member("foreign"));
     };
-    for item in file.items(items)? {
-        let object = stored(item)?;
+    for object in file.items(objects)? {
         foreign.push(Foreign { call, object })?;
     }
     Ok(())
 }
 
 fn foreign_of(file: &RowFile, of: &Value) -> Result<Vec<Foreign>, RowFault> {
+    let values = list_at(of, "foreign")?;
     let mut foreign = Vec::new(file.alloc());
-    for value in list_at(of, "foreign")? {
+    for value in values {
         push_foreign(file, value, &mut foreign)?;
     }
     Ok(foreign)
@@ -63,7 +53,7 @@ fn foreign_of(file: &RowFile, of: &Value) -> Result<Vec<Foreign>, RowFault> {
 fn room_at(of: &Value, name: &'static str, usual: (u64, u64)) -> Result<(usize, usize), RowFault> {
     let (first, second) = match list_at(of, name)? {
         [] => (Some(usual.0), Some(usual.1)),
-        [first, second] => (first.as_u64(), second.as_u64()),
+        [first, second] => (count_of(first), count_of(second)),
         _ => (None, None),
     };
     match (first, second) {
@@ -72,30 +62,46 @@ fn room_at(of: &Value, name: &'static str, usual: (u64, u64)) -> Result<(usize, 
     }
 }
 
+// A store without objects, of which those calls fail.
+fn bare_store(file: &RowFile, of: &Value) -> Result<MemStore, RowFault> {
+    let (objects, bytes) = room_at(of, "room", (OBJECTS, OBJECT_BYTES))?;
+    let fails = numbers_at(file.alloc(), of, "store_fails")?;
+    let late = numbers_at(file.alloc(), of, "store_late")?;
+    let store = MemStore::new(file.alloc(), objects, bytes, foreign_of(file, of)?)?;
+    Ok(store.with_fails(fails, late))
+}
+
+fn stock_from(file: &RowFile, of: &Value, store: &mut MemStore) -> Result<(), RowFault> {
+    match member_at(of, "objects") {
+        Some(value) => stock(store, file.items(value)?),
+        None => Ok(()),
+    }
+}
+
 /// A store with the `objects` of a row, where others put the objects of `foreign`, a list of `[CALL, OBJECTS]`, before the call of that
 /// number. The calls of the numbers in `store_fails` fail, counted from the first of all; those that are in `store_late` store before. It
 /// has room for as many objects and bytes as `room` says.
 pub fn store_of(file: &RowFile, of: &Value) -> Result<MemStore, RowFault> {
-    let (objects, bytes) = room_at(of, "room", (OBJECTS, OBJECT_BYTES))?;
-    let mut store = MemStore::new(file.alloc(), objects, bytes, foreign_of(file, of)?)?;
-    if let Some(value) = of.get("objects") {
-        stock(&mut store, file.items(value)?)?;
+    let mut store = bare_store(file, of)?;
+    stock_from(file, of, &mut store)?;
+    Ok(store)
+}
+
+fn listed_sizes(alloc: Global, of: &Value, name: &'static str) -> Result<Vec<usize>, RowFault> {
+    let numbers = numbers_at(alloc, of, name)?;
+    let mut sizes = Vec::new(alloc);
+    for size in numbers {
+        sizes.push(size as usize)?;
     }
-    let fails = numbers_at(file.alloc(), of, "store_fails")?;
-    let late = numbers_at(file.alloc(), of, "store_late")?;
-    Ok(store.with_fails(fails, late))
+    Ok(sizes)
 }
 
 // Sizes of pieces: those of a list; or a number, which each piece has.
 fn sizes_at(alloc: Global, of: &Value, name: &'static str) -> Result<Vec<usize>, RowFault> {
-    if let Some(size) = of.get(name).and_then(Value::as_u64) {
-        return Ok(vec![in alloc; size as usize; 3_000]?);
+    match number_at(of, name) {
+        Ok(Some(size)) => Ok(vec![in alloc; size as usize; 3_000]?),
+        _ => listed_sizes(alloc, of, name),
     }
-    let mut sizes = Vec::new(alloc);
-    for size in numbers_at(alloc, of, name)? {
-        sizes.push(size as usize)?;
-    }
-    Ok(sizes)
 }
 
 /// A source of those bytes in pieces of the sizes `in_sizes`, where the reads of the numbers `in_fails` fail.

@@ -2,7 +2,8 @@
 use crate::file::{RowFault, RowFile};
 use base64::engine::general_purpose::STANDARD;
 use itoa::Buffer;
-use serde_json::{Map, Value};
+use serde_json::Value;
+use std::alloc::Global;
 
 // Appends the text of a JSON string, or that of which it is the name.
 fn push_plain(file: &RowFile, text: &str, out: &mut Vec<u8>) -> Result<(), RowFault> {
@@ -20,9 +21,9 @@ fn push_joined(file: &RowFile, value: &Value, out: &mut Vec<u8>) -> Result<(), R
         Value::String(text) => push_plain(file, text, out),
         Value::Array(parts) => {
             for part in parts {
-                match part.as_str() {
-                    Some(text) => push_plain(file, text, out)?,
-                    None => return Err(RowFault::Text),
+                match part {
+                    Value::String(text) => push_plain(file, text, out)?,
+                    _ => return Err(RowFault::Text),
                 }
             }
             Ok(())
@@ -31,48 +32,49 @@ fn push_joined(file: &RowFile, value: &Value, out: &mut Vec<u8>) -> Result<(), R
     }
 }
 
-fn joined(file: &RowFile, value: &Value) -> Result<Vec<u8>, RowFault> {
-    let mut bytes = Vec::new(file.alloc());
-    push_joined(file, value, &mut bytes)?;
-    Ok(bytes)
+/// A count, none where the value is no such number.
+pub(crate) fn count_of(value: &Value) -> Option<u64> {
+    value.as_u64()
 }
 
-// The two arguments of a part.
-fn two<'a>(members: &'a Map<String, Value>, name: &str) -> Option<(&'a Value, &'a Value)> {
-    match members.get(name)?.as_array()?.as_slice() {
+/// The two values of a list that has two.
+pub(crate) fn two(value: &Value) -> Option<(&Value, &Value)> {
+    let Value::Array(pair) = value else {
+        return None;
+    };
+    match pair.as_slice() {
         [first, second] => Some((first, second)),
         _ => None,
     }
 }
 
-// The arguments of a part that are a number and a text, none where it is another part.
-fn numbered(
+fn push_times(
     file: &RowFile,
-    members: &Map<String, Value>,
-    name: &str,
-) -> Result<Option<(u64, Vec<u8>)>, RowFault> {
-    let Some((count, value)) = two(members, name) else {
-        return Ok(None);
-    };
-    match count.as_u64() {
-        Some(count) => Ok(Some((count, joined(file, value)?))),
-        None => Err(RowFault::Text),
-    }
-}
-
-fn push_times(count: u64, bytes: &[u8], out: &mut Vec<u8>) -> Result<(), RowFault> {
+    count: u64,
+    value: &Value,
+    out: &mut Vec<u8>,
+) -> Result<(), RowFault> {
     for _ in 0..count {
-        out.extend_from_slice(bytes)?;
+        push_joined(file, value, out)?;
     }
     Ok(())
 }
 
-fn push_front(count: u64, bytes: &[u8], out: &mut Vec<u8>) -> Result<(), RowFault> {
+fn push_front(
+    file: &RowFile,
+    count: u64,
+    value: &Value,
+    out: &mut Vec<u8>,
+) -> Result<(), RowFault> {
+    let from = out.len();
+    push_joined(file, value, out)?;
     match usize::try_from(count) {
-        Ok(count) if count <= bytes.len() => out.extend_from_slice(&bytes[..count])?,
-        _ => return Err(RowFault::Text),
+        Ok(count) if count <= out.len().saturating_sub(from) => {
+            out.truncate(from.saturating_add(count));
+            Ok(())
+        }
+        _ => Err(RowFault::Text),
     }
-    Ok(())
 }
 
 fn push_sized(
@@ -81,12 +83,13 @@ fn push_sized(
     body: &Value,
     out: &mut Vec<u8>,
 ) -> Result<(), RowFault> {
-    let body = joined(file, body)?;
     push_joined(file, head, out)?;
+    let mut bytes = Vec::new(file.alloc());
+    push_joined(file, body, &mut bytes)?;
     out.extend_from_slice(b"Content-Length: ")?;
-    out.extend_from_slice(Buffer::new().format(body.len()).as_bytes())?;
+    out.extend_from_slice(Buffer::new().format(bytes.len()).as_bytes())?;
     out.extend_from_slice(b"\r\n\r\n")?;
-    out.extend_from_slice(&body)?;
+    out.extend_from_slice(&bytes)?;
     Ok(())
 }
 
@@ -118,37 +121,79 @@ fn push_counted(size: u64, out: &mut Vec<u8>) -> Result<(), RowFault> {
     Ok(())
 }
 
-fn push_form(
+fn push_base64(alloc: Global, text: &str, out: &mut Vec<u8>) -> Result<(), RowFault> {
+    match STANDARD.decode(alloc, text.as_bytes()) {
+        Ok(bytes) => Ok(out.extend_from_slice(&bytes)?),
+        Err(_) => Err(RowFault::Text),
+    }
+}
+
+// Appends what a form makes of a number and plain texts.
+fn push_numbered(
     file: &RowFile,
-    members: &Map<String, Value>,
+    form: &str,
+    count: u64,
+    value: &Value,
     out: &mut Vec<u8>,
 ) -> Result<(), RowFault> {
-    if let Some(text) = members.get("base64").and_then(Value::as_str) {
-        return match STANDARD.decode(file.alloc(), text.as_bytes()) {
-            Ok(bytes) => Ok(out.extend_from_slice(&bytes)?),
-            Err(_) => Err(RowFault::Text),
-        };
+    match form {
+        "times" => push_times(file, count, value, out),
+        "front" => push_front(file, count, value, out),
+        _ => Err(RowFault::Text),
     }
-    if let Some(size) = members.get("counted").and_then(Value::as_u64) {
-        return push_counted(size, out);
-    }
-    if let Some((count, bytes)) = numbered(file, members, "times")? {
-        return push_times(count, &bytes, out);
-    }
-    if let Some((count, bytes)) = numbered(file, members, "front")? {
-        return push_front(count, &bytes, out);
-    }
-    match two(members, "sized") {
-        Some((head, body)) => push_sized(file, head, body, out),
+}
+
+// Appends what a form makes of two values.
+fn push_pair(
+    file: &RowFile,
+    form: &str,
+    first: &Value,
+    second: &Value,
+    out: &mut Vec<u8>,
+) -> Result<(), RowFault> {
+    match count_of(first) {
+        Some(count) => push_numbered(file, form, count, second, out),
+        None if form == "sized" => push_sized(file, first, second, out),
         None => Err(RowFault::Text),
     }
 }
 
-/// Appends a PART.
-pub(crate) fn push_part(file: &RowFile, part: &Value, out: &mut Vec<u8>) -> Result<(), RowFault> {
+fn push_form(file: &RowFile, form: &str, value: &Value, out: &mut Vec<u8>) -> Result<(), RowFault> {
+    match form {
+        "base64" => match value {
+            Value::String(text) => push_base64(file.alloc(), text, out),
+            _ => Err(RowFault::Text),
+        },
+        "counted" => match count_of(value) {
+            Some(size) => push_counted(size, out),
+            None => Err(RowFault::Text),
+        },
+        _ => match two(value) {
+            Some((first, second)) => push_pair(file, form, first, second, out),
+            None => Err(RowFault::Text),
+        },
+    }
+}
+
+// Appends a PART.
+fn push_part(file: &RowFile, part: &Value, out: &mut Vec<u8>) -> Result<(), RowFault> {
     match part {
         Value::String(text) => push_plain(file, text, out),
-        Value::Object(members) => push_form(file, members, out),
+        Value::Object(members) => match members.iter().next() {
+            Some((form, value)) => push_form(file, form, value, out),
+            None => Err(RowFault::Text),
+        },
         _ => Err(RowFault::Text),
     }
+}
+
+/// Appends a TEXT.
+pub(crate) fn push_text(file: &RowFile, value: &Value, out: &mut Vec<u8>) -> Result<(), RowFault> {
+    let Value::Array(parts) = value else {
+        return push_part(file, value, out);
+    };
+    for part in parts {
+        push_part(file, part, out)?;
+    }
+    Ok(())
 }

@@ -1,40 +1,65 @@
 // The rows of standard input, one after another.
-use crate::file::{Row, RowFile};
+use crate::file::{RowFault, RowFile};
+use crate::members::word_at;
 use crate::told::{Told, Totals};
+use json_tree::tree_of;
 use serde_json::Value;
 use std::alloc::AllocError;
 use std::io;
 use std::io::{BufRead, BufReader};
 use std::process::ExitCode;
 
-// What is printed of a row.
-fn told_of_row<F: Fn(&RowFile, &Value, &mut Told)>(
+fn run_row<F: Fn(&RowFile, &Value, &mut Told)>(
     run: &F,
     file: &RowFile,
-    row: &Row,
+    name: &str,
+    row: &Value,
     totals: &mut Totals,
-) -> Result<String, AllocError>
+) -> Result<(), AllocError>
     requires { F.IsAlwaysCallable run.now }
 {
     let mut told = Told::new(file.alloc());
-    run(file, &row.members, &mut told);
-    totals.ran(file.alloc(), row, told)
+    run(file, row, &mut told);
+    totals.ran(name, &told)
 }
 
-// What is printed of a line.
-fn told_of_line<F: Fn(&RowFile, &Value, &mut Told)>(
+// Takes over what an object names, or runs the row that it is.
+fn run_object<F: Fn(&RowFile, &Value, &mut Told)>(
+    run: &F,
+    file: &mut RowFile,
+    object: &Value,
+    totals: &mut Totals,
+) -> Result<(), AllocError>
+    requires { F.IsAlwaysCallable run.now }
+{
+    if let Some(name) = word_at(object, "let") {
+        return match file.name(name, object) {
+            Ok(()) => Ok(()),
+            Err(fault) => totals.unread(fault),
+        };
+    }
+    match word_at(object, "name") {
+        Some(name) => run_row(run, file, name, object, totals),
+        None if object.is_object() => totals.unread(RowFault::NoName),
+        None => totals.unread(RowFault::NotAnObject),
+    }
+}
+
+fn run_line<F: Fn(&RowFile, &Value, &mut Told)>(
     run: &F,
     file: &mut RowFile,
     line: &str,
     totals: &mut Totals,
-) -> Result<String, AllocError>
+) -> Result<(), AllocError>
     requires { F.IsAlwaysCallable run.now }
 {
     totals.next_line();
-    match file.read(line) {
-        Ok(Some(row)) => told_of_row(run, file, &row, totals),
-        Ok(None) => Ok(String::new(file.alloc())),
-        Err(fault) => totals.unread(file.alloc(), fault),
+    if line.is_empty() || line.starts_with('#') {
+        return Ok(());
+    }
+    match tree_of(file.alloc(), line.as_bytes()) {
+        Ok(object) => run_object(run, file, &object, totals),
+        Err(_) => totals.unread(RowFault::NotAnObject),
     }
 }
 
@@ -48,13 +73,15 @@ pub fn run_rows<F: Fn(&RowFile, &Value, &mut Told)>(
     requires { F.IsAlwaysCallable run.now }
 {
     let mut file = RowFile::new(rt.alloc());
-    let mut totals = Totals::new();
+    let mut totals = Totals::new(rt.alloc());
     for line in BufReader::new(rt.alloc(), rt.reader())?.lines(rt.alloc()) {
-        let told = told_of_line(run, &mut file, line?.as_str(), &mut totals)?;
+        run_line(run, &mut file, line?.as_str(), &mut totals)?;
+        let told = totals.told();
         print!(rt; "{told}")?;
     }
-    println!(rt; "{totals}")?;
-    if totals.are_good() {
+    let (passed, failed) = totals.counts();
+    println!(rt; "{passed} passed, {failed} failed")?;
+    if passed > 0 && failed == 0 {
         Ok(ExitCode::SUCCESS)
     } else {
         Ok(ExitCode::FAILURE)

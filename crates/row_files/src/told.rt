@@ -1,18 +1,19 @@
 // What is told of rows.
-use crate::file::{Row, RowFault};
+use crate::file::RowFault;
+use itoa::Buffer;
 use std::alloc::{AllocError, Global};
-use std::fmt;
+use std::fmt::Debug;
 
 // How many bytes are shown from the first that differs on.
 const SHOWN: usize = 120;
 
-/// What of a row came otherwise than it is wanted.
+/// What of a row came otherwise than it is wanted, and the first reason why it couldn't be run. What is amiss is noted here: so what runs a
+/// row has one way to its end.
 #[derive(Drop)]
 pub struct Told {
     alloc: Global,
     text: String,
-    // Memory was wanting for what is to be told.
-    is_cut: bool,
+    has_failed: bool,
 }
 
 // The place of the first byte in which the two differ, or where the shorter one ends.
@@ -35,30 +36,66 @@ fn push_shown(text: &mut String, bytes: &[u8], from: usize) -> Result<(), AllocE
     Ok(())
 }
 
+/// Appends words, one after another.
+pub fn push_words(text: &mut String, words: &[&str]) -> Result<(), AllocError> {
+    for &word in words {
+        text.push_str(word)?;
+    }
+    Ok(())
+}
+
+fn push_fault(text: &mut String, fault: RowFault) -> Result<(), AllocError> {
+    push_words(text, &fault.words())?;
+    text.push_str("\n")
+}
+
+fn push_number(text: &mut String, number: u64) -> Result<(), AllocError> {
+    text.push_str(Buffer::new().format(number))
+}
+
 impl Told {
     /// Nothing yet.
     pub(crate) fn new(alloc: Global) -> Told {
         Told {
             alloc,
             text: String::new(alloc),
-            is_cut: false,
+            has_failed: false,
         }
     }
 
-    fn add_fault(&mut self, fault: RowFault) -> Result<(), AllocError> {
-        let line = format!(in self.alloc; "  {fault}\n")?;
-        self.text.push_str(line.as_str())
+    /// Notes why the row can't be run.
+    pub fn fail(&mut self, fault: RowFault) {
+        if !self.has_failed {
+            self.has_failed = true;
+            let _ = self.text.push_str("  ");
+            let _ = push_fault(&mut self.text, fault);
+        }
     }
 
-    /// Tells why the row wasn't run, where it wasn't.
+    /// Notes why the row wasn't run, where it wasn't.
     pub fn end(&mut self, ran: Result<(), RowFault>) {
         if let Err(fault) = ran {
-            self.is_cut = self.add_fault(fault).is_err();
+            self.fail(fault);
         }
     }
 
-    fn is_empty(&self) -> bool {
-        self.text.is_empty() && !self.is_cut
+    /// Notes that memory was wanting, where it was.
+    pub fn stored(&mut self, done: Result<(), AllocError>) {
+        if done.is_err() {
+            self.fail(RowFault::NoMemory);
+        }
+    }
+
+    /// The characters that the bytes of a TEXT spell, none where they spell none.
+    pub fn characters(&mut self, text: Result<Vec<u8>, RowFault>) -> String {
+        match text {
+            Ok(bytes) => match String::from_utf8(bytes) {
+                Ok(text) => return text,
+                Err(_) => self.fail(RowFault::Text),
+            },
+            Err(fault) => self.fail(fault),
+        }
+        String::new(self.alloc)
     }
 
     /// Compares what is wanted of that part of an answer with what came.
@@ -67,86 +104,113 @@ impl Told {
             return Ok(());
         }
         let from = first_other(wanted, came);
-        let head = format!(in self.alloc; "  {part} from byte {from}: wanted ")?;
-        self.text.push_str(head.as_str())?;
+        push_words(&mut self.text, &["  ", part, " from byte "])?;
+        push_number(&mut self.text, from as u64)?;
+        self.text.push_str(": wanted ")?;
         push_shown(&mut self.text, wanted, from)?;
         self.text.push_str(", came ")?;
         push_shown(&mut self.text, came, from)?;
         self.text.push_str("\n")
     }
 
-    /// Compares numbers.
-    pub fn compare_numbers(
+    /// The same, where what is wanted may not be read.
+    pub fn want(&mut self, part: &str, wanted: Result<Vec<u8>, RowFault>, came: &[u8]) {
+        match wanted {
+            Ok(wanted) => {
+                let done = self.compare(part, &wanted, came);
+                self.stored(done);
+            }
+            Err(fault) => self.fail(fault),
+        }
+    }
+
+    /// The same of how a value is shown.
+    pub fn want_shown<D: Debug>(
         &mut self,
         part: &str,
-        wanted: u64,
-        came: u64,
-    ) -> Result<(), AllocError> {
-        if wanted == came {
-            return Ok(());
+        wanted: Result<Vec<u8>, RowFault>,
+        came: &D,
+    ) {
+        match format!(in self.alloc; "{came:?}") {
+            Ok(came) => self.want(part, wanted, came.as_bytes()),
+            Err(_) => self.fail(RowFault::NoMemory),
         }
-        let line = format!(in self.alloc; "  {part}: wanted {wanted}, came {came}\n")?;
-        self.text.push_str(line.as_str())
+    }
+
+    fn push_numbers(&mut self, part: &str, wanted: u64, came: u64) -> Result<(), AllocError> {
+        push_words(&mut self.text, &["  ", part, ": wanted "])?;
+        push_number(&mut self.text, wanted)?;
+        self.text.push_str(", came ")?;
+        push_number(&mut self.text, came)?;
+        self.text.push_str("\n")
+    }
+
+    /// Compares numbers.
+    pub fn want_number(&mut self, part: &str, wanted: u64, came: u64) {
+        if wanted != came {
+            let done = self.push_numbers(part, wanted, came);
+            self.stored(done);
+        }
     }
 }
 
-/// How many rows came as they are wanted, and how many didn't.
+/// How many rows came as they are wanted, how many didn't, and what is to be printed of a line.
 #[derive(Drop)]
 pub(crate) struct Totals {
     line: u64,
     passed: u64,
     failed: u64,
+    text: String,
 }
 
 impl Totals {
-    pub(crate) fn new() -> Totals {
+    pub(crate) fn new(alloc: Global) -> Totals {
         Totals {
             line: 0,
             passed: 0,
             failed: 0,
+            text: String::new(alloc),
         }
     }
 
-    /// Counts a line.
+    /// Goes on to the next line.
     pub(crate) fn next_line(&mut self) {
         self.line = self.line.saturating_add(1);
+        self.text.clear();
     }
 
-    /// Counts a line that isn't read, and says what is printed of it.
-    pub(crate) fn unread(&mut self, alloc: Global, fault: RowFault) -> Result<String, AllocError> {
+    /// Counts a line that isn't read.
+    pub(crate) fn unread(&mut self, fault: RowFault) -> Result<(), AllocError> {
         self.failed = self.failed.saturating_add(1);
-        let line = self.line;
-        format!(in alloc; "line {line}: {fault}\n")
+        self.text.push_str("line ")?;
+        push_number(&mut self.text, self.line)?;
+        self.text.push_str(": ")?;
+        push_fault(&mut self.text, fault)
     }
 
-    /// Counts a row that was run, and says what is printed of it: nothing where all came as it is wanted.
-    pub(crate) fn ran(
-        &mut self,
-        alloc: Global,
-        row: &Row,
-        told: Told,
-    ) -> Result<String, AllocError> {
-        if told.is_empty() {
+    fn push_told(&mut self, name: &str, told: &Told) -> Result<(), AllocError> {
+        push_words(&mut self.text, &[name, " (line "])?;
+        push_number(&mut self.text, self.line)?;
+        push_words(&mut self.text, &["):\n", told.text.as_str()])
+    }
+
+    /// Counts a row that was run.
+    pub(crate) fn ran(&mut self, name: &str, told: &Told) -> Result<(), AllocError> {
+        if told.text.is_empty() && !told.has_failed {
             self.passed = self.passed.saturating_add(1);
-            return Ok(String::new(alloc));
+            return Ok(());
         }
         self.failed = self.failed.saturating_add(1);
-        let name = row.name.as_str();
-        let line = self.line;
-        let text = told.text.as_str();
-        format!(in alloc; "{name} (line {line}):\n{text}")
+        self.push_told(name, told)
     }
 
-    /// Whether there were rows, and all came as they are wanted.
-    pub(crate) fn are_good(&self) -> bool {
-        self.passed > 0 && self.failed == 0
+    /// What is to be printed of the line.
+    pub(crate) fn told(&self) -> &str {
+        self.text.as_str()
     }
-}
 
-impl fmt::Display for Totals {
-    fn fmt<W: fmt::Write>(&self, f: &mut fmt::Formatter<W>) -> fmt::Result {
-        let passed = self.passed;
-        let failed = self.failed;
-        write!(f, "{passed} passed, {failed} failed")
+    /// How many rows passed, and how many rows and lines failed.
+    pub(crate) fn counts(&self) -> (u64, u64) {
+        (self.passed, self.failed)
     }
 }

@@ -1,31 +1,10 @@
 // Lines in memory: what comes on each, and what is to be written to it.
 use edge_core::{MemClosed, MemLine, MemLink, MemPeer, MemSink, MemSource};
-use row_files::{RowFault, RowFile, Told, number_at, sink_of, source_of, text_at};
+use row_files::{
+    RowFault, RowFile, Told, member_at, number_at, sink_of, source_of, text_at, text_or_nothing,
+    word_at,
+};
 use serde_json::Value;
-
-/// The TEXT of that name, empty where it is lacking.
-pub(crate) fn text_or_nothing(
-    file: &RowFile,
-    of: &Value,
-    name: &'static str,
-) -> Result<Vec<u8>, RowFault> {
-    match of.get(name) {
-        Some(value) => file.text(value),
-        None => Ok(Vec::new(file.alloc())),
-    }
-}
-
-/// Compares the TEXT of that name with what came.
-pub(crate) fn compare_text(
-    file: &RowFile,
-    row: &Value,
-    told: &mut Told,
-    name: &'static str,
-    came: &[u8],
-) -> Result<(), RowFault> {
-    let wanted = text_or_nothing(file, row, name)?;
-    told.compare(name, &wanted, came).map_err(RowFault::from)
-}
 
 /// A sink whose first pieces have those sizes, unless it says others.
 pub(crate) fn sink_in_pieces(
@@ -33,22 +12,21 @@ pub(crate) fn sink_in_pieces(
     of: &Value,
     usual: &[usize],
 ) -> Result<MemSink, RowFault> {
-    let sizes = Vec::from_slice(file.alloc(), usual)?;
-    let sink = sink_of(file, of)?;
-    match of.get("out_sizes") {
-        Some(_) => Ok(sink),
-        None => Ok(sink.with_sizes(sizes)),
+    if member_at(of, "out_sizes").is_some() {
+        return sink_of(file, of);
     }
+    let sizes = Vec::from_slice(file.alloc(), usual)?;
+    Ok(sink_of(file, of)?.with_sizes(sizes))
 }
 
 // What comes on a line, in pieces of those sizes, unless it says others.
 fn source_in_pieces(file: &RowFile, of: &Value) -> Result<MemSource, RowFault> {
-    let sizes = Vec::from_slice(file.alloc(), &[1, 20, 5])?;
-    let source = source_of(file, of, text_at(file, of, "in")?)?;
-    match of.get("in_sizes") {
-        Some(_) => Ok(source),
-        None => Ok(source.with_sizes(sizes)),
+    let text = text_at(file, of, "in")?;
+    if member_at(of, "in_sizes").is_some() {
+        return source_of(file, of, text);
     }
+    let sizes = Vec::from_slice(file.alloc(), &[1, 20, 5])?;
+    Ok(source_of(file, of, text)?.with_sizes(sizes))
 }
 
 // A line of those, which nobody has used.
@@ -67,47 +45,53 @@ pub(crate) fn line_of(file: &RowFile, of: &Value) -> Result<MemLine, RowFault> {
     line_between(source, sink)
 }
 
-// The host of a line, and its port.
-fn place_of<'a>(of: &'a Value) -> Result<(&'a str, u16), RowFault> {
-    let host = of.get("host").and_then(Value::as_str).unwrap_or("peer");
+fn port_of(of: &Value) -> Result<u16, RowFault> {
     match u16::try_from(number_at(of, "port")?.unwrap_or(8080)) {
-        Ok(port) => Ok((host, port)),
+        Ok(port) => Ok(port),
         Err(_) => Err(RowFault::Member("port")),
     }
 }
 
 fn peer_of(file: &RowFile, of: &Value) -> Result<MemPeer, RowFault> {
-    let (host, port) = place_of(of)?;
-    let host = String::from_str(file.alloc(), host)?;
+    let port = port_of(of)?;
+    let host = String::from_str(file.alloc(), word_at(of, "host").unwrap_or("peer"))?;
     let line = line_of(file, of)?;
     Ok(MemPeer { host, port, line })
+}
+
+fn push_peers(file: &RowFile, lines: &[Value], peers: &mut Vec<MemPeer>) -> Result<(), RowFault> {
+    for line in lines {
+        peers.push(peer_of(file, line)?)?;
+    }
+    Ok(())
 }
 
 /// A link of those lines.
 pub(crate) fn link_of(file: &RowFile, lines: &[Value]) -> Result<MemLink, RowFault> {
     let mut peers = Vec::new(file.alloc());
-    for line in lines {
-        peers.push(peer_of(file, line)?)?;
-    }
+    push_peers(file, lines, &mut peers)?;
     Ok(MemLink::new(file.alloc(), peers)?)
 }
 
 /// Compares what was written to the lines that were closed with what each is to be told: one that is told nothing isn't opened.
 pub(crate) fn compare_lines(
     file: &RowFile,
-    told: &mut Told,
     lines: &[Value],
     closed: &[MemClosed],
-) -> Result<(), RowFault> {
+    told: &mut Told,
+) {
     let mut opened = 0u64;
     for line in lines {
-        if line.get("told").is_some() {
+        if member_at(line, "told").is_some() {
             opened = opened.saturating_add(1);
         }
     }
-    told.compare_numbers("opened lines", opened, closed.len() as u64)?;
+    told.want_number("opened lines", opened, closed.len() as u64);
     for (line, closed) in lines.iter().zip(closed) {
-        compare_text(file, line, told, "told", closed.written())?;
+        told.want(
+            "told",
+            text_or_nothing(file, line, "told"),
+            closed.written(),
+        );
     }
-    Ok(())
 }

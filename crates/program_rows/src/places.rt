@@ -3,11 +3,31 @@
 ghost use Rattle.std.specs.Prelude.{◌≡◌, false};
 
 use edge_core::{MemClock, MemSource, MemStore, OpenGate, Sink};
+use row_files::{RowFault, RowFile, member_at};
+use serde_json::Value;
+use share_config::config_of;
 use share_hub::{Hub, HubPass, OpenRefusal};
+use share_loop::Peer;
 use share_serve::{Server, SessionEnd, serve_conn};
 use std::alloc::Global;
 use std::sync::Wait;
 use step_count::Steps;
+
+fn config_text(file: &RowFile, row: &Value) -> Result<Vec<u8>, RowFault> {
+    match member_at(row, "config") {
+        Some(value) => file.text(value),
+        None => file.text_named("config"),
+    }
+}
+
+/// The server of the `config` of a row, or that of the text of this name.
+pub(crate) fn server_of(file: &RowFile, row: &Value) -> Result<Server, RowFault> {
+    let text = config_text(file, row)?;
+    match config_of(file.alloc(), &text) {
+        Ok(config) => Ok(Server::of(config)),
+        Err(_) => Err(RowFault::Member("config")),
+    }
+}
 
 // The work of a replay.
 struct Work;
@@ -55,5 +75,16 @@ impl Place {
             sink,
             &mut steps,
         )
+    }
+
+    /// The server in this process that has this state.
+    pub(crate) fn into_peer(
+        self,
+        server: Server,
+        store: MemStore,
+        clock: MemClock,
+    ) -> Peer<MemStore, MemClock, OpenGate> {
+        let Place { hub, pass } = self;
+        Peer::new(hub, pass, server, store, clock, OpenGate)
     }
 }

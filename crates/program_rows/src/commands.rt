@@ -1,10 +1,9 @@
 // Commands, from words and stored bytes to printed lines.
-use crate::lines::{
-    compare_lines, compare_text, line_of, link_of, sink_in_pieces, text_or_nothing,
-};
+use crate::lines::{compare_lines, line_of, link_of, sink_in_pieces};
 use edge_core::{MemClock, MemLine, MemLink, MemListener, MemSink, MemSource, MemStore, OpenGate};
 use row_files::{
-    RowFault, RowFile, Told, clock_of, list_at, number_at, numbers_at, source_of, store_of,
+    RowFault, RowFile, Told, clock_of, list_at, member_at, number_at, numbers_at, source_of,
+    store_of, text_or_nothing,
 };
 use serde_json::Value;
 use share_commands::{Edge, run};
@@ -17,19 +16,16 @@ type Memory = Edge<MemSource, MemSink, MemSink, MemStore, MemClock, OpenGate, ()
 
 type MemDesk = Desk<MemListener, MemStore, MemClock, ()>;
 
-fn word_of(file: &RowFile, value: &Value) -> Result<String, RowFault> {
-    match String::from_utf8(file.text(value)?) {
-        Ok(word) => Ok(word),
-        Err(_) => Err(RowFault::Text),
-    }
-}
-
-fn words_of(file: &RowFile, row: &Value) -> Result<Vec<String>, RowFault> {
-    let mut words = Vec::new(file.alloc());
+fn push_command_words(
+    file: &RowFile,
+    row: &Value,
+    words: &mut Vec<String>,
+    told: &mut Told,
+) -> Result<(), RowFault> {
     for value in list_at(row, "words")? {
-        words.push(word_of(file, value)?)?;
+        words.push(told.characters(file.text(value)))?;
     }
-    Ok(words)
+    Ok(())
 }
 
 // What is written goes out in pieces of one byte and of seven, and then whole.
@@ -39,17 +35,17 @@ fn written(file: &RowFile, of: &Value) -> Result<MemSink, RowFault> {
 
 // Where the notes go: `on_notes` says of their writes what the row itself says of the output's.
 fn notes_of(file: &RowFile, row: &Value) -> Result<MemSink, RowFault> {
-    match row.get("on_notes") {
+    match member_at(row, "on_notes") {
         Some(of) => written(file, of),
         None => written(file, &Value::Null),
     }
 }
 
 fn edge_of(file: &RowFile, row: &Value) -> Result<Memory, RowFault> {
+    let clock = clock_of(file, row)?;
     let input = source_of(file, row, text_or_nothing(file, row, "in")?)?;
     let output = written(file, row)?;
     let notes = notes_of(file, row)?;
-    let clock = clock_of(file, row)?;
     Ok(Edge {
         input,
         output,
@@ -61,23 +57,24 @@ fn edge_of(file: &RowFile, row: &Value) -> Result<Memory, RowFault> {
     })
 }
 
-fn lines_of(file: &RowFile, of: &Value) -> Result<Vec<MemLine>, RowFault> {
-    let mut lines = Vec::new(file.alloc());
+fn push_lines(file: &RowFile, of: &Value, lines: &mut Vec<MemLine>) -> Result<(), RowFault> {
     for line in list_at(of, "lines")? {
         lines.push(line_of(file, line)?)?;
     }
-    Ok(lines)
+    Ok(())
 }
 
 fn door_of(file: &RowFile, of: &Value) -> Result<MemListener, RowFault> {
     let fails = numbers_at(file.alloc(), of, "door_fails")?;
-    let lines = lines_of(file, of)?;
+    let mut lines = Vec::new(file.alloc());
+    push_lines(file, of, &mut lines)?;
     Ok(MemListener::new(file.alloc(), lines)?.with_fails(fails))
 }
 
-// A desk of that door, over a store of its own with the row's objects.
-fn desk_of(file: &RowFile, row: &Value, door: MemListener) -> Result<MemDesk, RowFault> {
+// A desk of a door, over a store of its own with the row's objects.
+fn desk_of(file: &RowFile, row: &Value, of: &Value) -> Result<MemDesk, RowFault> {
     let clock = clock_of(file, row)?;
+    let door = door_of(file, of)?;
     Ok(MemDesk {
         pass: None,
         door,
@@ -88,12 +85,11 @@ fn desk_of(file: &RowFile, row: &Value, door: MemListener) -> Result<MemDesk, Ro
     })
 }
 
-fn desks_of(file: &RowFile, row: &Value) -> Result<Vec<MemDesk>, RowFault> {
-    let mut desks = Vec::new(file.alloc());
+fn push_desks(file: &RowFile, row: &Value, desks: &mut Vec<MemDesk>) -> Result<(), RowFault> {
     for of in list_at(row, "desks")? {
-        desks.push(desk_of(file, row, door_of(file, of)?)?)?;
+        desks.push(desk_of(file, row, of)?)?;
     }
-    Ok(desks)
+    Ok(())
 }
 
 // Runs the words, and answers the status. What `run` promises isn't needed here, and would make proofs long.
@@ -108,63 +104,71 @@ fn status_of<R: Threads + Wait + Sync>(
     run(rt, file.alloc(), words, edge, desks, way)
 }
 
+fn compare_status(row: &Value, status: u8, told: &mut Told) {
+    match number_at(row, "status") {
+        Ok(wanted) => told.want_number("status", wanted.unwrap_or(0), u64::from(status)),
+        Err(fault) => told.fail(fault),
+    }
+}
+
+// Compares what came of the run.
+fn compare_edge(file: &RowFile, row: &Value, edge: &Memory, told: &mut Told) {
+    told.want(
+        "out",
+        text_or_nothing(file, row, "out"),
+        edge.output.bytes(),
+    );
+    told.want(
+        "notes",
+        text_or_nothing(file, row, "notes"),
+        edge.notes.bytes(),
+    );
+}
+
 fn compare_desks(
     file: &RowFile,
     row: &Value,
-    told: &mut Told,
     desks: &[MemDesk],
+    told: &mut Told,
 ) -> Result<(), RowFault> {
     for (of, desk) in list_at(row, "desks")?.iter().zip(desks) {
-        compare_lines(file, told, list_at(of, "lines")?, desk.door.closed())?;
+        compare_lines(file, list_at(of, "lines")?, desk.door.closed(), told);
     }
     Ok(())
 }
 
-fn compare_status(row: &Value, told: &mut Told, status: u8) -> Result<(), RowFault> {
-    let wanted = number_at(row, "status")?.unwrap_or(0);
-    told.compare_numbers("status", wanted, u64::from(status))
-        .map_err(RowFault::from)
-}
-
-// Runs the words of the row, and compares what came.
+// Runs those words at those desks, and compares what came.
 fn run_words<R: Threads + Wait + Sync>(
     rt: &R,
     file: &RowFile,
     row: &Value,
-    told: &mut Told,
-    edge: &mut Memory,
+    words: &[String],
     desks: &mut [MemDesk],
     way: &mut MemLink,
-) -> Result<(), RowFault> {
-    let words = words_of(file, row)?;
-    let status = status_of(rt, file, &words, edge, desks, way);
-    compare_status(row, told, status)?;
-    compare_text(file, row, told, "out", edge.output.bytes())?;
-    compare_text(file, row, told, "notes", edge.notes.bytes())
-}
-
-fn run_inside<R: Threads + Wait + Sync>(
-    rt: &R,
-    file: &RowFile,
-    row: &Value,
     told: &mut Told,
-    desks: &mut [MemDesk],
-    way: &mut MemLink,
 ) -> Result<(), RowFault> {
     let mut edge = edge_of(file, row)?;
-    run_words(rt, file, row, told, &mut edge, desks, way)
+    let status = status_of(rt, file, words, &mut edge, desks, way);
+    compare_status(row, status, told);
+    compare_edge(file, row, &edge, told);
+    Ok(())
 }
 
 fn run_at_desks<R: Threads + Wait + Sync>(
     rt: &R,
     file: &RowFile,
     row: &Value,
-    told: &mut Told,
+    words: &[String],
     way: &mut MemLink,
-) -> Result<(), RowFault> {
-    let mut desks = desks_of(file, row)?;
-    run_inside(rt, file, row, told, &mut desks, way)?;
-    compare_desks(file, row, told, &desks)
+    told: &mut Told,
+) {
+    let mut desks = Vec::new(file.alloc());
+    let made = push_desks(file, row, &mut desks);
+    told.end(made);
+    let ran = run_words(rt, file, row, words, &mut desks, way, told);
+    told.end(ran);
+    let compared = compare_desks(file, row, &desks, told);
+    told.end(compared);
 }
 
 /// A row of a command: `words` and `in`, the `objects` of the store, the `lines` to peers and the `desks` of a server, each with its
@@ -176,7 +180,10 @@ pub(crate) fn command_row<R: Threads + Wait + Sync>(
     told: &mut Told,
 ) -> Result<(), RowFault> {
     let lines = list_at(row, "lines")?;
+    let mut words = Vec::new(file.alloc());
+    push_command_words(file, row, &mut words, told)?;
     let mut way = link_of(file, lines)?;
-    run_at_desks(rt, file, row, told, &mut way)?;
-    compare_lines(file, told, lines, way.closed())
+    run_at_desks(rt, file, row, &words, &mut way, told);
+    compare_lines(file, lines, way.closed(), told);
+    Ok(())
 }
