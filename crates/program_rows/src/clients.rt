@@ -100,6 +100,17 @@ fn push_read(text: &mut String, ended: &Result<TableRead, ClientFault>) -> Resul
     }
 }
 
+fn push_queried<L: Link>(
+    alloc: Global,
+    client: &Client,
+    link: &mut L,
+    table: &SharedTable,
+    body: &QueryBody,
+    text: &mut String,
+) -> Result<(), AllocError> {
+    push_read(text, &client.read_table(alloc, link, table, body))
+}
+
 // Appends what a query of that body answers.
 fn push_query<L: Link>(
     alloc: Global,
@@ -110,7 +121,7 @@ fn push_query<L: Link>(
     text: &mut String,
 ) -> Result<(), AllocError> {
     match QueryBody::of(alloc, body)? {
-        Some(body) => push_read(text, &client.read_table(alloc, link, table, &body)),
+        Some(body) => push_queried(alloc, client, link, table, &body, text),
         None => text.push_str("no query"),
     }
 }
