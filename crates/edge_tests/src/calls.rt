@@ -1,21 +1,23 @@
-//! Calls of what is tested, without clauses, so that the proof of a test carries none of theirs.
-use edge_core::{Gave, Got, Listed, Measured, Name, Segments, Sink, Source, Store, Took};
+//! Calls of what is tested, without clauses, so that the proof of a test carries none of theirs. None is answered where what is called
+//! can't be made.
+use edge_core::{Gave, Got, Listed, Measured, Name, Put, Segments, Sink, Source, Store, Took};
 use std::alloc::Global;
-use std::test::Fail;
 
 // 1 MiB.
 pub(crate) const LARGE: usize = 1_048_576;
 
-pub(crate) fn name(alloc: Global, text: &str) -> Result<Name, Fail> {
-    match Name::of(String::from_str(alloc, text)?) {
-        Some(name) => Ok(name),
-        None => Err(Fail::from("no name")),
+fn name(alloc: Global, text: &str) -> Option<Name> {
+    match String::from_str(alloc, text) {
+        Ok(text) => Name::of(text),
+        Err(_) => None,
     }
 }
 
-pub(crate) fn size<S: Store>(alloc: Global, store: &mut S, object: &str) -> Result<Measured, Fail> {
-    let name = name(alloc, object)?;
-    Ok(store.size(&name))
+pub(crate) fn size<S: Store>(alloc: Global, store: &mut S, object: &str) -> Option<Measured> {
+    match name(alloc, object) {
+        Some(name) => Some(store.size(&name)),
+        None => None,
+    }
 }
 
 // What is read into the room from a place on.
@@ -25,20 +27,40 @@ pub(crate) fn get<S: Store>(
     object: &str,
     from: u64,
     out: &mut [u8],
-) -> Result<Got, Fail> {
+) -> Option<Got> {
     if out.is_empty() {
-        return Err(Fail::from("no room"));
+        return None;
     }
-    let name = name(alloc, object)?;
-    Ok(store.get(&name, from, out))
+    match name(alloc, object) {
+        Some(name) => Some(store.get(&name, from, out)),
+        None => None,
+    }
+}
+
+pub(crate) fn put<S: Store>(
+    alloc: Global,
+    store: &mut S,
+    object: &str,
+    bytes: &[u8],
+) -> Option<Put> {
+    match name(alloc, object) {
+        Some(name) => Some(store.put_absent(&name, bytes)),
+        None => None,
+    }
+}
+
+fn names_in(listed: Listed) -> Option<Segments> {
+    match listed {
+        Listed::Names(names) => Some(names),
+        Listed::Failed | Listed::NoMemory => None,
+    }
 }
 
 // What a folder lists.
-pub(crate) fn list<S: Store>(alloc: Global, store: &mut S, dir: &str) -> Result<Segments, Fail> {
-    let dir = name(alloc, dir)?;
-    match store.list(alloc, &dir) {
-        Listed::Names(names) => Ok(names),
-        Listed::Failed | Listed::NoMemory => Err(Fail::from("the folder isn't listed")),
+pub(crate) fn list<S: Store>(alloc: Global, store: &mut S, dir: &str) -> Option<Segments> {
+    match name(alloc, dir) {
+        Some(dir) => names_in(store.list(alloc, &dir)),
+        None => None,
     }
 }
 

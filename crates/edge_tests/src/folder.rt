@@ -1,5 +1,5 @@
 //! A store in a real folder, which each test makes for itself.
-use crate::calls::{LARGE, get, list, name, size};
+use crate::calls::{LARGE, get, list, put, size};
 use edge_core::{Got, Measured, Name, Put, Store};
 use edge_std::FileStore;
 use std::alloc::{AllocError, Global};
@@ -29,102 +29,114 @@ fn store_in(rt: &HostRuntime, folder: &str) -> Result<FileStore, AllocError> {
     Ok(FileStore::new(rt.clone()?, String::from_str(rt.alloc(), folder)?))
 }
 
-fn remove(rt: &HostRuntime, folder: &str) -> Result<(), Fail> {
-    fs::remove_dir_all(rt, folder)?;
-    Ok(())
+// What is done in a folder with its store, and what is to come of it, a line each:
+// - `put NAME BYTES ANSWER`: a put of those bytes under a name, and its answer;
+// - `has NAME BYTES`: the object has those bytes, and that size;
+// - `piece NAME FROM COUNT ROOM`: reading from a place on gives so many bytes, and leaves these three in the room, where dashes were;
+// - `absent NAME`: no object has the name; `fails NAME`: neither a read nor a look at the size is answered;
+// - `lists NAME NAMES`: the folder has objects of those last segments, in order;
+// - `link NAME TARGET`: a symbolic link to a target is made, at a path of the disk;
+// - `leave NAME`: there is a file that a program leaves which was stopped while it wrote;
+// - `entries NAME COUNT`: how many entries a folder of the disk has.
+const STEPS: &str = "# An object is stored once, and read again.
+absent t/_delta_log/0.json
+put t/_delta_log/0.json abc stored
+put t/_delta_log/0.json other exists
+put t/_delta_log/1.json d stored
+has t/_delta_log/0.json abc
+lists t/_delta_log 0.json 1.json
+# Folders are no objects. The folder's name is told, and nothing is there to be read. A file in a folder's place: the folder isn't there,
+# and nothing is below it.
+put a/b/c c stored
+put a/b x failed
+absent a/b
+absent a/b/c/d
+lists a b
+lists a/b/c
+lists none
+# A link to a file is the file; links to themselves, to nothing and to a folder are no objects. Each name is told, and what a failed put
+# wrote is gone.
+put links/file f stored
+link links/good file
+link links/loop loop
+link links/nowhere none
+link links/up .
+has links/good f
+absent links/loop
+absent links/nowhere
+absent links/up
+put links/loop x failed
+put links/nowhere x failed
+put links/up x failed
+lists links file good loop nowhere up
+entries links 5
+# Pieces are those of the named object: names in another order than their bytes', and names of one length.
+put d/b1 first. stored
+put d/a2 second stored
+put d/a third. stored
+put d/10 fourth stored
+piece d/b1 0 3 fir
+piece d/a2 3 3 ond
+piece d/b1 3 3 st.
+piece d/b1 6 0 ---
+lists d 10 a a2 b1
+# A name that is too long for the disk fails.
+put nnnnnnnnnnnnnnnnnnnnnnnnnnnnnnnnnnnnnnnnnnnnnnnnnnnnnnnnnnnnnnnnnnnnnnnnnnnnnnnnnnnnnnnnnnnnnnnnnnnnnnnnnnnnnnnnnnnnnnnnnnnnnnnnnnnnnnnnnnnnnnnnnnnnnnnnnnnnnnnnnnnnnnnnnnnnnnnnnnnnnnnnnnnnnnnnnnnnnnnnnnnnnnnnnnnnnnnnnnnnnnnnnnnnnnnnnnnnnnnnnnnnnnnnnnnnnnnnnnnnnnnnnnnnnnnnnnnnnnnnnnnnnnnnnnnnnnnnnnnn x failed
+fails nnnnnnnnnnnnnnnnnnnnnnnnnnnnnnnnnnnnnnnnnnnnnnnnnnnnnnnnnnnnnnnnnnnnnnnnnnnnnnnnnnnnnnnnnnnnnnnnnnnnnnnnnnnnnnnnnnnnnnnnnnnnnnnnnnnnnnnnnnnnnnnnnnnnnnnnnnnnnnnnnnnnnnnnnnnnnnnnnnnnnnnnnnnnnnnnnnnnnnnnnnnnnnnnnnnnnnnnnnnnnnnnnnnnnnnnnnnnnnnnnnnnnnnnnnnnnnnnnnnnnnnnnnnnnnnnnnnnnnnnnnnnnnnnnnnnnnnnnnnn
+# What has no name yet is passed over.
+put halves/one 1 stored
+leave halves/.share-put-0
+put halves/two 22 stored
+lists halves one two
+absent halves/.share-put-0
+put halves/.share-put-1 x failed";
+
+// The first word of a text, and the others.
+fn cut(text: &str) -> (&str, &str) {
+    match text.split_once(' ') {
+        Some(parts) => parts,
+        None => (text, ""),
+    }
 }
 
-// What is done in a folder with its store, and what is to come of it.
-enum Step {
-    // A put of bytes under a name, and its answer.
-    Put(&'static str, &'static str, Put),
-    // The object has those bytes, and that size.
-    Has(&'static str, &'static str),
-    // Reading from a place on gives so many bytes, and leaves these three in the room, where dashes were.
-    Piece(&'static str, u64, usize, &'static str),
-    // No object has the name.
-    Absent(&'static str),
-    // Neither a read nor a look at the size is answered.
-    Fails(&'static str),
-    // The folder has objects of those last segments, in order, each with a space behind it.
-    Lists(&'static str, &'static str),
-    // A symbolic link to a target, at a path of the disk.
-    Link(&'static str, &'static str),
-    // A file that a program leaves which was stopped while it wrote.
-    Leave(&'static str),
-    // How many entries a folder of the disk has.
-    Entries(&'static str, usize),
+fn put_of(word: &str) -> Option<Put> {
+    match word {
+        "stored" => Some(Put::Stored),
+        "exists" => Some(Put::Exists),
+        "failed" => Some(Put::Failed),
+        _ => None,
+    }
 }
 
-// A name of 300 bytes.
-const LONG: &str =
-    "nnnnnnnnnnnnnnnnnnnnnnnnnnnnnnnnnnnnnnnnnnnnnnnnnnnnnnnnnnnnnnnnnnnnnnnnnnnnnnnnnnnnnnnnnnnnnnnnnnnnnnnnnnnnnnnnnnnnnnnnnnnnnnnnnnnnnnnnnnnnnnnnnnnnnnnnnnnnnnnnnnnnnnnnnnnnnnnnnnnnnnnnnnnnnnnnnnnnnnnnnnnnnnnnnnnnnnnnnnnnnnnnnnnnnnnnnnnnnnnnnnnnnnnnnnnnnnnnnnnnnnnnnnnnnnnnnnnnnnnnnnnnnnnnnnnnnnnnnnnn";
-
-static STEPS: [Step; 44] = [
-    // An object is stored once, and read again.
-    Step::Absent("t/_delta_log/0.json"),
-    Step::Put("t/_delta_log/0.json", "abc", Put::Stored),
-    Step::Put("t/_delta_log/0.json", "other", Put::Exists),
-    Step::Put("t/_delta_log/1.json", "d", Put::Stored),
-    Step::Has("t/_delta_log/0.json", "abc"),
-    Step::Lists("t/_delta_log", "0.json 1.json "),
-    // Folders are no objects. The folder's name is told, and nothing is there to be read. A file in a folder's place: the folder
-    // isn't there, and nothing is below it.
-    Step::Put("a/b/c", "c", Put::Stored),
-    Step::Put("a/b", "x", Put::Failed),
-    Step::Absent("a/b"),
-    Step::Absent("a/b/c/d"),
-    Step::Lists("a", "b "),
-    Step::Lists("a/b/c", ""),
-    Step::Lists("none", ""),
-    // A link to a file is the file; links to themselves, to nothing and to a folder are no objects. Each name is told, and what a
-    // failed put wrote is gone.
-    Step::Put("links/file", "f", Put::Stored),
-    Step::Link("file", "links/good"),
-    Step::Link("loop", "links/loop"),
-    Step::Link("none", "links/nowhere"),
-    Step::Link(".", "links/up"),
-    Step::Has("links/good", "f"),
-    Step::Absent("links/loop"),
-    Step::Absent("links/nowhere"),
-    Step::Absent("links/up"),
-    Step::Put("links/loop", "x", Put::Failed),
-    Step::Put("links/nowhere", "x", Put::Failed),
-    Step::Put("links/up", "x", Put::Failed),
-    Step::Lists("links", "file good loop nowhere up "),
-    Step::Entries("links", 5),
-    // Pieces are those of the named object: names in another order than their bytes', and names of one length.
-    Step::Put("d/b1", "first.", Put::Stored),
-    Step::Put("d/a2", "second", Put::Stored),
-    Step::Put("d/a", "third.", Put::Stored),
-    Step::Put("d/10", "fourth", Put::Stored),
-    Step::Piece("d/b1", 0, 3, "fir"),
-    Step::Piece("d/a2", 3, 3, "ond"),
-    Step::Piece("d/b1", 3, 3, "st."),
-    Step::Piece("d/b1", 6, 0, "---"),
-    Step::Lists("d", "10 a a2 b1 "),
-    // A name that is too long for the disk fails.
-    Step::Put(LONG, "x", Put::Failed),
-    Step::Fails(LONG),
-    // What has no name yet is passed over.
-    Step::Put("halves/one", "1", Put::Stored),
-    Step::Leave("halves/.share-put-0"),
-    Step::Put("halves/two", "22", Put::Stored),
-    Step::Lists("halves", "one two "),
-    Step::Absent("halves/.share-put-0"),
-    Step::Put("halves/.share-put-1", "x", Put::Failed),
-];
+// Whether a put of the bytes is answered so.
+fn is_put(alloc: Global, store: &mut FileStore, object: &str, words: (&str, &str)) -> bool {
+    let (bytes, wanted) = words;
+    let answer = put(alloc, store, object, bytes.as_bytes());
+    answer.is_some() && answer == put_of(wanted)
+}
 
 // Whether the object has those bytes, one or more, and no more.
-fn has(alloc: Global, store: &mut FileStore, object: &str, wanted: &[u8]) -> Result<bool, Fail> {
-    let mut out = vec![in alloc; 0u8; wanted.len()]?;
+fn has(alloc: Global, store: &mut FileStore, object: &str, wanted: &[u8]) -> bool {
+    let Ok(mut out) = vec![in alloc; 0u8; wanted.len()] else {
+        return false;
+    };
     let end = wanted.len() as u64;
-    Ok(
-        get(alloc, store, object, 0, &mut out)? == Got::Bytes(wanted.len())
-            && out.as_slice() == wanted
-            && get(alloc, store, object, end, &mut out)? == Got::Bytes(0)
-            && size(alloc, store, object)? == Measured::Size(end),
-    )
+    get(alloc, store, object, 0, &mut out) == Some(Got::Bytes(wanted.len()))
+        && out.as_slice() == wanted
+        && get(alloc, store, object, end, &mut out) == Some(Got::Bytes(0))
+        && size(alloc, store, object) == Some(Measured::Size(end))
+}
+
+// Whether a piece is read so.
+fn is_piece(alloc: Global, store: &mut FileStore, object: &str, words: &str) -> bool {
+    let (from, words) = cut(words);
+    let (count, room) = cut(words);
+    let (Ok(from), Ok(count)) = (from.parse::<u64>(), count.parse::<usize>()) else {
+        return false;
+    };
+    let mut out = *b"---";
+    get(alloc, store, object, from, &mut out) == Some(Got::Bytes(count))
+        && out.as_slice() == room.as_bytes()
 }
 
 // Whether reading and looking at the size are answered so.
@@ -134,25 +146,29 @@ fn is_answered(
     object: &str,
     got: Got,
     measured: Measured,
-) -> Result<bool, Fail> {
-    Ok(
-        get(alloc, store, object, 0, &mut [0u8; 4])? == got
-            && size(alloc, store, object)? == measured,
-    )
+) -> bool {
+    get(alloc, store, object, 0, &mut [0u8; 4]) == Some(got)
+        && size(alloc, store, object) == Some(measured)
 }
 
-// The objects of a folder, each with a space behind it.
-fn listed(alloc: Global, store: &mut FileStore, dir: &str) -> Result<String, Fail> {
-    let mut text = String::new(alloc);
-    for name in list(alloc, store, dir)?.items() {
-        text.push_str(name.as_str())?;
-        text.push(' ')?;
+// Whether a folder has those objects, with a space between each and the next.
+fn lists(alloc: Global, store: &mut FileStore, dir: &str, words: &str) -> bool {
+    let Some(names) = list(alloc, store, dir) else {
+        return false;
+    };
+    let mut left = words;
+    for name in names.items() {
+        let (word, words) = cut(left);
+        if word != name.as_str() {
+            return false;
+        }
+        left = words;
     }
-    Ok(text)
+    left.is_empty()
 }
 
 // How many entries a folder of the disk has.
-fn entries(rt: &HostRuntime, path: &str) -> Result<usize, Fail> {
+fn entries(rt: &HostRuntime, path: &str) -> io::Result<usize> {
     let mut count = 0usize;
     for entry in fs::read_dir(rt, path)? {
         entry?;
@@ -161,60 +177,72 @@ fn entries(rt: &HostRuntime, path: &str) -> Result<usize, Fail> {
     Ok(count)
 }
 
-// Whether a step of the disk's own comes so.
-fn is_made(rt: &HostRuntime, folder: &str, step: &Step) -> Result<bool, Fail> {
-    let (Step::Link(_, below) | Step::Leave(below) | Step::Entries(below, _)) = step else {
-        return Ok(false);
-    };
-    let path = format!(in rt.alloc(); "{folder}/{below}")?;
-    match step {
-        Step::Link(target, _) => symlink(rt, *target, path.as_str())?,
-        Step::Entries(_, count) => return Ok(entries(rt, path.as_str())? == *count),
-        _ => fs::write(rt, path.as_str(), b"half")?,
+fn has_entries(rt: &HostRuntime, path: &str, wanted: &str) -> bool {
+    match entries(rt, path) {
+        Ok(count) => wanted.parse::<usize>().ok() == Some(count),
+        Err(_) => false,
     }
-    Ok(true)
 }
 
-// Whether a step comes so.
-fn holds(rt: &HostRuntime, folder: &str, store: &mut FileStore, step: &Step) -> Result<bool, Fail> {
-    let alloc = rt.alloc();
-    match step {
-        Step::Put(object, bytes, wanted) => {
-            let name = name(alloc, object)?;
-            Ok(store.put_absent(&name, bytes.as_bytes()) == *wanted)
-        }
-        Step::Has(object, bytes) => has(alloc, store, object, bytes.as_bytes()),
-        Step::Piece(object, from, count, room) => {
-            let mut out = *b"---";
-            let got = get(alloc, store, object, *from, &mut out)?;
-            Ok(got == Got::Bytes(*count) && out.as_slice() == room.as_bytes())
-        }
-        Step::Absent(object) => { is_answered(alloc, store, object, Got::Absent, Measured::Absent) }
-        Step::Fails(object) => is_answered(alloc, store, object, Got::Failed, Measured::Failed),
-        Step::Lists(dir, wanted) => Ok(listed(alloc, store, dir)?.as_str() == *wanted),
-        _ => is_made(rt, folder, step),
+// Whether a step of the disk's own comes so.
+fn is_made(rt: &HostRuntime, folder: &str, word: &str, below: &str, of: &str) -> bool {
+    let Ok(path) = format!(in rt.alloc(); "{folder}/{below}") else {
+        return false;
+    };
+    match word {
+        "link" => symlink(rt, of, path.as_str()).is_ok(),
+        "leave" => fs::write(rt, path.as_str(), b"half").is_ok(),
+        "entries" => has_entries(rt, path.as_str(), of),
+        _ => false,
     }
+}
+
+// Whether a line comes so.
+fn holds(rt: &HostRuntime, folder: &str, store: &mut FileStore, line: &str) -> bool {
+    let alloc = rt.alloc();
+    let (word, words) = cut(line);
+    let (object, words) = cut(words);
+    match word {
+        "#" => true,
+        "put" => is_put(alloc, store, object, cut(words)),
+        "has" => has(alloc, store, object, words.as_bytes()),
+        "piece" => is_piece(alloc, store, object, words),
+        "absent" => is_answered(alloc, store, object, Got::Absent, Measured::Absent),
+        "fails" => is_answered(alloc, store, object, Got::Failed, Measured::Failed),
+        "lists" => lists(alloc, store, object, words),
+        _ => is_made(rt, folder, word, object, words),
+    }
+}
+
+// The number of the first line that comes otherwise, none where there is none.
+fn first_wrong(rt: &HostRuntime, folder: &str, store: &mut FileStore) -> Option<usize> {
+    for (number, line) in STEPS.split('\n').enumerate() {
+        if !holds(rt, folder, store, line) {
+            return Some(number);
+        }
+    }
+    None
 }
 
 // Whether an object of 1 MiB is stored and read again.
-fn stores_large(alloc: Global, store: &mut FileStore) -> Result<bool, Fail> {
-    let bytes = vec![in alloc; b'x'; LARGE]?;
-    let name = name(alloc, "large")?;
-    Ok(store.put_absent(&name, &bytes) == Put::Stored && has(alloc, store, "large", &bytes)?)
+fn stores_large(alloc: Global, store: &mut FileStore) -> bool {
+    match vec![in alloc; b'x'; LARGE] {
+        Ok(bytes) => {
+            put(alloc, store, "large", &bytes) == Some(Put::Stored)
+                && has(alloc, store, "large", &bytes)
+        }
+        Err(_) => false,
+    }
 }
 
 #[test]
 fn a_folder_is_a_store(rt: HostRuntime) -> Result<(), Fail> {
     let folder = fresh_folder(&rt)?;
     let mut store = store_in(&rt, folder.as_str())?;
-    for (place, step) in STEPS.iter().enumerate() {
-        assert!(rt;
-            holds(&rt, folder.as_str(), &mut store, step)?,
-            "step {place}"
-        );
-    }
-    assert!(rt; stores_large(rt.alloc(), &mut store)?);
-    remove(&rt, folder.as_str())
+    assert_eq!(rt; first_wrong(&rt, folder.as_str(), &mut store), None);
+    assert!(rt; stores_large(rt.alloc(), &mut store));
+    fs::remove_dir_all(&rt, folder.as_str())?;
+    Ok(())
 }
 
 const OBJECTS: u32 = 20;
@@ -266,9 +294,9 @@ fn sees_whole_objects(alloc: Global, store: &mut FileStore) -> bool {
 fn a_reader_never_sees_half_an_object(rt: HostRuntime) -> Result<(), Fail> {
     let alloc = rt.alloc();
     let folder = fresh_folder(&rt)?;
+    let bytes = vec![in alloc; 7u8; SIZE]?;
     let mut writer = store_in(&rt, folder.as_str())?;
     let mut reader = store_in(&rt, folder.as_str())?;
-    let bytes = vec![in alloc; 7u8; SIZE]?;
     let (stored, whole) = thread::join(
         &rt,
         || write_objects(alloc, &mut writer, bytes.as_slice()),
@@ -276,5 +304,6 @@ fn a_reader_never_sees_half_an_object(rt: HostRuntime) -> Result<(), Fail> {
     );
     assert!(rt; stored == OBJECTS);
     assert!(rt; whole);
-    remove(&rt, folder.as_str())
+    fs::remove_dir_all(&rt, folder.as_str())?;
+    Ok(())
 }

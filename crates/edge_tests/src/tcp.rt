@@ -1,50 +1,28 @@
-//! Connections over 127.0.0.1, and the clock.
-ghost use Rattle.std.specs.Prelude.{◌≡◌, IfOk, true};
-
-use crate::calls::LARGE;
+//! Connections over 127.0.0.1, and the clock. What a line needs is done by functions over any listener, so that none drops a line.
+use crate::calls::{LARGE, read, write};
 use edge_core::{
     Clock, Flushing, Gave, LAST_MOMENT, Limited, Link, Listener, Listening, LockedDoor, Opened,
     SharedDoor, Sink, Source, Taken, Took, write_all,
 };
-use edge_std::{StdClock, TcpDoor, TcpSink, TcpSource, TcpWay, Timeouts};
+use edge_std::{StdClock, TcpDoor, TcpWay, Timeouts};
 use std::alloc::Global;
 use std::io::{Read, Write};
-use std::net::TcpStream;
+use std::net::{Shutdown, TcpStream};
 use std::sync::{Arc, Mutex};
 use std::test::Fail;
-use std::thread;
 use std::time::Duration;
+use std::{io, thread};
 
 const HOST: &str = "127.0.0.1";
 
-// A door that is open at a free port, and the port.
-fn open_door(door: TcpDoor) -> Result<(TcpDoor, u16), Fail> {
-    let mut door = door;
+// The port at which a door is opened that was at none.
+fn opened_at(door: &mut TcpDoor) -> Result<u16, Fail> {
     if door.listen(0) == Listening::Failed {
         return Err(Fail::from("the door isn't open"));
     }
     match door.port() {
-        Some(port) => Ok((door, port)),
+        Some(port) => Ok(port),
         None => Err(Fail::from("no port")),
-    }
-}
-
-fn take<N: Listener>(door: &mut N) -> Result<(N::In, N::Out), Fail>
-    ensures { IfOk result (λ line. N.out door.new ≡ true) }
-{
-    match door.accept() {
-        Taken::Line(input, output) => Ok((input, output)),
-        Taken::End => Err(Fail::from("no line comes")),
-        Taken::Failed => Err(Fail::from("the door failed")),
-    }
-}
-
-fn open<P: Link>(way: &mut P, port: u16) -> Result<(P::In, P::Out), Fail>
-    ensures { IfOk result (λ line. P.out way.new ≡ true) }
-{
-    match way.open(HOST, port) {
-        Opened::Line(input, output) => Ok((input, output)),
-        Opened::Failed => Err(Fail::from("the way failed")),
     }
 }
 
@@ -61,19 +39,37 @@ fn drain<S: Source>(source: &mut S) -> (u64, Took) {
     (total, Took::Failed)
 }
 
-fn read<S: Source>(source: &mut S) -> Took {
-    source.read(&mut [0u8; 4])
-}
-
 // Writes, and hands on what is written.
-fn write<K: Sink>(sink: &mut K, bytes: &[u8]) -> Gave {
-    if bytes.is_empty() {
-        return Gave::Failed;
-    }
-    let gave = sink.write(bytes);
+fn send<K: Sink>(sink: &mut K, bytes: &[u8]) -> Gave {
+    let gave = write(sink, bytes);
     match sink.flush() {
         Flushing::Flushed => gave,
         Flushing::Failed => Gave::Failed,
+    }
+}
+
+// How a read of a line is answered whose other end says nothing, how a write, and what comes once the other end is closed.
+fn hear_nothing<N: Listener, P: Link>(
+    door: &mut N,
+    way: &mut P,
+    port: u16,
+) -> Option<(Took, Gave, (u64, Took))> {
+    match way.open(HOST, port) {
+        Opened::Line(near, near_out) => match door.accept() {
+            Taken::Line(mut far, mut far_out) => {
+                let took = read(&mut far, &mut [0u8; 4]);
+                let gave = send(&mut far_out, b"late");
+                way.close(near, near_out);
+                let rest = drain(&mut far);
+                door.close(far, far_out);
+                Some((took, gave, rest))
+            }
+            Taken::End | Taken::Failed => {
+                way.close(near, near_out);
+                None
+            }
+        },
+        Opened::Failed => None,
     }
 }
 
@@ -83,44 +79,42 @@ fn a_silent_peer_is_a_fault(rt: HostRuntime) -> Result<(), Fail> {
         read: Duration::from_millis(20),
         write: Duration::from_secs(1),
     };
-    let (mut door, port) = open_door(TcpDoor::new(rt.clone()?).with_timeouts(short))?;
+    let mut door = TcpDoor::new(rt.clone()?).with_timeouts(short);
     let mut way = TcpWay::new(rt.clone()?).with_timeouts(short);
-    let near = open(&mut way, port)?;
-    let mut far = take(&mut door)?;
-    assert!(rt; read(&mut far.0) == Took::Failed);
-    assert!(rt; write(&mut far.1, b"late") == Gave::Bytes(4));
-    way.close(near.0, near.1);
-    assert!(rt; drain(&mut far.0) == (0, Took::End));
-    door.close(far.0, far.1);
+    let port = opened_at(&mut door)?;
+    let came = hear_nothing(&mut door, &mut way, port);
+    assert!(rt; came == Some((Took::Failed, Gave::Bytes(4), (0, Took::End))));
     Ok(())
+}
+
+// How a write is answered to a line whose other end is closed with what came to it unread, whether that came, and what comes behind it.
+fn hear_a_reset<N: Listener>(door: &mut N, near: TcpStream) -> Option<(Gave, bool, (u64, Took))> {
+    match door.accept() {
+        Taken::Line(mut far, mut far_out) => {
+            let gave = send(&mut far_out, b"unread");
+            // What came and isn't read makes the close a reset.
+            let came = matches!(near.peek(&mut [0u8; 1]), Ok(1));
+            drop(near);
+            let rest = drain(&mut far);
+            door.close(far, far_out);
+            Some((gave, came, rest))
+        }
+        Taken::End | Taken::Failed => None,
+    }
 }
 
 #[test]
 fn a_reset_is_a_fault(rt: HostRuntime) -> Result<(), Fail> {
-    let (mut door, port) = open_door(TcpDoor::new(rt.clone()?))?;
+    let mut door = TcpDoor::new(rt.clone()?);
+    let port = opened_at(&mut door)?;
     let near = TcpStream::connect(&rt, (HOST, port))?;
-    let mut far = take(&mut door)?;
-    assert!(rt; write(&mut far.1, b"unread") == Gave::Bytes(6));
-    // What came and isn't read makes the close a reset.
-    assert!(rt; near.peek(&mut [0u8; 1])? == 1);
-    drop(near);
-    assert!(rt; drain(&mut far.0) == (0, Took::Failed));
-    door.close(far.0, far.1);
+    let came = hear_a_reset(&mut door, near);
+    assert!(rt; came == Some((Gave::Bytes(6), true, (0, Took::Failed))));
     Ok(())
 }
 
-// Sends bytes, whose end the peer sees where it is to, and reads the answer up to its end: how many bytes it has, and the last of them.
-fn send_and_drain(
-    rt: &HostRuntime,
-    port: u16,
-    bytes: &[u8],
-    ends: bool,
-) -> Result<(usize, u8), Fail> {
-    let mut stream = TcpStream::connect(rt, (HOST, port))?;
-    stream.write_all(bytes)?;
-    if ends {
-        stream.shutdown(std::net::Shutdown::Write)?;
-    }
+// Reads a stream to its end: how many bytes it has, and the last of them.
+fn read_all(stream: &mut TcpStream) -> io::Result<(usize, u8)> {
     let mut out = [0u8; 16_384];
     let mut total = 0usize;
     for _ in 0..=LARGE {
@@ -130,7 +124,26 @@ fn send_and_drain(
         }
         total = total.saturating_add(n);
     }
-    Err(Fail::from("no end"))
+    Ok((0, 0))
+}
+
+// Sends bytes, whose end the peer sees where it is to, and reads the answer up to its end: how many bytes it has, and the last of them.
+fn send_and_drain(
+    rt: &HostRuntime,
+    port: u16,
+    bytes: &[u8],
+    ends: bool,
+) -> io::Result<(usize, u8)> {
+    let mut stream = TcpStream::connect(rt, (HOST, port))?;
+    stream.write_all(bytes)?;
+    if ends {
+        stream.shutdown(Shutdown::Write)?;
+    }
+    read_all(&mut stream)
+}
+
+fn is_answered(rt: &HostRuntime, port: u16, bytes: &[u8], ends: bool, wanted: (usize, u8)) -> bool {
+    matches!(send_and_drain(rt, port, bytes, ends), Ok(answer) if answer == wanted)
 }
 
 // Reads ten bytes of a body, and refuses it. The refusal goes out as the line is closed.
@@ -148,51 +161,65 @@ fn refuse<N: Listener>(door: &mut N) -> bool {
 
 #[test]
 fn a_refusal_arrives_whole(rt: HostRuntime) -> Result<(), Fail> {
-    let (mut door, port) = open_door(TcpDoor::new(rt.clone()?))?;
-    let (whole, answered) = thread::join(
+    let mut door = TcpDoor::new(rt.clone()?);
+    let port = opened_at(&mut door)?;
+    let ends = thread::join(
         &rt,
         || refuse(&mut door),
-        || send_and_drain(&rt, port, &[b'b'; 40_000], false),
+        || is_answered(&rt, port, &[b'b'; 40_000], false, (700, b'r')),
     );
-    assert!(rt; whole);
-    assert!(rt; answered? == (700, b'r'));
+    assert!(rt; ends == (true, true));
     Ok(())
 }
 
-// How a door at that host answers at a port.
-fn listening(rt: &HostRuntime, host: &str, port: u16) -> Result<Listening, Fail> {
-    Ok(TcpDoor::new(rt.clone()?).with_host(host).listen(port))
+// How a door at that host answers at a port, none where it can't be made.
+fn listening(rt: &HostRuntime, host: &str, port: u16) -> Option<Listening> {
+    match rt.clone() {
+        Ok(rt) => Some(TcpDoor::new(rt).with_host(host).listen(port)),
+        Err(_) => None,
+    }
 }
 
 fn listen(door: &mut TcpDoor, port: u16) -> Listening {
     door.listen(port)
 }
 
-// Whether a connection to that host is opened. It is let go.
-fn is_opened(rt: &HostRuntime, host: &str, port: u16) -> Result<bool, Fail> {
-    let mut way = TcpWay::new(rt.clone()?);
-    Ok(matches!(way.open(host, port), Opened::Line(_, _)))
+// Whether a connection to that host is opened, none where it can't be asked. It is let go.
+fn is_opened(rt: &HostRuntime, host: &str, port: u16) -> Option<bool> {
+    match rt.clone() {
+        Ok(rt) => Some(matches!(TcpWay::new(rt).open(host, port), Opened::Line(_, _))),
+        Err(_) => None,
+    }
 }
 
-#[test]
-fn what_cannot_be_opened_fails(rt: HostRuntime) -> Result<(), Fail> {
-    let (first, port) = open_door(TcpDoor::new(rt.clone()?))?;
-    let mut second = TcpDoor::new(rt.clone()?);
-    assert!(rt; listen(&mut second, port) == Listening::Failed);
-    assert!(rt; matches!(second.accept(), Taken::Failed));
+// Whether doors are opened at hosts that are addresses, and at no others.
+fn listens_at_addresses(rt: &HostRuntime) -> bool {
     for (host, wanted) in [
         ("", Listening::Failed),
         ("localhost", Listening::Failed),
         ("127.0.0.1:80", Listening::Failed),
         ("127.0.0.2", Listening::Open),
     ] {
-        assert!(rt; listening(&rt, host, 0)? == wanted, "{host}");
+        if listening(rt, host, 0) != Some(wanted) {
+            return false;
+        }
     }
+    true
+}
+
+#[test]
+fn what_cannot_be_opened_fails(rt: HostRuntime) -> Result<(), Fail> {
+    assert!(rt; listens_at_addresses(&rt));
+    let mut first = TcpDoor::new(rt.clone()?);
+    let mut second = TcpDoor::new(rt.clone()?);
+    let port = opened_at(&mut first)?;
+    assert!(rt; listen(&mut second, port) == Listening::Failed);
+    assert!(rt; matches!(second.accept(), Taken::Failed));
     drop(first);
-    assert!(rt; !is_opened(&rt, HOST, port)?);
+    assert!(rt; is_opened(&rt, HOST, port) == Some(false));
     // A port that was in use a moment ago can be opened.
     assert!(rt; listen(&mut second, port) == Listening::Open);
-    assert!(rt; is_opened(&rt, "[127.0.0.1]", port)?);
+    assert!(rt; is_opened(&rt, "[127.0.0.1]", port) == Some(true));
     Ok(())
 }
 
@@ -224,24 +251,26 @@ fn serve<N: Listener>(alloc: Global, door: &mut N) -> u32 {
 }
 
 // Sends 1 MiB over each of three connections; whether each answer is whole.
-fn send_thrice(alloc: Global, rt: &HostRuntime, port: u16) -> Result<bool, Fail> {
-    let bytes = vec![in alloc; b'y'; LARGE]?;
+fn send_thrice(alloc: Global, rt: &HostRuntime, port: u16) -> bool {
+    let Ok(bytes) = vec![in alloc; b'y'; LARGE] else {
+        return false;
+    };
+    let mut answered = true;
     for _ in 0..3u32 {
-        if send_and_drain(rt, port, &bytes, true)? != (LARGE, 1) {
-            return Ok(false);
-        }
+        answered &= is_answered(rt, port, &bytes, true, (LARGE, 1));
     }
-    Ok(true)
+    answered
 }
 
 #[test]
 fn workers_serve_one_door(rt: HostRuntime) -> Result<(), Fail> {
     let alloc = rt.alloc();
-    let (door, port) = open_door(TcpDoor::new(rt.clone()?))?;
+    let mut door = TcpDoor::new(rt.clone()?);
+    let port = opened_at(&mut door)?;
     let shared = Arc::new(alloc, Mutex::new(SharedDoor::new(Limited::new(door, 3))))?;
     let mut first = LockedDoor::new(rt.clone()?, Arc::try_clone(&shared)?);
     let mut second = LockedDoor::new(rt.clone()?, shared);
-    let (answers, served) = thread::join(
+    let (answered, served) = thread::join(
         &rt,
         || send_thrice(alloc, &rt, port),
         || {
@@ -252,7 +281,7 @@ fn workers_serve_one_door(rt: HostRuntime) -> Result<(), Fail> {
             )
         },
     );
-    assert!(rt; answers?);
+    assert!(rt; answered);
     assert!(rt; served.0.saturating_add(served.1) == 3);
     Ok(())
 }
