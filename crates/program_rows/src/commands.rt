@@ -3,11 +3,11 @@ use crate::lines::{compare_lines, line_of, link_of, sink_in_pieces};
 use edge_core::{MemClock, MemLine, MemLink, MemListener, MemSink, MemSource, MemStore, OpenGate};
 use row_files::{
     RowFault, RowFile, Told, clock_of, list_at, member_at, number_at, numbers_at, source_of,
-    store_of, text_or_nothing,
+    store_of, text_at, text_or_nothing,
 };
 use serde_json::Value;
 use share_commands::{Edge, run};
-use share_pool::Desk;
+use share_pool::{Desk, ServeEnd};
 use std::sync::Wait;
 use std::thread::Threads;
 use step_count::Steps;
@@ -71,14 +71,19 @@ fn door_of(file: &RowFile, of: &Value) -> Result<MemListener, RowFault> {
     Ok(MemListener::new(file.alloc(), lines)?.with_fails(fails))
 }
 
-// A desk of a door, over a store of its own with the row's objects.
+// A desk of a door, over a store of its own: that of its own objects, or else that of the row's.
 fn desk_of(file: &RowFile, row: &Value, of: &Value) -> Result<MemDesk, RowFault> {
     let clock = clock_of(file, row)?;
     let door = door_of(file, of)?;
+    let stores = if member_at(of, "objects").is_some() {
+        of
+    } else {
+        row
+    };
     Ok(MemDesk {
         pass: None,
         door,
-        store: store_of(file, row)?,
+        store: store_of(file, stores)?,
         clock,
         steps: Steps::new(),
         end: None,
@@ -125,6 +130,13 @@ fn compare_edge(file: &RowFile, row: &Value, edge: &Memory, told: &mut Told) {
     );
 }
 
+// Compares how the worker of a desk ended, where the row says it.
+fn compare_end(file: &RowFile, of: &Value, end: Option<ServeEnd>, told: &mut Told) {
+    if member_at(of, "end").is_some() {
+        told.want_shown("the end of a desk", text_at(file, of, "end"), &end);
+    }
+}
+
 fn compare_desks(
     file: &RowFile,
     row: &Value,
@@ -133,6 +145,7 @@ fn compare_desks(
 ) -> Result<(), RowFault> {
     for (of, desk) in list_at(row, "desks")?.iter().zip(desks) {
         compare_lines(file, list_at(of, "lines")?, desk.door.closed(), told);
+        compare_end(file, of, desk.end, told);
     }
     Ok(())
 }

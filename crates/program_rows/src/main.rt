@@ -2,15 +2,17 @@
 //! and of what is printed, answered or stored.
 //!
 //! - A row with `words` runs a command: `in` is its input, `objects` those of the store, `lines` those of its link to peers, `desks` those
-//!   of a server, each with the `lines` of its door; `status`, `out` and `notes` are what comes of it.
+//!   of a server, each with the `lines` of its door; `status`, `out` and `notes` are what comes of it. A desk that has `objects` has a
+//!   store of its own, with `foreign` and `store_fails`; `end` is how its worker ended.
 //! - A row with the `call` `fetch`, `size`, `pieces` or `read` has a client make it: `answer` and `out` are what comes of it.
 //! - A row with the `call` `served` fetches a file from a server in this process, one with `world` or `worlds` runs the pure machine.
 //! - Each other row has sessions of a server.
 //!
-//! What comes on a line stands `in` it, by default from port 8080 of `peer`; what it is to be told stands in `told`, and a line that is told
-//! nothing isn't opened. The calls that fail, and the sizes of pieces, are those of `row_files`; those of the notes stand in `on_notes`,
-//! and the door of a desk fails at the calls of `door_fails`. Where a row says no sizes, what comes on a line comes in 1, 20 and 5 bytes
-//! first and is written in 1 and 30, and a command writes 1 and 7 bytes first.
+//! What comes on a line stands `in` it, by default from port 8080 of `peer`; what it is to be told stands in `told`, and a line without
+//! that isn't opened. `read_faults` and `write_faults` are how often it is to fail, by default never. The calls that fail, and the sizes
+//! of pieces, are those of `row_files`; those of the notes stand in `on_notes`, and the door of a desk fails at the calls of
+//! `door_fails`. Where a row says no sizes, what comes on a line comes in 1, 20 and 5 bytes first and is written in 1 and 30, and a
+//! command writes 1 and 7 bytes first.
 //!
 //! A row of sessions has the `objects` of a store, what others put before which call of it (`foreign`), the text of the `config` (that of
 //! the name `config` where it has none), and `connections` one after another; a row of one connection has the members of it itself. At
