@@ -1,13 +1,14 @@
-// A server with two callers, of which one calls. What a call needs is kept in the type, so that the tests' functions have no clauses.
+// A hub with two callers, of which one calls. What a call needs is kept in the type, so that the tests' functions have no clauses.
 ghost use Rattle.std.specs.Prelude.{◌≡◌, false};
 
+use crate::objects::name;
 use commit_check::Offer;
-use edge_core::{MemStore, Name, Stored};
+use edge_core::MemStore;
 use json_tree::{Text, Version};
 use log_actions::CommitTime;
 use log_replay::Bound;
 use log_store::Commits;
-use share_book::{Ask, Found, Part, PartFound, Pinned, SharedSnapshot, Want, Who};
+use share_book::{Ask, Found, Look, Part, PartFound, Pinned, SharedSnapshot, Want, Who};
 use share_catalog::{CatalogName, TableName};
 use share_hub::{CommitRefusal, Hub, HubPass};
 use std::alloc::Global;
@@ -15,55 +16,56 @@ use std::mem::swap;
 use std::sync::Wait;
 use step_count::Steps;
 
-// The work of a replay.
-struct Work;
-
 /// What a call is told: a word, and up to two numbers.
 pub(crate) type Told = (&'static str, u64, u64);
 
 #[derive(Drop)]
-pub(crate) struct Server {
-    hub: Hub,
-    pass: HubPass,
-    other: HubPass,
+pub(crate) struct Callers {
+    pub(crate) hub: Hub,
+    pub(crate) pass: HubPass,
+    pub(crate) other: HubPass,
     ghost idle: { (pass.cell ≡ hub) × (pass.holds ≡ false) },
     ghost waits: { (other.cell ≡ hub) × (other.holds ≡ false) },
 }
 
-pub(crate) fn name(alloc: Global, text: &str) -> Option<Name> {
-    Name::of(String::from_str(alloc, text).ok()?)
-}
-
-/// Someone else stores an object.
-pub(crate) fn stock(alloc: Global, store: &mut MemStore, name: Name, text: &str) -> Option<()> {
-    let bytes = Vec::from_slice(alloc, text.as_bytes()).ok()?;
-    store.stock(Stored { name, bytes });
-    Some(())
-}
-
 fn catalog_name(alloc: Global, text: &str) -> Option<CatalogName> {
-    CatalogName::of(String::from_str(alloc, text).ok()?)
+    match String::from_str(alloc, text) {
+        Ok(text) => CatalogName::of(text),
+        Err(_) => None,
+    }
 }
 
 fn table(alloc: Global) -> Option<TableName> {
     Some(TableName {
-        share: catalog_name(alloc, "s")?,
-        schema: catalog_name(alloc, "d")?,
-        table: catalog_name(alloc, "t")?,
+        share: catalog_name(alloc, "s1")?,
+        schema: catalog_name(alloc, "sc")?,
+        table: catalog_name(alloc, "t1")?,
     })
 }
 
 fn recipient(alloc: Global) -> Option<Who> {
-    Some(Who::Named(Text::of(String::from_str(alloc, "r").ok()?)))
+    match String::from_str(alloc, "r1") {
+        Ok(name) => Some(Who::Named(Text::of(name))),
+        Err(_) => None,
+    }
 }
 
-// The files of a version, or of the latest.
-fn files_of(alloc: Global, version: Option<u64>) -> Option<Want> {
+// What the recipient asks to be shown the names.
+fn names_of(alloc: Global) -> Option<Ask> {
+    let who = recipient(alloc)?;
+    let want = Want::Names;
+    Some(Ask { who, want })
+}
+
+// The same for the files of a version, or of the latest.
+fn files_of(alloc: Global, version: Option<u64>) -> Option<Ask> {
     let part = match version {
         Some(version) => Part::PinnedFiles(Version::of(version)?),
         None => Part::Files(Bound::Latest),
     };
-    Some(Want::Table(table(alloc)?, part))
+    let who = recipient(alloc)?;
+    let want = Want::Table(table(alloc)?, part);
+    Some(Ask { who, want })
 }
 
 // How many actions commits have.
@@ -103,22 +105,31 @@ fn found_told(found: &Found) -> Option<Told> {
     }
 }
 
-impl Server {
-    pub(crate) fn open(alloc: Global, store: &mut MemStore) -> Option<Server> {
-        let (hub, mut passes) = Hub::open(alloc, store, 2).ok()?;
+fn seen_told(look: &Look) -> Option<Told> {
+    match &look.seen {
+        Some(seen) => found_told(&seen.found),
+        None => None,
+    }
+}
+
+impl Callers {
+    pub(crate) fn open(alloc: Global, store: &mut MemStore) -> Option<Callers> {
+        let Ok((hub, mut passes)) = Hub::open(alloc, store, 2) else {
+            return None;
+        };
         let pass = passes.pop()?;
         let other = passes.pop()?;
-        Some(Server { hub, pass, other })
+        Some(Callers { hub, pass, other })
     }
 
     /// The other caller calls from here on.
-    pub(crate) fn change_callers(&mut self) {
+    pub(crate) fn change(&mut self) {
         swap(&mut self.pass, &mut self.other);
     }
 
     /// The other caller calls from here on, and is told what the first has seen.
     pub(crate) fn meet(&mut self) {
-        self.change_callers();
+        self.change();
         self.hub.meet(&mut self.pass, &mut self.other);
     }
 
@@ -142,7 +153,7 @@ impl Server {
         alloc: Global,
         store: &mut MemStore,
     ) -> Option<Told> {
-        let location = name(alloc, "t")?;
+        let location = name(alloc, "tables/t1")?;
         match self
             .hub
             .refresh(rt, alloc, &mut self.pass, store, &location)
@@ -167,22 +178,16 @@ impl Server {
 
     // What the recipient is shown.
     fn look<R: Wait>(&mut self, rt: &R, alloc: Global, ask: &Ask) -> Option<Told> {
-        let mut steps: Steps<Work> = Steps::new();
-        let look = self.hub.look(rt, alloc, &mut self.pass, ask, &mut steps);
-        found_told(&look.ok()?.seen?.found)
+        let mut steps: Steps<()> = Steps::new();
+        match self.hub.look(rt, alloc, &mut self.pass, ask, &mut steps) {
+            Ok(look) => seen_told(&look),
+            Err(_) => None,
+        }
     }
 
     /// How many shares and tables it is shown.
     pub(crate) fn names<R: Wait>(&mut self, rt: &R, alloc: Global) -> Option<Told> {
-        let who = recipient(alloc)?;
-        self.look(
-            rt,
-            alloc,
-            &Ask {
-                who,
-                want: Want::Names,
-            },
-        )
+        self.look(rt, alloc, &names_of(alloc)?)
     }
 
     /// The table's version and how many files it has, of a version or of the latest.
@@ -192,22 +197,24 @@ impl Server {
         alloc: Global,
         version: Option<u64>,
     ) -> Option<Told> {
-        let want = files_of(alloc, version)?;
-        let who = recipient(alloc)?;
-        self.look(rt, alloc, &Ask { who, want })
+        self.look(rt, alloc, &files_of(alloc, version)?)
     }
 
-    /// The version of the state with which a look at the files of a version, or of the latest, would begin, and how many actions are
-    /// left to replay.
+    // The version of the state with which a look would begin, and how many actions are left to replay.
+    fn pin<R: Wait>(&mut self, rt: &R, alloc: Global, ask: &Ask) -> Option<Told> {
+        match self.hub.pin(rt, alloc, &mut self.pass, ask) {
+            Ok(pinned) => left_of(&pinned),
+            Err(_) => None,
+        }
+    }
+
+    /// The same of a look at the files of a version, or of the latest.
     pub(crate) fn left<R: Wait>(
         &mut self,
         rt: &R,
         alloc: Global,
         version: Option<u64>,
     ) -> Option<Told> {
-        let want = files_of(alloc, version)?;
-        let who = recipient(alloc)?;
-        let pinned = self.hub.pin(rt, alloc, &mut self.pass, &Ask { who, want });
-        left_of(&pinned.ok()?)
+        self.pin(rt, alloc, &files_of(alloc, version)?)
     }
 }

@@ -13,15 +13,21 @@ fn locations(alloc: Global, book: &Book) -> Option<usize> {
     }
 }
 
+fn told(alloc: Global, book: &Book, begun: bool) -> Option<(bool, u64, u64, usize)> {
+    let locations = locations(alloc, book)?;
+    Some((begun, book.len(), book.edit_count(), locations))
+}
+
 // Whether it is begun, how many entries and edits it has, and how many logs.
 fn begun(alloc: Global) -> Option<(bool, u64, u64, usize)> {
-    let mut book = Book::new(alloc).ok()?;
+    let Ok(mut book) = Book::new(alloc) else {
+        return None;
+    };
     if book.reserve_catalog(alloc).is_err() {
         return None;
     }
     let begun = book.begin(3, 0);
-    let locations = locations(alloc, &book)?;
-    Some((begun, book.len(), book.edit_count(), locations))
+    told(alloc, &book, begun)
 }
 
 #[test]
