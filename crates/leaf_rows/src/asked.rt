@@ -1,63 +1,63 @@
 // Requests, and what they ask for.
-use crate::given::{Answered, bytes_or_empty, pair_of, string_at, told};
+use crate::answer::Answer;
+use crate::given::Given;
+use crate::messages::push_pair;
 use catalog_log::bytes_of_edit;
 use commit_check::{Offer, Reads};
 use http_message::field::Fields;
 use http_message::head::Head;
 use json_tree::Text;
-use query_body::{QueryBody, QueryFault, query_of};
-use row_files::{RowFault, RowFile, list_at, text_at};
-use serde_json::Value;
+use query_body::{QueryBody, query_of};
+use row_files::RowFault;
 use share_catalog::{Edit, TableName};
 use share_request::{
-    ByLink, ByToken, ListPage, Request, RequestFault, TurnedAway, What, bearer_of, request_of,
+    ByLink, ByToken, ListPage, Request, RequestFault, What, bearer_of, request_of,
 };
-use std::alloc::{AllocError, Global};
-use std::sync::Arc;
 
-fn text(file: &RowFile, with: &Value, name: &'static str) -> Result<Text, RowFault> {
-    Ok(Text::of(string_at(file, with, name)?))
-}
-
-fn push_field(file: &RowFile, fields: &mut Fields, pair: &Value) -> Result<(), RowFault> {
-    let (name, value) = pair_of(file, pair)?;
-    Ok(fields.push(&name, &value)?)
-}
-
-// A head with the `fields` of a row, and the field Authorization where the row has its value.
-fn head(file: &RowFile, with: &Value) -> Result<Head, RowFault> {
-    let mut fields = Fields::with_capacity(file.alloc(), 0, 0)?;
-    for pair in list_at(with, "fields")? {
-        push_field(file, &mut fields, pair)?;
+// The `fields` of a row, and the field Authorization where the row has its value.
+fn push_fields(given: &Given, fields: &mut Fields, out: &mut Answer) {
+    for pair in given.list("fields", out) {
+        push_pair(given, pair, fields, out);
     }
-    let authorization = bytes_or_empty(file, with, "authorization")?;
+    let authorization = given.bytes_or_empty("authorization", out);
     if !authorization.is_empty() {
-        fields.push(b"authorization", &authorization)?;
+        let done = fields.push(b"authorization", &authorization);
+        out.stored(done);
     }
-    Ok(Head {
-        method: text(file, with, "method")?,
-        target: text(file, with, "target")?,
+}
+
+fn head(given: &Given, out: &mut Answer) -> Option<Head> {
+    let mut fields = out.kept(Fields::with_capacity(out.alloc(), 0, 0))?;
+    push_fields(given, &mut fields, out);
+    Some(Head {
+        method: given.json_text("method", out),
+        target: given.json_text("target", out),
         minor: 1,
         fields,
     })
 }
 
-fn token_text(token: &Option<Text>) -> &str {
+fn add_token(word: &str, token: &Option<Text>, out: &mut Answer) {
     match token {
-        Some(token) => token.as_str(),
-        None => "none",
+        Some(token) => out.words(word, token.as_str()),
+        None => out.words(word, "none"),
     }
 }
 
-fn page_text(alloc: Global, page: &ListPage) -> Result<String, AllocError> {
-    let (most, token) = (page.most, token_text(&page.token));
-    format!(in alloc; "most={most} token={token}")
+fn add_page(page: &ListPage, out: &mut Answer) {
+    out.number("most=", page.most);
+    add_token(" token=", &page.token, out);
 }
 
-fn query_text(alloc: Global, query: &QueryBody) -> Result<String, AllocError> {
-    let (version, moment, max) = (query.version, query.moment, query.max);
-    let (hint, token) = (token_text(&query.hint), token_text(&query.token));
-    format!(in alloc; "version={version:?} moment={moment:?} max={max:?} hint={hint} token={token}")
+fn add_query(query: &QueryBody, out: &mut Answer) {
+    out.word("version=");
+    out.show(&query.version);
+    out.word(" moment=");
+    out.show(&query.moment);
+    out.word(" max=");
+    out.show(&query.max);
+    add_token(" hint=", &query.hint, out);
+    add_token(" token=", &query.token, out);
 }
 
 fn reads_text(reads: &Reads) -> &str {
@@ -68,164 +68,166 @@ fn reads_text(reads: &Reads) -> &str {
     }
 }
 
-fn offer_text(alloc: Global, offer: &Offer) -> Result<String, AllocError> {
-    let (location, reads) = (offer.location.as_str(), reads_text(&offer.reads));
-    let (read, count) = (
-        offer.read.map(|version| version.get()),
-        offer.actions.items().len(),
-    );
-    format!(in alloc; "{location} read={read:?} actions={count} reads={reads}")
+fn add_offer(offer: &Offer, out: &mut Answer) {
+    out.words(offer.location.as_str(), " read=");
+    out.show(&offer.read.map(|version| version.get()));
+    out.number(" actions=", offer.actions.items().len() as u64);
+    out.words(" reads=", reads_text(&offer.reads));
 }
 
-fn edit_text(alloc: Global, edit: &Edit) -> Result<String, AllocError> {
-    String::from_utf8_lossy(alloc, &bytes_of_edit(alloc, edit)?)
+fn add_edit(edit: &Edit, out: &mut Answer) {
+    match &bytes_of_edit(out.alloc(), edit) {
+        Ok(bytes) => out.bytes(bytes),
+        Err(_) => out.fail(RowFault::NoMemory),
+    }
+}
+
+fn add_table(table: &TableName, out: &mut Answer) {
+    out.word(table.share.as_str());
+    out.words("/", table.schema.as_str());
+    out.words("/", table.table.as_str());
 }
 
 // What is asked of the shares, schemas and tables.
-fn list_text(alloc: Global, what: &What) -> Result<String, AllocError> {
+fn add_list(what: &What, out: &mut Answer) {
     match what {
-        What::ListShares { page } => page_text(alloc, page),
-        What::GetShare { share } => String::from_str(alloc, share.as_str()),
+        What::ListShares { page } => add_page(page, out),
+        What::GetShare { share } => out.word(share.as_str()),
         What::ListSchemas { share, page } | What::ListAll { share, page } => {
-            let (share, page) = (share.as_str(), page_text(alloc, page)?);
-            format!(in alloc; "{share} {page}")
+            out.words(share.as_str(), " ");
+            add_page(page, out);
         }
         What::ListTables {
             share,
             schema,
             page,
         } => {
-            let (share, schema, page) = (share.as_str(), schema.as_str(), page_text(alloc, page)?);
-            format!(in alloc; "{share}/{schema} {page}")
+            out.words(share.as_str(), "/");
+            out.words(schema.as_str(), " ");
+            add_page(page, out);
         }
-        _ => Ok(String::new(alloc)),
+        _ => {}
     }
 }
 
-// What is asked of a table, behind its names.
-fn of_table_text(alloc: Global, table: &TableName, what: &What) -> Result<String, AllocError> {
-    let (share, schema) = (table.share.as_str(), table.schema.as_str());
-    let name = table.table.as_str();
+// What is asked of a table's changes.
+fn add_changes(what: &What, out: &mut Answer) {
+    if let What::Changes {
+        table,
+        from,
+        to,
+        max,
+        token,
+    } = what
+    {
+        add_table(table, out);
+        out.word(" from=");
+        out.show(from);
+        out.word(" to=");
+        out.show(to);
+        out.word(" max=");
+        out.show(max);
+        add_token(" token=", token, out);
+    }
+}
+
+fn add_what(what: &What, out: &mut Answer) {
     match what {
-        What::Version { from, .. } => { format!(in alloc; "{share}/{schema}/{name} from={from:?}") }
-        What::Metadata { at, .. } => format!(in alloc; "{share}/{schema}/{name} at={at:?}"),
-        What::Query { body, .. } => {
-            let query = query_text(alloc, body)?;
-            format!(in alloc; "{share}/{schema}/{name} {query}")
+        What::Version { table, from } => {
+            add_table(table, out);
+            out.word(" from=");
+            out.show(from);
         }
-        What::Changes {
-            from,
-            to,
-            max,
-            token,
-            ..
-        } => {
-            let token = token_text(token);
-            format!(in alloc;
-                "{share}/{schema}/{name} from={from:?} to={to:?} max={max:?} token={token}"
-            )
+        What::Metadata { table, at } => {
+            add_table(table, out);
+            out.word(" at=");
+            out.show(at);
         }
-        _ => Ok(String::new(alloc)),
+        What::Query { table, body } => {
+            add_table(table, out);
+            out.word(" ");
+            add_query(body, out);
+        }
+        What::Changes { .. } => add_changes(what, out),
+        What::Commit { offer } => add_offer(offer, out),
+        What::Refresh { location } => out.word(location.as_str()),
+        What::Edit { edit } => add_edit(edit, out),
+        _ => add_list(what, out),
     }
 }
 
-fn what_text(alloc: Global, what: &What) -> Result<String, AllocError> {
-    match what {
-        What::Version { table, .. }
-        | What::Metadata { table, .. }
-        | What::Query { table, .. }
-        | What::Changes { table, .. } => of_table_text(alloc, table, what),
-        What::Commit { offer } => offer_text(alloc, offer),
-        What::Refresh { location } => String::from_str(alloc, location.as_str()),
-        What::Edit { edit } => edit_text(alloc, edit),
-        _ => list_text(alloc, what),
-    }
-}
-
-fn fault_text(alloc: Global, fault: RequestFault, route: &str) -> Result<String, AllocError> {
-    let (refusal, detail) = (fault.refusal(), fault.detail());
-    format!(in alloc; "{route} refused {refusal:?} {detail}")
-}
-
-fn asked_text(alloc: Global, what: &What, route: &str) -> Result<String, AllocError> {
-    let asked = what_text(alloc, what)?;
-    format!(in alloc; "{route} {asked}")
+fn add_fault(fault: RequestFault, out: &mut Answer) {
+    out.word("refused ");
+    out.show(&fault.refusal());
+    out.words(" ", fault.detail());
 }
 
 // The route, and what is asked by it or why it is refused.
-fn by_token_text(alloc: Global, by: &ByToken) -> Result<String, AllocError> {
+fn add_by_token(by: &ByToken, out: &mut Answer) {
+    out.words(by.route.word(), " ");
     match &by.asked {
-        Ok(what) => asked_text(alloc, what, by.route.word()),
-        Err(fault) => fault_text(alloc, *fault, by.route.word()),
+        Ok(what) => add_what(what, out),
+        Err(fault) => add_fault(*fault, out),
     }
 }
 
 // Whether the head alone of what the link leads to is asked for, which part of it, and the link.
-fn by_link_text(alloc: Global, by: &ByLink) -> Result<String, AllocError> {
-    let (head, span, target) = (by.head, by.span, by.target.as_str());
-    format!(in alloc; "link head={head} span={span:?} {target}")
+fn add_by_link(by: &ByLink, out: &mut Answer) {
+    out.flag("link head=", by.head);
+    out.word(" span=");
+    out.show(&by.span);
+    out.words(" ", by.target.as_str());
 }
 
-fn away_text(alloc: Global, away: TurnedAway) -> Result<String, AllocError> {
-    let refusal = away.refusal();
-    format!(in alloc; "{away:?} {refusal:?}")
-}
-
-fn request_text(alloc: Global, request: &Request) -> Result<String, RowFault> {
+fn add_request(request: &Request, out: &mut Answer) {
     match request {
-        Request::TurnedAway(away) => Ok(away_text(alloc, *away)?),
-        Request::ByToken(by) => Ok(by_token_text(alloc, by)?),
-        Request::ByLink(by) => Ok(by_link_text(alloc, by)?),
+        Request::TurnedAway(away) => {
+            out.show(away);
+            out.word(" ");
+            out.show(&away.refusal());
+        }
+        Request::ByToken(by) => add_by_token(by, out),
+        Request::ByLink(by) => add_by_link(by, out),
     }
 }
 
-// The request of a head and a body. It is shared, since a function that drops a request of its own takes long to prove.
-fn request_in(alloc: Global, head: &Head, body: &[u8]) -> Result<Arc<Request>, RowFault> {
-    match request_of(alloc, head, body) {
-        Ok(request) => Ok(Arc::new(alloc, request)?),
-        Err(_) => Err(RowFault::NoMemory),
+fn request(given: &Given, out: &mut Answer) {
+    let body = given.bytes_or_empty("body", out);
+    let Some(head) = head(given, out) else {
+        return;
+    };
+    match &request_of(out.alloc(), &head, &body) {
+        Ok(request) => add_request(request, out),
+        Err(_) => out.fail(RowFault::NoMemory),
     }
-}
-
-fn request(file: &RowFile, with: &Value) -> Result<String, RowFault> {
-    let body = bytes_or_empty(file, with, "body")?;
-    let head = head(file, with)?;
-    let request = request_in(file.alloc(), &head, &body)?;
-    request_text(file.alloc(), &request)
 }
 
 // The digest of a request's bearer token.
-fn bearer(file: &RowFile, with: &Value) -> Result<String, RowFault> {
-    match bearer_of(&head(file, with)?) {
-        Some(digest) => Ok(hex::encode(file.alloc(), digest.as_slice())?),
-        None => told(file.alloc(), "no bearer"),
-    }
-}
-
-fn query_or_fault(
-    alloc: Global,
-    query: &Result<QueryBody, QueryFault>,
-) -> Result<String, RowFault> {
-    match query {
-        Ok(query) => Ok(query_text(alloc, query)?),
-        Err(fault) => Ok(format!(in alloc; "{fault:?}")?),
+fn bearer(given: &Given, out: &mut Answer) {
+    let Some(head) = head(given, out) else {
+        return;
+    };
+    match bearer_of(&head) {
+        Some(digest) => out.digits(digest.as_slice()),
+        None => out.word("no bearer"),
     }
 }
 
 // What the body of a query asks, or the fault.
-fn query(file: &RowFile, with: &Value) -> Result<String, RowFault> {
-    let body = text_at(file, with, "body")?;
-    let query = query_of(file.alloc(), &body);
-    query_or_fault(file.alloc(), &query)
+fn query(given: &Given, out: &mut Answer) {
+    match &query_of(out.alloc(), &given.bytes("body", out)) {
+        Ok(query) => add_query(query, out),
+        Err(fault) => out.show(fault),
+    }
 }
 
-/// What a call answers, none where it isn't one of these.
-pub(crate) fn answer(file: &RowFile, call: &str, with: &Value) -> Answered {
-    let text = match call {
-        "request" => request(file, with)?,
-        "bearer" => bearer(file, with)?,
-        "query" => query(file, with)?,
-        _ => return Ok(None),
-    };
-    Ok(Some(text.into_bytes()))
+/// Answers a call, where it is one of these.
+pub(crate) fn answer(call: &str, given: &Given, out: &mut Answer) -> bool {
+    match call {
+        "request" => request(given, out),
+        "bearer" => bearer(given, out),
+        "query" => query(given, out),
+        _ => return false,
+    }
+    true
 }

@@ -1,107 +1,79 @@
 // Configurations and profiles.
-use crate::given::{Answered, string_at, told};
-use row_files::{RowFault, RowFile, text_at};
-use serde_json::Value;
-use share_config::{Config, ConfigFault, HttpUrl, Profile, ProfileFault, config_of, profile_of};
-use std::alloc::{AllocError, Global};
+use crate::answer::Answer;
+use crate::given::Given;
+use row_files::RowFault;
+use share_config::{Config, HttpUrl, Profile, config_of, profile_of};
 
 // A configuration's keys, each on a line.
-fn keys_text(alloc: Global, config: &Config) -> Result<String, AllocError> {
-    let token = hex::encode(alloc, config.keys.token.as_slice())?;
-    let link = hex::encode(alloc, config.keys.link.as_slice())?;
-    let admin = hex::encode(alloc, config.admin.as_slice())?;
-    let mut text = format!(in alloc; "token {token}\nlink {link}\nadmin {admin}\n")?;
+fn add_keys(config: &Config, out: &mut Answer) {
+    out.word("token ");
+    out.digits(config.keys.token.as_slice());
+    out.word("\nlink ");
+    out.digits(config.keys.link.as_slice());
+    out.word("\nadmin ");
+    out.digits(config.admin.as_slice());
     for digest in config.providers.digests() {
-        let digits = hex::encode(alloc, digest.as_slice())?;
-        let line = format!(in alloc; "provider {digits}\n")?;
-        text.push_str(&line)?;
+        out.word("\nprovider ");
+        out.digits(digest.as_slice());
     }
-    Ok(text)
+    out.word("\n");
 }
 
-fn config_text(alloc: Global, config: &Config) -> Result<String, AllocError> {
-    let endpoint = config.keys.endpoint.as_str();
-    let seconds = config.keys.ttl.seconds();
-    let count = config.providers.digests().len();
-    format!(in alloc; "{endpoint} for {seconds} seconds, {count} providers")
-}
-
-type Read = Result<Config, ConfigFault>;
-
-fn config_or_fault(alloc: Global, config: &Read) -> Result<String, RowFault> {
-    match config {
-        Ok(config) => Ok(config_text(alloc, config)?),
-        Err(fault) => Ok(format!(in alloc; "{fault:?}")?),
-    }
-}
-
-fn keys_or_fault(alloc: Global, config: &Read) -> Result<String, RowFault> {
-    match config {
-        Ok(config) => Ok(keys_text(alloc, config)?),
-        Err(fault) => Ok(format!(in alloc; "{fault:?}")?),
-    }
+fn add_config(config: &Config, out: &mut Answer) {
+    out.word(config.keys.endpoint.as_str());
+    out.number(" for ", config.keys.ttl.seconds());
+    out.number(" seconds, ", config.providers.digests().len() as u64);
+    out.word(" providers");
 }
 
 // Where links lead and how long, and how many providers there are; or the fault.
-fn config(file: &RowFile, with: &Value) -> Result<String, RowFault> {
-    let text = text_at(file, with, "text")?;
-    let config = config_of(file.alloc(), &text);
-    config_or_fault(file.alloc(), &config)
-}
-
-fn config_keys(file: &RowFile, with: &Value) -> Result<String, RowFault> {
-    let text = text_at(file, with, "text")?;
-    let config = config_of(file.alloc(), &text);
-    keys_or_fault(file.alloc(), &config)
-}
-
-fn profile_text(alloc: Global, profile: &Profile) -> Result<String, AllocError> {
-    let (endpoint, bearer) = (profile.endpoint.as_str(), profile.bearer.as_str());
-    let expires = match &profile.expires {
-        Some(time) => time.as_str(),
-        None => "no end",
-    };
-    format!(in alloc; "{endpoint} until {expires} by {bearer}")
-}
-
-fn profile_or_fault(
-    alloc: Global,
-    profile: &Result<Profile, ProfileFault>,
-) -> Result<String, RowFault> {
-    match profile {
-        Ok(profile) => Ok(profile_text(alloc, profile)?),
-        Err(fault) => Ok(format!(in alloc; "{fault:?}")?),
+fn config(given: &Given, out: &mut Answer) {
+    match &config_of(out.alloc(), &given.bytes("text", out)) {
+        Ok(config) => add_config(config, out),
+        Err(fault) => out.show(fault),
     }
+}
+
+fn config_keys(given: &Given, out: &mut Answer) {
+    match &config_of(out.alloc(), &given.bytes("text", out)) {
+        Ok(config) => add_keys(config, out),
+        Err(fault) => out.show(fault),
+    }
+}
+
+fn add_profile(profile: &Profile, out: &mut Answer) {
+    out.words(profile.endpoint.as_str(), " until ");
+    match &profile.expires {
+        Some(time) => out.word(time.as_str()),
+        None => out.word("no end"),
+    }
+    out.words(" by ", profile.bearer.as_str());
 }
 
 // A profile's fields, or the fault.
-fn profile(file: &RowFile, with: &Value) -> Result<String, RowFault> {
-    let text = text_at(file, with, "text")?;
-    let profile = profile_of(file.alloc(), &text);
-    profile_or_fault(file.alloc(), &profile)
-}
-
-fn url_text(alloc: Global, url: &Option<HttpUrl>) -> Result<String, RowFault> {
-    match url {
-        Some(url) => told(alloc, url.as_str()),
-        None => told(alloc, "no URL"),
+fn profile(given: &Given, out: &mut Answer) {
+    match &profile_of(out.alloc(), &given.bytes("text", out)) {
+        Ok(profile) => add_profile(profile, out),
+        Err(fault) => out.show(fault),
     }
 }
 
-fn url(file: &RowFile, with: &Value) -> Result<String, RowFault> {
-    let text = string_at(file, with, "text")?;
-    let url = HttpUrl::of(file.alloc(), &text)?;
-    url_text(file.alloc(), &url)
+fn url(given: &Given, out: &mut Answer) {
+    match &HttpUrl::of(out.alloc(), &given.text("text", out)) {
+        Ok(Some(url)) => out.word(url.as_str()),
+        Ok(None) => out.word("no URL"),
+        Err(_) => out.fail(RowFault::NoMemory),
+    }
 }
 
-/// What a call answers, none where it isn't one of these.
-pub(crate) fn answer(file: &RowFile, call: &str, with: &Value) -> Answered {
-    let text = match call {
-        "config" => config(file, with)?,
-        "config_keys" => config_keys(file, with)?,
-        "profile" => profile(file, with)?,
-        "url" => url(file, with)?,
-        _ => return Ok(None),
-    };
-    Ok(Some(text.into_bytes()))
+/// Answers a call, where it is one of these.
+pub(crate) fn answer(call: &str, given: &Given, out: &mut Answer) -> bool {
+    match call {
+        "config" => config(given, out),
+        "config_keys" => config_keys(given, out),
+        "profile" => profile(given, out),
+        "url" => url(given, out),
+        _ => return false,
+    }
+    true
 }

@@ -3,13 +3,13 @@ ghost use Rattle.std.specs.Prelude.{◌≡◌, [], IfOk};
 ghost use Rattle.edge_core.specs.Calls.{calls_failed};
 ghost use Rattle.edge_core.specs.Memory.{sink_bytes, sink_calls};
 
-use crate::given::{Answered, count_at, string_at};
-use crate::texts::{Answer, word_at};
+use crate::answer::Answer;
+use crate::given::Given;
 use edge_core::{
     Gathering, Gave, Limited, Link, Listener, MemClosed, MemLine, MemLink, MemListener, MemPeer,
     MemSink, MemSource, Opened, Sink, Source, Taken, Took, write_all,
 };
-use row_files::{RowFault, RowFile, list_at, number_at, numbers_at, sink_of, text_at};
+use row_files::{RowFault, number_at, numbers_at, sink_of};
 use serde_json::Value;
 use std::alloc::{AllocError, Global};
 
@@ -76,13 +76,14 @@ fn add_closed(out: &mut Answer, closed: &[MemClosed]) {
     }
 }
 
-fn door_of(file: &RowFile, with: &Value) -> Result<MemListener, RowFault> {
-    let fails = numbers_at(file.alloc(), with, "fails")?;
-    let mut lines = Vec::new(file.alloc());
-    for text in list_at(with, "lines")? {
-        lines.push(line(file.alloc(), file.text(text)?)?)?;
+fn door_of(given: &Given, lines: &[Value]) -> Result<MemListener, RowFault> {
+    let alloc = given.file.alloc();
+    let fails = numbers_at(alloc, given.with, "fails")?;
+    let mut taken = Vec::new(alloc);
+    for text in lines {
+        taken.push(line(alloc, given.file.text(text)?)?)?;
     }
-    Ok(MemListener::new(file.alloc(), lines)?.with_fails(fails))
+    Ok(MemListener::new(alloc, taken)?.with_fails(fails))
 }
 
 // The calls of a listener that gives so many lines alone, and then those of the one behind it.
@@ -92,14 +93,20 @@ fn add_limited(out: &mut Answer, door: MemListener, limit: u64, calls: &[Value])
     limited.into_inner()
 }
 
-fn listener(file: &RowFile, with: &Value, out: &mut Answer) -> Result<(), RowFault> {
-    let limit = number_at(with, "limit")?.unwrap_or(0);
-    let limited = list_at(with, "limited")?;
-    let calls = list_at(with, "calls")?;
-    let mut door = add_limited(out, door_of(file, with)?, limit, limited);
+fn add_listener(given: &Given, door: MemListener, out: &mut Answer) {
+    let limit = number_at(given.with, "limit").unwrap_or(None).unwrap_or(0);
+    let limited = given.list("limited", out);
+    let mut door = add_limited(out, door, limit, limited);
+    let calls = given.list("calls", out);
     add_calls(out, &mut door, calls);
     add_closed(out, door.closed());
-    Ok(())
+}
+
+fn listener(given: &Given, out: &mut Answer) {
+    match door_of(given, given.list("lines", out)) {
+        Ok(door) => add_listener(given, door, out),
+        Err(fault) => out.fail(fault),
+    }
 }
 
 // Opens a line, serves it as a peer would, and closes it; whether one was opened.
@@ -114,37 +121,48 @@ fn visit<P: Link>(link: &mut P, host: &str, port: u16) -> bool {
     }
 }
 
-fn port_at(of: &Value) -> Result<u16, RowFault> {
-    match u16::try_from(count_at(of, "port")?) {
-        Ok(port) => Ok(port),
-        Err(_) => Err(RowFault::Member("port")),
+fn port(given: &Given, out: &mut Answer) -> u16 {
+    match u16::try_from(given.number("port", out)) {
+        Ok(port) => port,
+        Err(_) => {
+            out.lacks("port");
+            0
+        }
     }
 }
 
-fn peer(file: &RowFile, of: &Value) -> Result<MemPeer, RowFault> {
-    let port = port_at(of)?;
-    let host = string_at(file, of, "host")?;
-    let line = line(file.alloc(), text_at(file, of, "text")?)?;
+fn peer(given: &Given, out: &mut Answer) -> Result<MemPeer, AllocError> {
+    let line = line(out.alloc(), given.bytes("text", out))?;
+    let port = port(given, out);
+    let host = given.text("host", out);
     Ok(MemPeer { host, port, line })
 }
 
-fn link_of(file: &RowFile, with: &Value) -> Result<MemLink, RowFault> {
-    let fails = numbers_at(file.alloc(), with, "fails")?;
-    let mut lines = Vec::new(file.alloc());
-    for of in list_at(with, "lines")? {
-        lines.push(peer(file, of)?)?;
+fn link_of(given: &Given, out: &mut Answer) -> Result<MemLink, RowFault> {
+    let fails = numbers_at(out.alloc(), given.with, "fails")?;
+    let mut lines = Vec::new(out.alloc());
+    for of in given.list("lines", out) {
+        lines.push(peer(&given.of(of), out)?)?;
     }
-    Ok(MemLink::new(file.alloc(), lines)?.with_fails(fails))
+    Ok(MemLink::new(out.alloc(), lines)?.with_fails(fails))
 }
 
-fn link(file: &RowFile, with: &Value, out: &mut Answer) -> Result<(), RowFault> {
-    let mut link = link_of(file, with)?;
-    for of in list_at(with, "visits")? {
-        out.flag("", visit(&mut link, word_at(of, "host")?, port_at(of)?));
+fn add_visits(given: &Given, link: &mut MemLink, out: &mut Answer) {
+    for of in given.list("visits", out) {
+        let of = given.of(of);
+        let port = port(&of, out);
+        let host = of.word("host", out);
+        out.flag("", visit(link, host, port));
         out.word("\n");
     }
     add_closed(out, link.closed());
-    Ok(())
+}
+
+fn link(given: &Given, out: &mut Answer) {
+    match link_of(given, out) {
+        Ok(mut link) => add_visits(given, &mut link, out),
+        Err(fault) => out.fail(fault),
+    }
 }
 
 fn write_often<K: Sink>(sink: &mut K, bytes: &[u8], times: u64) -> Result<(), u64> {
@@ -163,24 +181,20 @@ fn write_at_once<K: Sink>(sink: &mut K, bytes: &[u8]) -> Gave {
 
 // How a sink answers a step: all of a text is written, so many times, or as much of it as is taken at once, or it is flushed. What is
 // kept after it comes behind.
-fn step(
-    file: &RowFile,
-    sink: &mut Gathering<MemSink>,
-    of: &Value,
-    out: &mut Answer,
-) -> Result<(), RowFault> {
-    if let Some(text) = of.get("all") {
-        let times = number_at(of, "often")?.unwrap_or(1);
-        out.show(&write_often(sink, &file.text(text)?, times));
-    } else if let Some(text) = of.get("write") {
-        out.show(&write_at_once(sink, &file.text(text)?));
+fn step(given: &Given, sink: &mut Gathering<MemSink>, out: &mut Answer) {
+    if given.has("all") {
+        let times = if given.has("often") { given.number("often", out) } else { 1 };
+        let bytes = given.bytes("all", out);
+        out.show(&write_often(sink, &bytes, times));
+    } else if given.has("write") {
+        let bytes = given.bytes("write", out);
+        out.show(&write_at_once(sink, &bytes));
     } else {
         out.show(&sink.flush());
     }
     out.word(" keeps ");
     out.bytes(sink.kept());
     out.word("\n");
-    Ok(())
 }
 
 fn add_sink(out: &mut Answer, sink: &MemSink) {
@@ -190,25 +204,31 @@ fn add_sink(out: &mut Answer, sink: &MemSink) {
     out.bytes(sink.bytes());
 }
 
-fn gathering(file: &RowFile, with: &Value, out: &mut Answer) -> Result<(), RowFault> {
-    let Ok(mut sink) = Gathering::new(file.alloc(), sink_of(file, with)?) else {
-        return Err(RowFault::NoMemory);
+fn add_gathering(given: &Given, sink: MemSink, out: &mut Answer) {
+    let Ok(mut sink) = Gathering::new(out.alloc(), sink) else {
+        out.fail(RowFault::NoMemory);
+        return;
     };
-    for of in list_at(with, "steps")? {
-        step(file, &mut sink, of, out)?;
+    for of in given.list("steps", out) {
+        step(&given.of(of), &mut sink, out);
     }
     add_sink(out, &sink.into_inner());
-    Ok(())
 }
 
-/// The answer of a call of this module.
-pub(crate) fn answer(file: &RowFile, call: &str, with: &Value) -> Answered {
-    let mut out = Answer::new(file.alloc());
-    let done = match call {
-        "listener" => listener(file, with, &mut out),
-        "link_lines" => link(file, with, &mut out),
-        "gathering" => gathering(file, with, &mut out),
-        _ => return Ok(None),
-    };
-    out.after(done)
+fn gathering(given: &Given, out: &mut Answer) {
+    match sink_of(given.file, given.with) {
+        Ok(sink) => add_gathering(given, sink, out),
+        Err(fault) => out.fail(fault),
+    }
+}
+
+/// Answers a call, where it is one of these.
+pub(crate) fn answer(call: &str, given: &Given, out: &mut Answer) -> bool {
+    match call {
+        "listener" => listener(given, out),
+        "link_lines" => link(given, out),
+        "gathering" => gathering(given, out),
+        _ => return false,
+    }
+    true
 }

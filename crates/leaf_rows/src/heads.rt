@@ -1,21 +1,16 @@
 // Heads of responses as they go out.
-use crate::given::{Answered, count_at};
+use crate::answer::Answer;
+use crate::given::Given;
 use case_table::{Method, Refusal};
 use file_ranges::part::ByteRange;
 use response_text::head::{ContentType, ResponseHead};
 use response_text::head_text;
 use response_text::status::Status;
-use row_files::{RowFault, RowFile, flag_at};
+use row_files::RowFault;
 use serde_json::Value;
 
 // The last moment that has a date.
 const LAST: u64 = 253_402_300_799_999;
-
-fn word_at<'a>(with: &'a Value, name: &'static str) -> Result<&'a str, RowFault> {
-    with.get(name)
-        .and_then(Value::as_str)
-        .ok_or(RowFault::Member(name))
-}
 
 fn method(word: &str) -> Option<Method> {
     match word {
@@ -50,51 +45,59 @@ fn status_in(with: &Value) -> Option<Status> {
     }
 }
 
-fn content_type(word: &str) -> Result<ContentType, RowFault> {
+fn content_type(word: &str) -> Option<ContentType> {
     match word {
-        "Json" => Ok(ContentType::Json),
-        "JsonLines" => Ok(ContentType::JsonLines),
-        "Bytes" => Ok(ContentType::Bytes),
-        _ => Err(RowFault::Unknown("the type")),
+        "Json" => Some(ContentType::Json),
+        "JsonLines" => Some(ContentType::JsonLines),
+        "Bytes" => Some(ContentType::Bytes),
+        _ => None,
     }
 }
 
-fn head(file: &RowFile, with: &Value) -> Result<Vec<u8>, RowFault> {
-    let moment = count_at(with, "moment")?;
-    let Ok(length) = word_at(with, "length")?.parse::<u128>() else {
-        return Err(RowFault::Member("length"));
-    };
+fn head_in(given: &Given, out: &mut Answer) -> Option<ResponseHead> {
+    let status = status_in(given.with)?;
+    let content_type = content_type(given.word("type", out))?;
+    let length = given.word("length", out).parse::<u128>().ok()?;
+    let moment = given.number("moment", out);
     if moment > LAST {
-        return Err(RowFault::Member("moment"));
+        return None;
     }
-    let Some(status) = status_in(with) else {
-        return Err(RowFault::Unknown("the status"));
-    };
-    let head = ResponseHead {
+    Some(ResponseHead {
         status,
         moment,
-        content_type: content_type(word_at(with, "type")?)?,
+        content_type,
         length,
-        closes: flag_at(with, "closes")?,
-    };
-    Ok(head_text(file.alloc(), &head)?)
+        closes: given.flag("closes", out),
+    })
+}
+
+fn head(given: &Given, out: &mut Answer) {
+    match head_in(given, out) {
+        Some(head) => match head_text(out.alloc(), &head) {
+            Ok(text) => out.bytes(&text),
+            Err(_) => out.fail(RowFault::NoMemory),
+        },
+        None => out.lacks("head"),
+    }
 }
 
 // The code and the reason of a status.
-fn status(file: &RowFile, with: &Value) -> Result<Vec<u8>, RowFault> {
-    let Some(status) = status_in(with) else {
-        return Err(RowFault::Unknown("the status"));
-    };
-    let (code, reason) = (status.code(), status.reason());
-    Ok(format!(in file.alloc(); "{code} {reason}")?.into_bytes())
+fn status(given: &Given, out: &mut Answer) {
+    match status_in(given.with) {
+        Some(status) => {
+            out.number("", u64::from(status.code()));
+            out.words(" ", status.reason());
+        }
+        None => out.lacks("status"),
+    }
 }
 
-/// What a call answers, none where it isn't one of these.
-pub(crate) fn answer(file: &RowFile, call: &str, with: &Value) -> Answered {
-    let text = match call {
-        "response_text" => head(file, with)?,
-        "status" => status(file, with)?,
-        _ => return Ok(None),
-    };
-    Ok(Some(text))
+/// Answers a call, where it is one of these.
+pub(crate) fn answer(call: &str, given: &Given, out: &mut Answer) -> bool {
+    match call {
+        "response_text" => head(given, out),
+        "status" => status(given, out),
+        _ => return false,
+    }
+    true
 }

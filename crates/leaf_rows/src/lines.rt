@@ -3,14 +3,13 @@ ghost use Rattle.std.specs.Prelude.{◌≡◌, All, IsTrue};
 ghost use Rattle.share_lines.specs.Errors.{takes_detail};
 ghost use Rattle.share_lines.specs.Printing.{is_printable as is_printable_line};
 
-use crate::given::{Answered, string_at, told};
+use crate::answer::Answer;
+use crate::given::Given;
 use case_table::Refusal;
-use json_tree::Text;
 use log_actions::{Action, action_of_line};
-use row_files::{RowFault, RowFile, text_at};
-use serde_json::Value;
+use row_files::RowFault;
 use share_lines::{
-    FileKind, FileLine, FileParts, Line, Lines, LinesFault, error_of, error_text, file_parts_len,
+    FileKind, FileLine, FileParts, Line, LinesFault, error_of, error_text, file_parts_len,
     line_len, lines_of, lines_text, push_file, push_file_parts, push_meta, push_protocol,
 };
 use std::alloc::{AllocError, Global};
@@ -35,102 +34,84 @@ fn are_printable(lines: &[Line]) -> bool
 }
 
 // How long each line is, and the lines.
-fn printed(alloc: Global, lines: &[Line]) -> Result<String, RowFault> {
+fn add_lines(lines: &[Line], out: &mut Answer) {
     if !are_printable(lines) {
-        return Err(RowFault::Unknown("such a line"));
+        out.fail(RowFault::Unknown("such a line"));
+        return;
     }
-    let mut text = String::from_str(alloc, "bytes:")?;
+    out.word("bytes:");
     for line in lines {
-        let len = line_len(line);
-        let part = format!(in alloc; " {len}")?;
-        text.push_str(&part)?;
+        out.number(" ", line_len(line));
     }
-    text.push('\n')?;
-    text.push_str(lines_text(alloc, lines)?.as_str())?;
-    Ok(text)
-}
-
-fn lines_or_fault(alloc: Global, lines: &Result<Lines, LinesFault>) -> Result<String, RowFault> {
-    match lines {
-        Ok(lines) => printed(alloc, lines.items()),
-        Err(LinesFault::Bad { at }) => Ok(format!(in alloc; "bad at {at}")?),
-        Err(LinesFault::NoMemory) => Err(RowFault::NoMemory),
+    if let Some(text) = out.kept(lines_text(out.alloc(), lines)) {
+        out.words("\n", text.as_str());
     }
 }
 
 // The lines that are read of a body, printed again.
-fn lines(file: &RowFile, with: &Value) -> Result<String, RowFault> {
-    let body = text_at(file, with, "body")?;
-    let lines = lines_of(file.alloc(), &body);
-    lines_or_fault(file.alloc(), &lines)
+fn lines(given: &Given, out: &mut Answer) {
+    match &lines_of(out.alloc(), &given.bytes("body", out)) {
+        Ok(lines) => add_lines(lines.items(), out),
+        Err(LinesFault::Bad { at }) => out.number("bad at ", *at),
+        Err(LinesFault::NoMemory) => out.fail(RowFault::NoMemory),
+    }
 }
 
-fn kind_of(word: &str) -> Result<FileKind, RowFault> {
+fn kind_of(word: &str) -> Option<FileKind> {
     match word {
-        "File" => Ok(FileKind::File),
-        "Add" => Ok(FileKind::Add),
-        "Cdf" => Ok(FileKind::Cdf),
-        "Remove" => Ok(FileKind::Remove),
-        _ => Err(RowFault::Unknown("the kind")),
+        "File" => Some(FileKind::File),
+        "Add" => Some(FileKind::Add),
+        "Cdf" => Some(FileKind::Cdf),
+        "Remove" => Some(FileKind::Remove),
+        _ => None,
     }
 }
 
 // How long the line of a file is as that kind, and the line.
-fn file_text(alloc: Global, kind: FileKind, file: &FileLine) -> Result<Vec<u8>, AllocError> {
+fn add_file(kind: FileKind, file: &FileLine, out: &mut Answer) {
     let parts = FileParts::of_line(file);
-    let len = file_parts_len(kind, &parts);
-    let mut text = format!(in alloc; "bytes: {len}\n")?.into_bytes();
-    push_file_parts(alloc, &mut text, kind, &parts)?;
-    Ok(text)
+    let mut text = Vec::new(out.alloc());
+    let done = push_file_parts(out.alloc(), &mut text, kind, &parts);
+    out.stored(done);
+    out.number("bytes: ", file_parts_len(kind, &parts));
+    out.word("\n");
+    out.bytes(&text);
 }
 
-fn first_text(alloc: Global, kind: FileKind, lines: &[Line]) -> Result<Vec<u8>, RowFault> {
+fn add_first(kind: FileKind, lines: &[Line], out: &mut Answer) {
     match lines.first() {
-        Some(Line::Add(file)) => Ok(file_text(alloc, kind, file)?),
-        _ => Err(RowFault::Unknown("such a line")),
-    }
-}
-
-fn first_or_fault(
-    alloc: Global,
-    kind: FileKind,
-    lines: &Result<Lines, LinesFault>,
-) -> Result<Vec<u8>, RowFault> {
-    match lines {
-        Ok(lines) => first_text(alloc, kind, lines.items()),
-        Err(_) => Err(RowFault::Member("body")),
+        Some(Line::Add(file)) => add_file(kind, file, out),
+        _ => out.fail(RowFault::Unknown("such a line")),
     }
 }
 
 // The file that a line adds, printed as that kind.
-fn file_as(file: &RowFile, with: &Value) -> Result<Vec<u8>, RowFault> {
-    let kind = kind_of(&string_at(file, with, "kind")?)?;
-    let body = text_at(file, with, "body")?;
-    let lines = lines_of(file.alloc(), &body);
-    first_or_fault(file.alloc(), kind, &lines)
+fn file_as(given: &Given, out: &mut Answer) {
+    let kind = kind_of(given.word("kind", out));
+    match (kind, &lines_of(out.alloc(), &given.bytes("body", out))) {
+        (Some(kind), Ok(lines)) => add_first(kind, lines.items(), out),
+        _ => out.lacks("body"),
+    }
 }
 
-fn push_action(
-    alloc: Global,
-    out: &mut Vec<u8>,
-    action: &Option<Action>,
-) -> Result<(), AllocError> {
+fn push_action(alloc: Global, text: &mut Vec<u8>, action: &Action) -> Result<(), AllocError> {
     match action {
-        Some(Action::MetaData(meta)) => push_meta(alloc, out, meta),
-        Some(Action::Add(file)) => push_file(alloc, out, file),
+        Action::MetaData(meta) => push_meta(alloc, text, meta),
+        Action::Add(file) => push_file(alloc, text, file),
         _ => Ok(()),
     }
 }
 
 // The lines of a protocol and of a log's action.
-fn line_of_action(file: &RowFile, with: &Value) -> Result<Vec<u8>, RowFault> {
-    let mut out = Vec::new(file.alloc());
-    push_protocol(&mut out)?;
-    let text = text_at(file, with, "action")?;
-    if let Ok(action) = action_of_line(file.alloc(), &text) {
-        push_action(file.alloc(), &mut out, &action)?;
+fn line_of_action(given: &Given, out: &mut Answer) {
+    let mut text = Vec::new(out.alloc());
+    let done = push_protocol(&mut text);
+    out.stored(done);
+    if let Ok(Some(action)) = &action_of_line(out.alloc(), &given.bytes("action", out)) {
+        let done = push_action(out.alloc(), &mut text, action);
+        out.stored(done);
     }
-    Ok(out)
+    out.bytes(&text);
 }
 
 fn takes(refusal: Refusal, detail: &str) -> bool
@@ -139,49 +120,46 @@ fn takes(refusal: Refusal, detail: &str) -> bool
     detail.is_empty() || refusal.has_detail()
 }
 
-fn body_of(alloc: Global, refusal: Refusal, detail: &str) -> Result<Text, RowFault> {
-    if takes(refusal, detail) {
-        Ok(error_text(alloc, refusal, detail)?)
-    } else {
-        Err(RowFault::Member("detail"))
+fn add_error(refusal: Refusal, detail: &str, out: &mut Answer) {
+    if !takes(refusal, detail) {
+        out.lacks("detail");
+        return;
+    }
+    match &error_text(out.alloc(), refusal, detail) {
+        Ok(body) => out.word(body.as_str()),
+        Err(_) => out.fail(RowFault::NoMemory),
     }
 }
 
 // The body of a refusal.
-fn error(file: &RowFile, with: &Value) -> Result<String, RowFault> {
-    let Some(refusal) = Refusal::of_word(&string_at(file, with, "refusal")?) else {
-        return Err(RowFault::Unknown("the refusal"));
-    };
-    let body = body_of(file.alloc(), refusal, &string_at(file, with, "detail")?)?;
-    told(file.alloc(), body.as_str())
-}
-
-fn refusal_text(alloc: Global, refusal: &Option<(Refusal, Text)>) -> Result<String, RowFault> {
-    match refusal {
-        Some((refusal, detail)) => {
-            let detail = detail.as_str();
-            Ok(format!(in alloc; "{refusal:?} {detail}")?)
-        }
-        None => told(alloc, "no refusal"),
+fn error(given: &Given, out: &mut Answer) {
+    match Refusal::of_word(given.word("refusal", out)) {
+        Some(refusal) => add_error(refusal, &given.text("detail", out), out),
+        None => out.lacks("refusal"),
     }
 }
 
 // The refusal that a body tells, and its detail.
-fn error_read(file: &RowFile, with: &Value) -> Result<String, RowFault> {
-    let body = text_at(file, with, "body")?;
-    let refusal = error_of(file.alloc(), &body)?;
-    refusal_text(file.alloc(), &refusal)
+fn error_read(given: &Given, out: &mut Answer) {
+    match &error_of(out.alloc(), &given.bytes("body", out)) {
+        Ok(Some((refusal, detail))) => {
+            out.show(refusal);
+            out.words(" ", detail.as_str());
+        }
+        Ok(None) => out.word("no refusal"),
+        Err(_) => out.fail(RowFault::NoMemory),
+    }
 }
 
-/// What a call answers, none where it isn't one of these.
-pub(crate) fn answer(file: &RowFile, call: &str, with: &Value) -> Answered {
-    let text = match call {
-        "lines" => lines(file, with)?.into_bytes(),
-        "file_as" => file_as(file, with)?,
-        "line_of_action" => line_of_action(file, with)?,
-        "error" => error(file, with)?.into_bytes(),
-        "error_read" => error_read(file, with)?.into_bytes(),
-        _ => return Ok(None),
-    };
-    Ok(Some(text))
+/// Answers a call, where it is one of these.
+pub(crate) fn answer(call: &str, given: &Given, out: &mut Answer) -> bool {
+    match call {
+        "lines" => lines(given, out),
+        "file_as" => file_as(given, out),
+        "line_of_action" => line_of_action(given, out),
+        "error" => error(given, out),
+        "error_read" => error_read(given, out),
+        _ => return false,
+    }
+    true
 }

@@ -1,6 +1,6 @@
 // Lines of a log that are read as actions and commits, and printed; the names of commits and of files.
-use crate::given::{Answered, count_at, string_at};
-use crate::texts::{Answer, json_text_at, name_at, word_at};
+use crate::answer::Answer;
+use crate::given::Given;
 use edge_core::Name;
 use json_tree::{Edition, Millis, Pairs, Place, Text, Texts, Version};
 use log_actions::{
@@ -9,8 +9,7 @@ use log_actions::{
     text_len,
 };
 use log_commit::{NoCommit, bytes_of, commit_from, commit_of, name_of, version_of};
-use row_files::{RowFault, RowFile, flag_at, list_at, text_at};
-use serde_json::Value;
+use row_files::RowFault;
 use std::alloc::AllocError;
 
 fn add_texts(out: &mut Answer, of: &str, texts: &Option<Texts>) {
@@ -134,118 +133,111 @@ fn add_action(out: &mut Answer, action: &Action) {
     }
 }
 
-// The fields of a copy of the action; or how it is printed, and the length that is told of it.
-fn add_told(out: &mut Answer, action: &Action, printed: bool) -> Result<(), AllocError> {
-    if !printed {
-        add_action(out, &action.copy(out.alloc())?);
-        return Ok(());
+// The fields of a copy of the action.
+fn add_copy(out: &mut Answer, action: &Action) {
+    match &action.copy(out.alloc()) {
+        Ok(copy) => add_action(out, copy),
+        Err(_) => out.fail(RowFault::NoMemory),
     }
-    out.word(line_of_action(out.alloc(), action)?.as_str());
-    out.number("\n", line_len(action));
-    Ok(())
 }
 
-fn add_read(
-    out: &mut Answer,
-    read: &Result<Option<Action>, NoAction>,
-    printed: bool,
-) -> Result<(), RowFault> {
-    match read {
-        Ok(Some(action)) => add_told(out, action, printed)?,
+// How the action is printed, and the length that is told of it.
+fn add_printed(out: &mut Answer, action: &Action) {
+    match &line_of_action(out.alloc(), action) {
+        Ok(line) => out.word(line.as_str()),
+        Err(_) => out.fail(RowFault::NoMemory),
+    }
+    out.number("\n", line_len(action));
+}
+
+fn action(given: &Given, out: &mut Answer) {
+    let printed = given.flag("printed", out);
+    match &action_of_line(out.alloc(), &given.bytes("line", out)) {
+        Ok(Some(action)) if printed => add_printed(out, action),
+        Ok(Some(action)) => add_copy(out, action),
         Ok(None) => out.word("none"),
         Err(told) => out.show(told),
     }
-    Ok(())
 }
 
-fn action(file: &RowFile, with: &Value, out: &mut Answer) -> Result<(), RowFault> {
-    let printed = flag_at(with, "printed")?;
-    let line = text_at(file, with, "line")?;
-    add_read(out, &action_of_line(file.alloc(), &line), printed)
-}
-
-// How many actions the commit has; or how it is printed, and the length that is told of it.
-fn add_commit(out: &mut Answer, commit: &Commit, printed: bool) -> Result<(), AllocError> {
-    if !printed {
-        out.number("", commit.actions().len() as u64);
-        out.word(" actions");
-        return Ok(());
-    }
+// How the commit is printed, behind the length that is told of it.
+fn add_commit(out: &mut Answer, commit: &Commit) {
     out.number("", text_len(commit));
     out.word(" bytes\n");
-    out.bytes(&bytes_of(out.alloc(), commit)?);
-    Ok(())
+    match &bytes_of(out.alloc(), commit) {
+        Ok(bytes) => out.bytes(bytes),
+        Err(_) => out.fail(RowFault::NoMemory),
+    }
 }
 
-fn add_read_commit(
-    out: &mut Answer,
-    read: &Result<Commit, NoCommit>,
-    printed: bool,
-) -> Result<(), RowFault> {
+// How many actions a commit has, or how it is printed.
+fn add_read_commit(out: &mut Answer, read: &Result<Commit, NoCommit>, printed: bool) {
     match read {
-        Ok(commit) => add_commit(out, commit, printed)?,
+        Ok(commit) if printed => add_commit(out, commit),
+        Ok(commit) => {
+            out.number("", commit.actions().len() as u64);
+            out.word(" actions");
+        }
         Err(told) => out.show(told),
     }
-    Ok(())
 }
 
-fn commit(file: &RowFile, with: &Value, out: &mut Answer) -> Result<(), RowFault> {
-    let printed = flag_at(with, "printed")?;
-    let text = text_at(file, with, "text")?;
-    add_read_commit(out, &commit_of(file.alloc(), &text), printed)
+fn commit(given: &Given, out: &mut Answer) {
+    let printed = given.flag("printed", out);
+    let text = given.bytes("text", out);
+    add_read_commit(out, &commit_of(out.alloc(), &text), printed);
 }
 
-// The actions of lines.
-fn actions_at(file: &RowFile, with: &Value) -> Result<Actions, RowFault> {
-    let mut actions = Vec::new(file.alloc());
-    for line in list_at(with, "lines")? {
-        match action_of_line(file.alloc(), &file.text(line)?) {
-            Ok(Some(action)) => actions.push(action)?,
-            _ => return Err(RowFault::Unknown("an action")),
+// Adds the action of a line to others.
+fn push_action(actions: &mut Vec<Action>, line: &[u8], out: &mut Answer) {
+    if let Ok(Some(action)) = action_of_line(out.alloc(), line) {
+        if actions.push(action).is_err() {
+            out.fail(RowFault::NoMemory);
         }
+    } else {
+        out.lacks("lines");
     }
-    Ok(Actions::of(actions))
 }
 
-fn commit_of_actions(file: &RowFile, with: &Value, out: &mut Answer) -> Result<(), RowFault> {
-    let actions = actions_at(file, with)?;
-    add_read_commit(out, &commit_from(file.alloc(), actions), false)
+fn commit_of_actions(given: &Given, out: &mut Answer) {
+    let mut actions = Vec::new(out.alloc());
+    for line in given.list("lines", out) {
+        let line = out.made(given.file.text(line));
+        push_action(&mut actions, &line, out);
+    }
+    add_read_commit(out, &commit_from(out.alloc(), Actions::of(actions)), false);
 }
 
-fn add_name(out: &mut Answer, name: &Option<Name>) {
+fn add_name(out: &mut Answer, name: &Result<Option<Name>, AllocError>) {
     match name {
-        Some(name) => out.word(name.as_str()),
-        None => out.word("none"),
+        Ok(Some(name)) => out.word(name.as_str()),
+        Ok(None) => out.word("none"),
+        Err(_) => out.fail(RowFault::NoMemory),
     }
 }
 
-fn commit_name(file: &RowFile, with: &Value, out: &mut Answer) -> Result<(), RowFault> {
-    let version = count_at(with, "version")?;
-    if version >= 1 << 63 {
-        return Err(RowFault::Member("version"));
+fn commit_name(given: &Given, out: &mut Answer) {
+    let version = given.number("version", out);
+    match &given.object_name("below", out) {
+        Some(location) if version < 1 << 63 => {
+            add_name(out, &name_of(out.alloc(), location, version));
+        }
+        _ => out.lacks("version"),
     }
-    let location = name_at(file, with, "below")?;
-    add_name(out, &name_of(file.alloc(), &location, version)?);
-    Ok(())
 }
 
-fn file_name(file: &RowFile, with: &Value, out: &mut Answer) -> Result<(), RowFault> {
-    let location = name_at(file, with, "below")?;
-    let path = json_text_at(file, with, "path")?;
-    add_name(out, &path_name(file.alloc(), &location, &path)?);
-    Ok(())
+fn file_name(given: &Given, out: &mut Answer) {
+    let path = given.json_text("path", out);
+    if let Some(location) = &given.object_name("below", out) {
+        add_name(out, &path_name(out.alloc(), location, &path));
+    }
 }
 
-fn good_path(file: &RowFile, with: &Value, out: &mut Answer) -> Result<(), RowFault> {
-    let path = json_text_at(file, with, "path")?;
-    out.flag("", is_good_path(file.alloc(), &path)?);
-    Ok(())
-}
-
-fn version_in_name(file: &RowFile, with: &Value, out: &mut Answer) -> Result<(), RowFault> {
-    let segment = string_at(file, with, "segment")?;
-    out.show(&version_of(segment.as_str()));
-    Ok(())
+fn good_path(given: &Given, out: &mut Answer) {
+    match is_good_path(out.alloc(), &given.json_text("path", out)) {
+        Ok(is_good) => out.flag("", is_good),
+        Err(_) => out.fail(RowFault::NoMemory),
+    }
 }
 
 // What a number is as one of a kind that has a bound.
@@ -264,24 +256,27 @@ fn add_number(out: &mut Answer, kind: &str, number: u64) {
     }
 }
 
-fn number(with: &Value, out: &mut Answer) -> Result<(), RowFault> {
-    add_number(out, word_at(with, "as")?, count_at(with, "of")?);
-    Ok(())
+fn number(given: &Given, out: &mut Answer) {
+    let number = given.number("of", out);
+    let kind = given.word("as", out);
+    add_number(out, kind, number);
 }
 
-/// The answer of a call of this module.
-pub(crate) fn answer(file: &RowFile, call: &str, with: &Value) -> Answered {
-    let mut out = Answer::new(file.alloc());
-    let done = match call {
-        "action" => action(file, with, &mut out),
-        "commit" => commit(file, with, &mut out),
-        "commit of actions" => commit_of_actions(file, with, &mut out),
-        "commit name" => commit_name(file, with, &mut out),
-        "version of" => version_in_name(file, with, &mut out),
-        "path name" => file_name(file, with, &mut out),
-        "good path" => good_path(file, with, &mut out),
-        "small_number" => number(with, &mut out),
-        _ => return Ok(None),
-    };
-    out.after(done)
+/// Answers a call, where it is one of these.
+pub(crate) fn answer(call: &str, given: &Given, out: &mut Answer) -> bool {
+    match call {
+        "action" => action(given, out),
+        "commit" => commit(given, out),
+        "commit of actions" => commit_of_actions(given, out),
+        "commit name" => commit_name(given, out),
+        "version of" => {
+            let version = version_of(given.text("segment", out).as_str());
+            out.show(&version);
+        }
+        "path name" => file_name(given, out),
+        "good path" => good_path(given, out),
+        "small_number" => number(given, out),
+        _ => return false,
+    }
+    true
 }

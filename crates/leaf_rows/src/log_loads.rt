@@ -1,10 +1,9 @@
 // Logs that are loaded from a store, and what a store has under a name.
-use crate::given::{Answered, count_at};
-use crate::texts::{Answer, name_at};
+use crate::answer::Answer;
+use crate::given::Given;
 use edge_core::{MemStore, Name};
 use log_store::{Fetched, LoadRefusal, Loaded, Probed, fetch, load, probe};
-use row_files::{RowFault, RowFile, store_of};
-use serde_json::Value;
+use row_files::store_of;
 
 // The most bytes of the name of a table's folder.
 const MOST_LOCATION: usize = 256;
@@ -30,6 +29,17 @@ fn add_load(out: &mut Answer, loaded: &Result<Loaded, LoadRefusal>) {
     }
 }
 
+// The store of a row.
+fn store_in(given: &Given, out: &mut Answer) -> Option<MemStore> {
+    match store_of(given.file, given.with) {
+        Ok(store) => Some(store),
+        Err(fault) => {
+            out.fail(fault);
+            None
+        }
+    }
+}
+
 // Each of these makes a call of the store whose arguments are in its bounds.
 fn load_from(out: &mut Answer, store: &mut MemStore, location: &Name) {
     if location.as_str().len() <= MOST_LOCATION {
@@ -37,10 +47,11 @@ fn load_from(out: &mut Answer, store: &mut MemStore, location: &Name) {
     }
 }
 
-fn load_log(file: &RowFile, with: &Value, out: &mut Answer) -> Result<(), RowFault> {
-    let location = name_at(file, with, "table")?;
-    load_from(out, &mut store_of(file, with)?, &location);
-    Ok(())
+fn load_log(given: &Given, out: &mut Answer) {
+    let location = given.object_name("table", out);
+    if let (Some(location), Some(mut store)) = (location, store_in(given, out)) {
+        load_from(out, &mut store, &location);
+    }
 }
 
 fn add_probe(out: &mut Answer, probed: &Result<Probed, LoadRefusal>) {
@@ -61,11 +72,12 @@ fn probe_in(out: &mut Answer, store: &mut MemStore, location: &Name, version: u6
     }
 }
 
-fn probe_version(file: &RowFile, with: &Value, out: &mut Answer) -> Result<(), RowFault> {
-    let version = count_at(with, "version")?;
-    let location = name_at(file, with, "table")?;
-    probe_in(out, &mut store_of(file, with)?, &location, version);
-    Ok(())
+fn probe_version(given: &Given, out: &mut Answer) {
+    let version = given.number("version", out);
+    let location = given.object_name("table", out);
+    if let (Some(location), Some(mut store)) = (location, store_in(given, out)) {
+        probe_in(out, &mut store, &location, version);
+    }
 }
 
 fn add_fetch(out: &mut Answer, fetched: &Result<Fetched, LoadRefusal>) {
@@ -87,21 +99,21 @@ fn fetch_from(out: &mut Answer, store: &mut MemStore, object: &Name, limit: u64)
     }
 }
 
-fn fetch_object(file: &RowFile, with: &Value, out: &mut Answer) -> Result<(), RowFault> {
-    let limit = count_at(with, "limit")?;
-    let object = name_at(file, with, "object")?;
-    fetch_from(out, &mut store_of(file, with)?, &object, limit);
-    Ok(())
+fn fetch_object(given: &Given, out: &mut Answer) {
+    let limit = given.number("limit", out);
+    let object = given.object_name("object", out);
+    if let (Some(object), Some(mut store)) = (object, store_in(given, out)) {
+        fetch_from(out, &mut store, &object, limit);
+    }
 }
 
-/// The answer of a call of this module.
-pub(crate) fn answer(file: &RowFile, call: &str, with: &Value) -> Answered {
-    let mut out = Answer::new(file.alloc());
-    let done = match call {
-        "load" => load_log(file, with, &mut out),
-        "probe" => probe_version(file, with, &mut out),
-        "fetch" => fetch_object(file, with, &mut out),
-        _ => return Ok(None),
-    };
-    out.after(done)
+/// Answers a call, where it is one of these.
+pub(crate) fn answer(call: &str, given: &Given, out: &mut Answer) -> bool {
+    match call {
+        "load" => load_log(given, out),
+        "probe" => probe_version(given, out),
+        "fetch" => fetch_object(given, out),
+        _ => return false,
+    }
+    true
 }

@@ -1,8 +1,8 @@
 // Logs: their states, the times of their versions, and their change feeds.
 ghost use Rattle.std.specs.Prelude.{◌≡◌, [], None};
 
-use crate::given::{Answered, count_at};
-use crate::texts::{Answer, word_at};
+use crate::answer::Answer;
+use crate::given::Given;
 use change_feed::{
     Change, changes, cuts_join, later_commits_leave, ranges_join, versions_stand_alone,
 };
@@ -13,7 +13,7 @@ use log_replay::{
     Bound, Mark, NoState, Snapshot, SnapshotRef, Support, advance, mark_of, marks_of, replay,
     replay_ref, resolve,
 };
-use row_files::{RowFault, RowFile, flag_at, list_at, number_at};
+use row_files::RowFault;
 use serde_json::Value;
 use std::alloc::{AllocError, Global};
 use std::sync::Arc;
@@ -24,24 +24,32 @@ struct Work;
 // More versions than a row has.
 const MOST_VERSIONS: u64 = 1_000_000;
 
-fn commit(file: &RowFile, text: &Value) -> Result<Arc<Commit>, RowFault> {
-    match commit_of(file.alloc(), &file.text(text)?) {
-        Ok(commit) => Ok(Arc::new(file.alloc(), commit)?),
+fn commit(alloc: Global, text: &[u8]) -> Result<Arc<Commit>, RowFault> {
+    match commit_of(alloc, text) {
+        Ok(commit) => Ok(Arc::new(alloc, commit)?),
         Err(_) => Err(RowFault::Unknown("a commit")),
     }
 }
 
-// The commits of the texts of a list.
-fn commits_at(
-    file: &RowFile,
-    with: &Value,
-    member: &'static str,
-) -> Result<Vec<Arc<Commit>>, RowFault> {
-    let mut commits = Vec::new(file.alloc());
-    for text in list_at(with, member)? {
-        commits.push(commit(file, text)?)?;
+fn push_commit(commits: &mut Vec<Arc<Commit>>, text: &[u8], out: &mut Answer) {
+    match commit(out.alloc(), text) {
+        Ok(commit) => {
+            if commits.push(commit).is_err() {
+                out.fail(RowFault::NoMemory);
+            }
+        }
+        Err(fault) => out.fail(fault),
     }
-    Ok(commits)
+}
+
+// The commits of the texts of a list.
+fn commits_at(given: &Given, member: &'static str, out: &mut Answer) -> Vec<Arc<Commit>> {
+    let mut commits = Vec::new(out.alloc());
+    for text in given.list(member, out) {
+        let text = out.made(given.file.text(text));
+        push_commit(&mut commits, &text, out);
+    }
+    commits
 }
 
 // The calls here have no clauses, so that what is known of their answers doesn't burden the proofs of those that make them.
@@ -176,43 +184,42 @@ fn add_states(out: &mut Answer, states: &[Snapshot], paths: &[Value], apps: &[Va
 }
 
 // The states of a log and of the versions that come next, and why there is no further one.
-fn replayed(file: &RowFile, with: &Value, out: &mut Answer) -> Result<(), RowFault> {
-    let paths = list_at(with, "paths")?;
-    let apps = list_at(with, "apps")?;
-    let log = commits_at(file, with, "log")?;
-    let next = commits_at(file, with, "next")?;
-    let mut states = Vec::new(file.alloc());
-    let ended = push_states(file.alloc(), &log, &next, &mut states);
+fn replayed(given: &Given, out: &mut Answer) {
+    let paths = given.list("paths", out);
+    let apps = given.list("apps", out);
+    let log = commits_at(given, "log", out);
+    let next = commits_at(given, "next", out);
+    let mut states = Vec::new(out.alloc());
+    let ended = push_states(out.alloc(), &log, &next, &mut states);
     add_states(out, &states, paths, apps);
     if let Err(told) = &ended {
         out.show(told);
     }
-    Ok(())
 }
 
-fn add_borrowed(out: &mut Answer, state: &SnapshotRef) -> Result<(), AllocError> {
+fn add_borrowed(out: &mut Answer, state: &SnapshotRef) {
     add_version(out, state.version(), state.len(), state.is_empty());
     add_table(out, state.protocol(), state.meta());
     for place in 0..state.len() {
         add_file(out, state.file(place));
     }
-    add_state(out, &state.copy(out.alloc())?);
-    Ok(())
+    match &state.copy(out.alloc()) {
+        Ok(copy) => add_state(out, copy),
+        Err(_) => out.fail(RowFault::NoMemory),
+    }
 }
 
 // The borrowed state of a log, and its copy.
-fn borrowed(file: &RowFile, with: &Value, out: &mut Answer) -> Result<(), RowFault> {
-    let log = commits_at(file, with, "log")?;
+fn borrowed(given: &Given, out: &mut Answer) {
+    let log = commits_at(given, "log", out);
     if log.is_empty() {
-        return Err(RowFault::Member("log"));
+        out.lacks("log");
+        return;
     }
     let mut steps: Steps<Work> = Steps::new();
-    match replay_ref(file.alloc(), &log, &mut steps) {
-        Ok(state) => Ok(add_borrowed(out, &state)?),
-        Err(told) => {
-            out.show(&told);
-            Ok(())
-        }
+    match &replay_ref(out.alloc(), &log, &mut steps) {
+        Ok(state) => add_borrowed(out, state),
+        Err(told) => out.show(told),
     }
 }
 
@@ -228,13 +235,11 @@ fn admit_all(alloc: Global, log: &[Arc<Commit>]) -> Result<(), NoState> {
     Ok(())
 }
 
-fn admitted(file: &RowFile, with: &Value, out: &mut Answer) -> Result<(), RowFault> {
-    let log = commits_at(file, with, "log")?;
-    match admit_all(file.alloc(), &log) {
+fn admitted(given: &Given, out: &mut Answer) {
+    match admit_all(out.alloc(), &commits_at(given, "log", out)) {
         Ok(()) => out.word("admitted"),
         Err(told) => out.show(&told),
     }
-    Ok(())
 }
 
 fn add_mark(out: &mut Answer, mark: &Mark) {
@@ -245,57 +250,65 @@ fn add_mark(out: &mut Answer, mark: &Mark) {
     out.word("\n");
 }
 
-fn marks(file: &RowFile, with: &Value, out: &mut Answer) -> Result<(), RowFault> {
-    let log = commits_at(file, with, "log")?;
-    for mark in &marks_of(file.alloc(), &log)? {
-        add_mark(out, mark);
+// The marks of the versions of a log.
+fn marks_in(log: &[Arc<Commit>], out: &mut Answer) -> Vec<Mark> {
+    match marks_of(out.alloc(), log) {
+        Ok(marks) => marks,
+        Err(_) => {
+            out.fail(RowFault::NoMemory);
+            Vec::new(out.alloc())
+        }
     }
-    Ok(())
 }
 
-fn mark_at(with: &Value) -> Result<Mark, RowFault> {
-    let Ok(time) = i64::try_from(count_at(with, "time")?) else {
-        return Err(RowFault::Member("time"));
-    };
-    Ok(Mark {
-        time,
-        feed: flag_at(with, "feed")?,
-        meta_at: count_at(with, "meta_at")?,
-        protocol_at: count_at(with, "protocol_at")?,
-    })
+fn marks(given: &Given, out: &mut Answer) {
+    let log = commits_at(given, "log", out);
+    for mark in &marks_in(&log, out) {
+        add_mark(out, mark);
+    }
+}
+
+fn mark_at(given: &Given, out: &mut Answer) -> Mark {
+    Mark {
+        time: i64::try_from(given.number("time", out)).unwrap_or(0),
+        feed: given.flag("feed", out),
+        meta_at: given.number("meta_at", out),
+        protocol_at: given.number("protocol_at", out),
+    }
 }
 
 // The mark of a commit that comes after the version of another mark.
-fn next_mark(file: &RowFile, with: &Value, out: &mut Answer) -> Result<(), RowFault> {
-    let former = mark_at(with)?;
-    let version = count_at(with, "version")?;
-    for commit in &commits_at(file, with, "next")? {
+fn next_mark(given: &Given, out: &mut Answer) {
+    let former = mark_at(given, out);
+    let version = given.number("version", out);
+    for commit in &commits_at(given, "next", out) {
         add_mark(out, &mark_of(Some(&former), version, commit));
     }
-    Ok(())
 }
 
-fn bound_at(with: &Value) -> Result<Bound, RowFault> {
-    let number = number_at(with, "at")?.unwrap_or(0);
-    match word_at(with, "bound")? {
-        "latest" => Ok(Bound::Latest),
-        "version" => Ok(Bound::Version(number)),
-        "at or before" => Ok(Bound::AtOrBefore(i128::from(number))),
-        "at or after" => Ok(Bound::AtOrAfter(i128::from(number))),
-        _ => Err(RowFault::Member("bound")),
+fn bound_at(given: &Given, out: &mut Answer) -> Bound {
+    match given.word("bound", out) {
+        "version" => Bound::Version(given.number("at", out)),
+        "at or before" => Bound::AtOrBefore(i128::from(given.number("at", out))),
+        "at or after" => Bound::AtOrAfter(i128::from(given.number("at", out))),
+        word => {
+            if word != "latest" {
+                out.lacks("bound");
+            }
+            Bound::Latest
+        }
     }
 }
 
-fn meant(file: &RowFile, with: &Value, out: &mut Answer) -> Result<(), RowFault> {
-    let bound = bound_at(with)?;
-    let blocked = flag_at(with, "blocked")?;
-    let log = commits_at(file, with, "log")?;
-    let marks = marks_of(file.alloc(), &log)?;
+fn meant(given: &Given, out: &mut Answer) {
+    let bound = bound_at(given, out);
+    let blocked = given.flag("blocked", out);
+    let log = commits_at(given, "log", out);
+    let marks = marks_in(&log, out);
     match resolve(&marks, blocked, bound) {
         Ok(version) => out.number("version ", version),
         Err(told) => out.show(&told),
     }
-    Ok(())
 }
 
 // Adds a change. What it hasn't is lent.
@@ -336,11 +349,12 @@ fn add_feed(
     log: &[Arc<Commit>],
     range: (usize, usize),
     counted: bool,
-) -> Result<(), RowFault> {
+) {
     let (first, end) = range;
-    let marks = marks_of(out.alloc(), log)?;
-    if first > end || end > log.len() {
-        return Err(RowFault::Member("end"));
+    let marks = marks_in(log, out);
+    if first > end || end > log.len() || end > marks.len() {
+        out.lacks("end");
+        return;
     }
     match changes(
         out.alloc(),
@@ -352,40 +366,37 @@ fn add_feed(
         Ok(changes) => add_changes(out, &changes),
         Err(told) => out.show(&told),
     }
-    Ok(())
 }
 
-fn feed(file: &RowFile, with: &Value, out: &mut Answer) -> Result<(), RowFault> {
-    let counted = flag_at(with, "counted")?;
-    let first = count_at(with, "first")? as usize;
-    let end = count_at(with, "end")? as usize;
-    let log = commits_at(file, with, "log")?;
-    add_feed(out, &log, (first, end), counted)
+fn feed(given: &Given, out: &mut Answer) {
+    let counted = given.flag("counted", out);
+    let first = given.number("first", out) as usize;
+    let end = given.number("end", out) as usize;
+    let log = commits_at(given, "log", out);
+    add_feed(out, &log, (first, end), counted);
 }
 
 // The laws of the feed can be called, and do nothing.
-fn laws(out: &mut Answer) -> Result<(), RowFault> {
+fn laws(out: &mut Answer) {
     versions_stand_alone();
     ranges_join();
     later_commits_leave();
     cuts_join();
     out.word("called");
-    Ok(())
 }
 
-/// The answer of a call of this module.
-pub(crate) fn answer(file: &RowFile, call: &str, with: &Value) -> Answered {
-    let mut out = Answer::new(file.alloc());
-    let done = match call {
-        "replay" => replayed(file, with, &mut out),
-        "borrow" => borrowed(file, with, &mut out),
-        "admit" => admitted(file, with, &mut out),
-        "marks" => marks(file, with, &mut out),
-        "next mark" => next_mark(file, with, &mut out),
-        "resolve" => meant(file, with, &mut out),
-        "feed" => feed(file, with, &mut out),
-        "laws of the feed" => laws(&mut out),
-        _ => return Ok(None),
-    };
-    out.after(done)
+/// Answers a call, where it is one of these.
+pub(crate) fn answer(call: &str, given: &Given, out: &mut Answer) -> bool {
+    match call {
+        "replay" => replayed(given, out),
+        "borrow" => borrowed(given, out),
+        "admit" => admitted(given, out),
+        "marks" => marks(given, out),
+        "next mark" => next_mark(given, out),
+        "resolve" => meant(given, out),
+        "feed" => feed(given, out),
+        "laws of the feed" => laws(out),
+        _ => return false,
+    }
+    true
 }

@@ -2,6 +2,7 @@
 //! and what it `gives` as a text. Each module tells of its calls.
 #![tactic(auto)]
 
+mod answer;
 mod asked;
 mod catalog;
 mod configs;
@@ -19,34 +20,44 @@ mod partitions;
 mod ranges;
 mod signs;
 mod tables;
-mod texts;
 mod tokens;
 mod trees;
 mod wire;
 
+use answer::Answer;
+use given::Given;
 use row_files::{RowFault, RowFile, Told, run_rows, text_at};
 use serde_json::Value;
 use std::io;
 use std::process::ExitCode;
 
-// Answers with what the first module that knows the call answers.
-macro_rules! first_answer {
-    ($file:expr, $call:expr, $with:expr, $($module:ident),*) => {
+// Whether one of the modules knows the call, which answers it then.
+macro_rules! first_knows {
+    ($call:expr, $given:expr, $out:expr, $($module:ident),*) => {
         $(
-            if let Some(text) = $module::answer($file, $call, $with)? {
-                return Ok(text);
+            if $module::answer($call, $given, $out) {
+                return true;
             }
         )*
     };
 }
 
-fn answer(file: &RowFile, call: &str, with: &Value) -> Result<Vec<u8>, RowFault> {
-    first_answer!(
-        file, call, with, asked, catalog, configs, doors, heads, lines, log_lines, log_loads,
+fn is_known(call: &str, given: &Given, out: &mut Answer) -> bool {
+    first_knows!(
+        call, given, out, asked, catalog, configs, doors, heads, lines, log_lines, log_loads,
         log_states, memory, messages, names, partitions, ranges, signs, tables, tokens, trees,
         wire
     );
-    Err(RowFault::Unknown("the call"))
+    false
+}
+
+fn answered(call: &str, given: &Given) -> Result<Vec<u8>, RowFault> {
+    let mut out = Answer::new(given.file.alloc());
+    if is_known(call, given, &mut out) {
+        out.end()
+    } else {
+        Err(RowFault::Unknown("the call"))
+    }
 }
 
 // Compares what a row's call answers with what it is to give.
@@ -56,7 +67,7 @@ fn run(file: &RowFile, row: &Value, told: &mut Told) -> Result<(), RowFault> {
     };
     let with = row.get("with").unwrap_or(row);
     let wanted = text_at(file, row, "gives")?;
-    let came = answer(file, call, with)?;
+    let came = answered(call, &Given { file, with })?;
     Ok(told.compare(call, &wanted, &came)?)
 }
 

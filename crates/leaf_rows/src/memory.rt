@@ -1,13 +1,11 @@
 // Names, and sources, sinks, stores and clocks in memory.
-use crate::given::{Answered, count_at, string_at};
-use crate::texts::{Answer, name_at};
+use crate::answer::Answer;
+use crate::given::Given;
 use edge_core::{
     Clock, Gave, Got, Listed, MemSink, MemSource, MemStore, Name, Segment, Segments, Sink, Source,
     Store, Took, is_name_text, is_segment_text, write_all,
 };
-use row_files::{
-    RowFault, RowFile, clock_of, flag_at, list_at, sink_of, source_of, store_of, text_at,
-};
+use row_files::{RowFault, clock_of, sink_of, source_of, store_of};
 use serde_json::Value;
 use std::alloc::{AllocError, Global};
 
@@ -22,12 +20,12 @@ fn add_name(out: &mut Answer, name: Name) -> Result<(), AllocError> {
 }
 
 // Whether a text is a name; and where one is made of it, the texts that it has.
-fn name(file: &RowFile, with: &Value, out: &mut Answer) -> Result<(), RowFault> {
-    let text = string_at(file, with, "text")?;
+fn name(given: &Given, out: &mut Answer) {
+    let text = given.text("text", out);
     out.flag("", is_name_text(&text));
-    match Name::of(text) {
-        Some(name) => Ok(add_name(out, name)?),
-        None => Ok(()),
+    if let Some(name) = Name::of(text) {
+        let done = add_name(out, name);
+        out.stored(done);
     }
 }
 
@@ -41,12 +39,12 @@ fn add_segment(out: &mut Answer, segment: &Segment) -> Result<(), AllocError> {
 }
 
 // The same of a segment.
-fn segment(file: &RowFile, with: &Value, out: &mut Answer) -> Result<(), RowFault> {
-    let text = string_at(file, with, "text")?;
+fn segment(given: &Given, out: &mut Answer) {
+    let text = given.text("text", out);
     out.flag("", is_segment_text(&text));
-    match &Segment::of(text) {
-        Some(segment) => Ok(add_segment(out, segment)?),
-        None => Ok(()),
+    if let Some(segment) = &Segment::of(text) {
+        let done = add_segment(out, segment);
+        out.stored(done);
     }
 }
 
@@ -68,17 +66,32 @@ fn segments_of(alloc: Global, texts: &[Value]) -> Result<Segments, RowFault> {
     Ok(Segments::of(items))
 }
 
-// The segments of a list, and those of its copy.
-fn segments(file: &RowFile, with: &Value, out: &mut Answer) -> Result<(), RowFault> {
-    let segments = segments_of(file.alloc(), list_at(with, "segments")?)?;
+fn add_copied(out: &mut Answer, segments: &Segments) -> Result<(), AllocError> {
     add_segments(out, segments.items());
-    add_segments(out, &segments.copy(file.alloc())?.into_items());
+    add_segments(out, &segments.copy(out.alloc())?.into_items());
     Ok(())
 }
 
-fn room_at(file: &RowFile, with: &Value) -> Result<Vec<u8>, RowFault> {
-    let room = count_at(with, "room_for")? as usize;
-    Ok(vec![in file.alloc(); 0u8; room]?)
+// The segments of a list, and those of its copy.
+fn segments(given: &Given, out: &mut Answer) {
+    match &segments_of(out.alloc(), given.list("segments", out)) {
+        Ok(segments) => {
+            let done = add_copied(out, segments);
+            out.stored(done);
+        }
+        Err(fault) => out.fail(*fault),
+    }
+}
+
+fn room_at(given: &Given, out: &mut Answer) -> Vec<u8> {
+    let room = given.number("room_for", out) as usize;
+    match vec![in out.alloc(); 0u8; room] {
+        Ok(room) => room,
+        Err(_) => {
+            out.fail(RowFault::NoMemory);
+            Vec::new(out.alloc())
+        }
+    }
 }
 
 // How a read answers, and the room after it.
@@ -98,14 +111,19 @@ fn add_room(out: &mut Answer, room: &[u8]) {
     out.word("\n");
 }
 
-fn read(file: &RowFile, with: &Value, out: &mut Answer) -> Result<(), RowFault> {
-    let reads = count_at(with, "reads")?;
-    let mut room = room_at(file, with)?;
-    let mut source = source_of(file, with, text_at(file, with, "text")?)?;
-    for _ in 0..reads {
-        add_read(out, &mut source, &mut room);
+fn add_reads(given: &Given, source: &mut MemSource, out: &mut Answer) {
+    let mut room = room_at(given, out);
+    for _ in 0..given.number("reads", out) {
+        add_read(out, source, &mut room);
     }
-    Ok(())
+}
+
+fn read(given: &Given, out: &mut Answer) {
+    let text = given.bytes("text", out);
+    match source_of(given.file, given.with, text) {
+        Ok(mut source) => add_reads(given, &mut source, out),
+        Err(fault) => out.fail(fault),
+    }
 }
 
 fn write_at_once(sink: &mut MemSink, bytes: &[u8]) -> Gave {
@@ -125,15 +143,21 @@ fn add_write(out: &mut Answer, sink: &mut MemSink, bytes: &[u8], all: bool) {
 }
 
 // How writes answer, and what the sink has then.
-fn write(file: &RowFile, with: &Value, out: &mut Answer) -> Result<(), RowFault> {
-    let all = flag_at(with, "all")?;
-    let mut sink = sink_of(file, with)?;
-    for text in list_at(with, "writes")? {
-        add_write(out, &mut sink, &file.text(text)?, all);
+fn add_writes(given: &Given, sink: &mut MemSink, out: &mut Answer) {
+    let all = given.flag("all", out);
+    for text in given.list("writes", out) {
+        let text = out.made(given.file.text(text));
+        add_write(out, sink, &text, all);
     }
     out.show(&sink.pieces());
     add_room(out, sink.bytes());
-    Ok(())
+}
+
+fn write(given: &Given, out: &mut Answer) {
+    match sink_of(given.file, given.with) {
+        Ok(mut sink) => add_writes(given, &mut sink, out),
+        Err(fault) => out.fail(fault),
+    }
 }
 
 fn get(store: &mut MemStore, name: &Name, from: u64, room: &mut [u8]) -> Got {
@@ -151,57 +175,64 @@ fn add_listed(out: &mut Answer, listed: &Listed) {
 }
 
 // How the store answers a call: a put, the size of an object, a get or a list.
-fn ask(
-    file: &RowFile,
-    store: &mut MemStore,
-    room: &mut [u8],
-    call: &Value,
-    out: &mut Answer,
-) -> Result<(), RowFault> {
-    let name = name_at(file, call, "of")?;
-    match call.get("do").and_then(Value::as_str) {
-        Some("put") => out.show(&store.put_absent(&name, &text_at(file, call, "bytes")?)),
-        Some("size") => out.show(&store.size(&name)),
-        Some("list") => add_listed(out, &store.list(file.alloc(), &name)),
-        _ => out.show(&get(store, &name, count_at(call, "from")?, room)),
+fn ask(call: &Given, store: &mut MemStore, room: &mut [u8], out: &mut Answer) {
+    let Some(name) = call.object_name("of", out) else {
+        return;
+    };
+    match call.word("do", out) {
+        "put" => {
+            let bytes = call.bytes("bytes", out);
+            out.show(&store.put_absent(&name, &bytes));
+        }
+        "size" => out.show(&store.size(&name)),
+        "list" => add_listed(out, &store.list(out.alloc(), &name)),
+        _ => {
+            let from = call.number("from", out);
+            out.show(&get(store, &name, from, room));
+        }
     }
     add_room(out, room);
-    Ok(())
 }
 
 // How the calls of a store are answered, each with the room into which a get reads behind it.
-fn store(file: &RowFile, with: &Value, out: &mut Answer) -> Result<(), RowFault> {
-    let mut room = room_at(file, with)?;
-    let mut store = store_of(file, with)?;
-    for call in list_at(with, "calls")? {
-        ask(file, &mut store, &mut room, call, out)?;
+fn add_answers(given: &Given, store: &mut MemStore, out: &mut Answer) {
+    let mut room = room_at(given, out);
+    for call in given.list("calls", out) {
+        ask(&given.of(call), store, &mut room, out);
     }
-    Ok(())
+}
+
+fn store(given: &Given, out: &mut Answer) {
+    match store_of(given.file, given.with) {
+        Ok(mut store) => add_answers(given, &mut store, out),
+        Err(fault) => out.fail(fault),
+    }
 }
 
 // What a clock of the moments tells, so often.
-fn clock(file: &RowFile, with: &Value, out: &mut Answer) -> Result<(), RowFault> {
-    let asked = count_at(with, "asked")?;
-    let mut clock = clock_of(file, with)?;
-    for _ in 0..asked {
-        out.number("", clock.now());
-        out.word("\n");
+fn clock(given: &Given, out: &mut Answer) {
+    match clock_of(given.file, given.with) {
+        Ok(mut clock) => {
+            for _ in 0..given.number("asked", out) {
+                out.number("", clock.now());
+                out.word("\n");
+            }
+        }
+        Err(fault) => out.fail(fault),
     }
-    Ok(())
 }
 
-/// The answer of a call of this module.
-pub(crate) fn answer(file: &RowFile, call: &str, with: &Value) -> Answered {
-    let mut out = Answer::new(file.alloc());
-    let done = match call {
-        "name" => name(file, with, &mut out),
-        "segment" => segment(file, with, &mut out),
-        "segments" => segments(file, with, &mut out),
-        "read" => read(file, with, &mut out),
-        "write" => write(file, with, &mut out),
-        "store" => store(file, with, &mut out),
-        "clock" => clock(file, with, &mut out),
-        _ => return Ok(None),
-    };
-    out.after(done)
+/// Answers a call, where it is one of these.
+pub(crate) fn answer(call: &str, given: &Given, out: &mut Answer) -> bool {
+    match call {
+        "name" => name(given, out),
+        "segment" => segment(given, out),
+        "segments" => segments(given, out),
+        "read" => read(given, out),
+        "write" => write(given, out),
+        "store" => store(given, out),
+        "clock" => clock(given, out),
+        _ => return false,
+    }
+    true
 }

@@ -1,124 +1,107 @@
 // Names of the catalogue, and where a table's log may lie.
-use crate::given::{Answered, string_at, string_of, told};
-use edge_core::Name;
-use row_files::{RowFault, RowFile, list_at};
-use serde_json::Value;
+use crate::answer::Answer;
+use crate::given::Given;
 use share_catalog::{CatalogName, Location, TableName, is_catalog_name_text};
-use std::alloc::{AllocError, Global};
 
-fn is_name(file: &RowFile, with: &Value) -> Result<String, RowFault> {
-    let is_name = is_catalog_name_text(&string_at(file, with, "text")?);
-    Ok(format!(in file.alloc(); "{is_name}")?)
-}
-
-fn name(file: &RowFile, with: &Value, member: &'static str) -> Result<CatalogName, RowFault> {
-    CatalogName::of(string_at(file, with, member)?).ok_or(RowFault::Member(member))
+fn name(given: &Given, member: &'static str, out: &mut Answer) -> Option<CatalogName> {
+    let name = CatalogName::of(given.text(member, out));
+    if name.is_none() {
+        out.lacks(member);
+    }
+    name
 }
 
 // Whether a name is its copy's, and another one.
-fn sameness(alloc: Global, one: &CatalogName, other: &CatalogName) -> Result<String, AllocError> {
-    let copy = one.copy(alloc)?;
-    let (is_copied, is_other) = (one.is(&copy), one.is(other));
-    format!(in alloc; "copied={is_copied} other={is_other} ")
+fn add_sameness(one: &CatalogName, other: &CatalogName, out: &mut Answer) {
+    if let Some(copy) = out.kept(one.copy(out.alloc())) {
+        out.flag("copied=", one.is(&copy));
+        out.flag(" other=", one.is(other));
+    }
 }
 
 // The same, and the name's text.
-fn name_back(file: &RowFile, with: &Value) -> Result<String, RowFault> {
-    let other = name(file, with, "other")?;
-    let one = name(file, with, "one")?;
-    let mut text = sameness(file.alloc(), &one, &other)?;
-    text.push_str(one.into_text().as_str())?;
-    Ok(text)
+fn name_back(given: &Given, out: &mut Answer) {
+    if let (Some(one), Some(other)) = (name(given, "one", out), name(given, "other", out)) {
+        add_sameness(&one, &other, out);
+        out.words(" ", one.into_text().as_str());
+    }
 }
 
-fn names_compared(file: &RowFile, with: &Value) -> Result<String, RowFault> {
-    let other = name(file, with, "other")?;
-    let order = name(file, with, "one")?.compare(&other);
-    Ok(format!(in file.alloc(); "{order:?}")?)
+fn names_compared(given: &Given, out: &mut Answer) {
+    if let (Some(one), Some(other)) = (name(given, "one", out), name(given, "other", out)) {
+        out.show(&one.compare(&other));
+    }
 }
 
-fn table(
-    file: &RowFile,
-    with: &Value,
-    member: &'static str,
-) -> Result<Option<TableName>, RowFault> {
-    match list_at(with, member)? {
-        [share, schema, table] => Ok(TableName::of(
-            string_of(file, share)?,
-            string_of(file, schema)?,
-            string_of(file, table)?,
-        )),
-        _ => Err(RowFault::Member(member)),
+fn table(given: &Given, member: &'static str, out: &mut Answer) -> Option<TableName> {
+    match given.list(member, out) {
+        [share, schema, table] => TableName::of(
+            given.text_of(share, out),
+            given.text_of(schema, out),
+            given.text_of(table, out),
+        ),
+        _ => {
+            out.lacks(member);
+            None
+        }
     }
 }
 
 // How two tables stand.
-fn tables_compared(file: &RowFile, with: &Value) -> Result<String, RowFault> {
-    let one = table(file, with, "one")?;
-    let other = table(file, with, "other")?;
-    match (&one, &other) {
-        (Some(one), Some(other)) => {
-            let order = one.compare(other);
-            Ok(format!(in file.alloc(); "{order:?}")?)
-        }
-        _ => told(file.alloc(), "no table"),
+fn tables_compared(given: &Given, out: &mut Answer) {
+    match (table(given, "one", out), table(given, "other", out)) {
+        (Some(one), Some(other)) => out.show(&one.compare(&other)),
+        _ => out.word("no table"),
     }
 }
 
-fn copied_text(alloc: Global, table: &TableName) -> Result<String, AllocError> {
-    let copy = table.copy(alloc)?;
-    let order = copy.compare(table);
-    let (share, schema, name) = (
-        copy.share.as_str(),
-        copy.schema.as_str(),
-        copy.table.as_str(),
-    );
-    format!(in alloc; "{share}/{schema}/{name} {order:?}")
-}
-
-fn table_text(alloc: Global, table: &Option<TableName>) -> Result<String, RowFault> {
-    match table {
-        Some(table) => Ok(copied_text(alloc, table)?),
-        None => told(alloc, "no table"),
+fn add_copied(table: &TableName, out: &mut Answer) {
+    if let Some(copy) = out.kept(table.copy(out.alloc())) {
+        out.word(copy.share.as_str());
+        out.words("/", copy.schema.as_str());
+        out.words("/", copy.table.as_str());
+        out.word(" ");
+        out.show(&copy.compare(table));
     }
 }
 
 // A table's name of a copy, and how the two stand.
-fn table_back(file: &RowFile, with: &Value) -> Result<String, RowFault> {
-    let table = table(file, with, "names")?;
-    table_text(file.alloc(), &table)
-}
-
-fn location_copied(alloc: Global, location: &Location) -> Result<String, AllocError> {
-    let copy = location.copy(alloc)?;
-    String::from_str(alloc, copy.as_str())
-}
-
-fn location_text(alloc: Global, location: &Option<Location>) -> Result<String, RowFault> {
-    match location {
-        Some(location) => Ok(location_copied(alloc, location)?),
-        None => told(alloc, "no location"),
+fn table_back(given: &Given, out: &mut Answer) {
+    match &table(given, "names", out) {
+        Some(table) => add_copied(table, out),
+        None => out.word("no table"),
     }
 }
 
-fn location(file: &RowFile, with: &Value) -> Result<String, RowFault> {
-    let Some(name) = Name::of(string_at(file, with, "name")?) else {
-        return Err(RowFault::Member("name"));
-    };
-    let location = Location::of(name);
-    location_text(file.alloc(), &location)
+fn add_location(location: &Location, out: &mut Answer) {
+    if let Some(copy) = out.kept(location.copy(out.alloc())) {
+        out.word(copy.as_str());
+    }
 }
 
-/// What a call answers, none where it isn't one of these.
-pub(crate) fn answer(file: &RowFile, call: &str, with: &Value) -> Answered {
-    let text = match call {
-        "is_name" => is_name(file, with)?,
-        "name_back" => name_back(file, with)?,
-        "names_compared" => names_compared(file, with)?,
-        "tables_compared" => tables_compared(file, with)?,
-        "table_back" => table_back(file, with)?,
-        "location" => location(file, with)?,
-        _ => return Ok(None),
+fn location(given: &Given, out: &mut Answer) {
+    let Some(name) = given.object_name("name", out) else {
+        return;
     };
-    Ok(Some(text.into_bytes()))
+    match &Location::of(name) {
+        Some(location) => add_location(location, out),
+        None => out.word("no location"),
+    }
+}
+
+/// Answers a call, where it is one of these.
+pub(crate) fn answer(call: &str, given: &Given, out: &mut Answer) -> bool {
+    match call {
+        "is_name" => {
+            let is_name = is_catalog_name_text(&given.text("text", out));
+            out.flag("", is_name);
+        }
+        "name_back" => name_back(given, out),
+        "names_compared" => names_compared(given, out),
+        "tables_compared" => tables_compared(given, out),
+        "table_back" => table_back(given, out),
+        "location" => location(given, out),
+        _ => return false,
+    }
+    true
 }

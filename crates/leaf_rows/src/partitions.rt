@@ -1,49 +1,52 @@
 // Values of partition columns, the types of columns by schemas, and predicates over them.
-use crate::given::{Answered, string_at};
-use crate::texts::{Answer, json_text_at, word_at};
+use crate::answer::Answer;
+use crate::given::Given;
 use json_tree::{Text, Texts};
 use log_actions::{Action, AddFile, action_of_line};
 use part_values::{Columns, PartType, columns_of, value_of};
 use pred_tree::{Pred, bind, pred_of};
-use row_files::{RowFault, RowFile, list_at, text_at};
+use row_files::RowFault;
 use serde_json::Value;
-use std::alloc::AllocError;
+use std::alloc::{AllocError, Global};
 
-fn kind_at(with: &Value) -> Result<PartType, RowFault> {
-    match word_at(with, "as")? {
-        "Bool" => Ok(PartType::Bool),
-        "Byte" => Ok(PartType::Byte),
-        "Short" => Ok(PartType::Short),
-        "Int" => Ok(PartType::Int),
-        "Long" => Ok(PartType::Long),
-        "Str" => Ok(PartType::Str),
-        "Date" => Ok(PartType::Date),
-        "Other" => Ok(PartType::Other),
-        _ => Err(RowFault::Member("as")),
+fn kind_of(word: &str) -> Option<PartType> {
+    match word {
+        "Bool" => Some(PartType::Bool),
+        "Byte" => Some(PartType::Byte),
+        "Short" => Some(PartType::Short),
+        "Int" => Some(PartType::Int),
+        "Long" => Some(PartType::Long),
+        "Str" => Some(PartType::Str),
+        "Date" => Some(PartType::Date),
+        "Other" => Some(PartType::Other),
+        _ => None,
     }
 }
 
 // What a text is as a value of a type; it may be lacking.
-fn value(with: &Value, out: &mut Answer) -> Result<(), RowFault> {
-    let kind = kind_at(with)?;
-    out.show(&value_of(with.get("text").and_then(Value::as_str), kind));
-    Ok(())
+fn value(given: &Given, out: &mut Answer) {
+    match kind_of(given.word("as", out)) {
+        Some(kind) => {
+            let text = given.with.get("text").and_then(Value::as_str);
+            out.show(&value_of(text, kind));
+        }
+        None => out.lacks("as"),
+    }
 }
 
-fn names_at(file: &RowFile, with: &Value) -> Result<Texts, RowFault> {
-    let mut names = Vec::new(file.alloc());
-    for name in list_at(with, "columns")? {
-        let name = String::from_str(file.alloc(), name.as_str().unwrap_or(""))?;
+fn names_of(alloc: Global, values: &[Value]) -> Result<Texts, AllocError> {
+    let mut names = Vec::new(alloc);
+    for name in values {
+        let name = String::from_str(alloc, name.as_str().unwrap_or(""))?;
         names.push(Text::of(name))?;
     }
     Ok(Texts::of(names))
 }
 
 // The columns of those names, typed by the schema.
-fn columns_at(file: &RowFile, with: &Value) -> Result<Columns, RowFault> {
-    let names = names_at(file, with)?;
-    let schema = json_text_at(file, with, "schema")?;
-    Ok(columns_of(file.alloc(), &schema, &names)?)
+fn columns_at(given: &Given, out: &mut Answer) -> Result<Columns, AllocError> {
+    let names = names_of(out.alloc(), given.list("columns", out))?;
+    columns_of(out.alloc(), &given.json_text("schema", out), &names)
 }
 
 // Adds the columns, and the types of those of other names that are asked for.
@@ -60,57 +63,53 @@ fn add_columns(out: &mut Answer, columns: &Columns, asked: &[Value]) {
     }
 }
 
-fn columns(file: &RowFile, with: &Value, out: &mut Answer) -> Result<(), RowFault> {
-    let asked = list_at(with, "asked")?;
-    add_columns(out, &columns_at(file, with)?, asked);
-    Ok(())
-}
-
-// What the predicate says of a file.
-fn add_truth(
-    out: &mut Answer,
-    pred: &Pred,
-    columns: &Columns,
-    file: &AddFile,
-) -> Result<(), AllocError> {
-    let truth = bind(out.alloc(), pred, columns)?.eval(file);
-    out.show(&truth);
-    out.flag(", listed ", truth.is_listed());
-    Ok(())
-}
-
-// What it says of the file that a line adds.
-fn weigh(
-    out: &mut Answer,
-    pred: &Option<Pred>,
-    columns: &Columns,
-    line: &[u8],
-) -> Result<(), RowFault> {
-    let Some(pred) = pred else {
-        out.word("not read");
-        return Ok(());
-    };
-    match &action_of_line(out.alloc(), line) {
-        Ok(Some(Action::Add(file))) => Ok(add_truth(out, pred, columns, file)?),
-        _ => Err(RowFault::Member("file")),
+fn columns(given: &Given, out: &mut Answer) {
+    let asked = given.list("asked", out);
+    match &columns_at(given, out) {
+        Ok(columns) => add_columns(out, columns, asked),
+        Err(_) => out.fail(RowFault::NoMemory),
     }
 }
 
-fn predicate(file: &RowFile, with: &Value, out: &mut Answer) -> Result<(), RowFault> {
-    let line = text_at(file, with, "file")?;
-    let text = string_at(file, with, "text")?;
-    let columns = columns_at(file, with)?;
-    weigh(out, &pred_of(file.alloc(), &text)?, &columns, &line)
+// What the predicate says of a file.
+fn add_truth(out: &mut Answer, pred: &Pred, columns: &Columns, file: &AddFile) {
+    match &bind(out.alloc(), pred, columns) {
+        Ok(bound) => {
+            let truth = bound.eval(file);
+            out.show(&truth);
+            out.flag(", listed ", truth.is_listed());
+        }
+        Err(_) => out.fail(RowFault::NoMemory),
+    }
 }
 
-/// The answer of a call of this module.
-pub(crate) fn answer(file: &RowFile, call: &str, with: &Value) -> Answered {
-    let mut out = Answer::new(file.alloc());
-    let done = match call {
-        "value" => value(with, &mut out),
-        "columns" => columns(file, with, &mut out),
-        "predicate" => predicate(file, with, &mut out),
-        _ => return Ok(None),
+// What it says of the file that a line adds.
+fn weigh(given: &Given, pred: &Pred, columns: &Columns, out: &mut Answer) {
+    match &action_of_line(out.alloc(), &given.bytes("file", out)) {
+        Ok(Some(Action::Add(file))) => add_truth(out, pred, columns, file),
+        _ => out.lacks("file"),
+    }
+}
+
+fn predicate(given: &Given, out: &mut Answer) {
+    let Ok(columns) = columns_at(given, out) else {
+        out.fail(RowFault::NoMemory);
+        return;
     };
-    out.after(done)
+    match &pred_of(out.alloc(), &given.text("text", out)) {
+        Ok(Some(pred)) => weigh(given, pred, &columns, out),
+        Ok(None) => out.word("not read"),
+        Err(_) => out.fail(RowFault::NoMemory),
+    }
+}
+
+/// Answers a call, where it is one of these.
+pub(crate) fn answer(call: &str, given: &Given, out: &mut Answer) -> bool {
+    match call {
+        "value" => value(given, out),
+        "columns" => columns(given, out),
+        "predicate" => predicate(given, out),
+        _ => return false,
+    }
+    true
 }

@@ -1,107 +1,95 @@
 // Parts of objects: what is asked for, what is sent, and how it is written.
-use crate::given::{Answered, count_at, told};
+use crate::answer::Answer;
+use crate::given::Given;
 use file_ranges::content_range::{range_read, range_text};
 use file_ranges::part::ByteRange;
 use file_ranges::pick::{Picked, pick};
 use file_ranges::span::{Span, span_of};
-use http_message::head::{Head, head_in};
-use row_files::{RowFault, RowFile, list_at, number_at, text_at};
+use http_message::head::head_in;
+use row_files::RowFault;
 use serde_json::Value;
-use std::alloc::{AllocError, Global};
-
-fn span_text(alloc: Global, head: &Option<Head>) -> Result<String, RowFault> {
-    match head {
-        Some(head) => {
-            let span = span_of(head);
-            Ok(format!(in alloc; "{span:?}")?)
-        }
-        None => told(alloc, "no head"),
-    }
-}
 
 // The span that the head of a request asks for.
-fn span(file: &RowFile, with: &Value) -> Result<String, RowFault> {
-    let text = text_at(file, with, "text")?;
-    let head = head_in(file.alloc(), &text)?;
-    span_text(file.alloc(), &head)
+fn span(given: &Given, out: &mut Answer) {
+    match &head_in(out.alloc(), &given.bytes("text", out)) {
+        Ok(Some(head)) => out.show(&span_of(head)),
+        Ok(None) => out.word("no head"),
+        Err(_) => out.fail(RowFault::NoMemory),
+    }
 }
 
 // A span: two places, or `{"from":PLACE}`, or `{"last":COUNT}`.
-fn span_in(value: &Value) -> Result<Span, RowFault> {
-    if let Some(place) = number_at(value, "from")? {
-        return Ok(Span::From(place));
+fn span_in(value: &Value) -> Option<Span> {
+    if let Some(place) = value.get("from") {
+        return Some(Span::From(place.as_u64()?));
     }
-    if let Some(count) = number_at(value, "last")? {
-        return Ok(Span::Last(count));
+    if let Some(count) = value.get("last") {
+        return Some(Span::Last(count.as_u64()?));
     }
-    let Value::Array(places) = value else {
-        return Err(RowFault::Member("spans"));
-    };
-    let [first, last] = places.as_slice() else {
-        return Err(RowFault::Member("spans"));
-    };
-    match (first.as_u64(), last.as_u64()) {
-        (Some(first), Some(last)) => Ok(Span::FromTo(first, last)),
-        _ => Err(RowFault::Member("spans")),
+    match value.as_array()?.as_slice() {
+        [first, last] => Some(Span::FromTo(first.as_u64()?, last.as_u64()?)),
+        _ => None,
     }
 }
 
 // `w` for the whole object, `x` for nothing of it, else the first and the last place.
-fn push_word(alloc: Global, words: &mut String, picked: Picked) -> Result<(), AllocError> {
-    if !words.is_empty() {
-        words.push(' ')?;
-    }
+fn add_pick(picked: Picked, out: &mut Answer) {
     match picked {
-        Picked::Whole => words.push_str("w"),
-        Picked::Out => words.push_str("x"),
+        Picked::Whole => out.word("w"),
+        Picked::Out => out.word("x"),
         Picked::Part(range) => {
-            let (first, last) = (range.first(), range.last());
-            let word = format!(in alloc; "{first}-{last}")?;
-            words.push_str(&word)
+            out.number("", range.first());
+            out.number("-", range.last());
         }
     }
 }
 
 // What is sent of an object for each span, and without one.
-fn picks(file: &RowFile, with: &Value) -> Result<String, RowFault> {
-    let size = count_at(with, "size")?;
-    let mut words = String::new(file.alloc());
-    for value in list_at(with, "spans")? {
-        let span = if value.is_null() {
-            None
-        } else {
-            Some(span_in(value)?)
-        };
-        push_word(file.alloc(), &mut words, pick(span, size))?;
+fn picks(given: &Given, out: &mut Answer) {
+    let size = given.number("size", out);
+    let mut before = "";
+    for value in given.list("spans", out) {
+        let span = span_in(value);
+        if span.is_none() && !value.is_null() {
+            out.lacks("spans");
+        }
+        out.word(before);
+        add_pick(pick(span, size), out);
+        before = " ";
     }
-    Ok(words)
 }
 
 // How a part is written, how many bytes it has, and whether it is read back.
-fn part(file: &RowFile, with: &Value) -> Result<String, RowFault> {
-    let (first, last) = (count_at(with, "first")?, count_at(with, "last")?);
-    let Some(range) = ByteRange::of(first, last, count_at(with, "size")?) else {
-        return told(file.alloc(), "no part");
-    };
-    let (written, len) = (range_text(file.alloc(), range)?, range.len());
-    let text = written.as_str();
-    let is_read = range_read(text.as_bytes()) == Some(range);
-    Ok(format!(in file.alloc(); "{text}, {len} bytes, read={is_read}")?)
+fn add_part(range: ByteRange, out: &mut Answer) {
+    match range_text(out.alloc(), range) {
+        Ok(text) => {
+            out.word(text.as_str());
+            out.number(", ", range.len());
+            out.flag(" bytes, read=", range_read(text.as_str().as_bytes()) == Some(range));
+        }
+        Err(_) => out.fail(RowFault::NoMemory),
+    }
 }
 
-fn part_read(file: &RowFile, with: &Value) -> Result<String, RowFault> {
-    let range = range_read(&text_at(file, with, "text")?);
-    Ok(format!(in file.alloc(); "{range:?}")?)
+fn part(given: &Given, out: &mut Answer) {
+    let (first, last) = (given.number("first", out), given.number("last", out));
+    match ByteRange::of(first, last, given.number("size", out)) {
+        Some(range) => add_part(range, out),
+        None => out.word("no part"),
+    }
 }
 
-/// What a call answers, none where it isn't one of these.
-pub(crate) fn answer(file: &RowFile, call: &str, with: &Value) -> Answered {
-    let text = match call {
-        "span" => span(file, with)?,
-        "picks" => picks(file, with)?,
-        "part" => part(file, with)?,
-        "part_read" => part_read(file, with)?,
-        _ => return Ok(None),
-    };
-    Ok(Some(text.into_bytes()))
+/// Answers a call, where it is one of these.
+pub(crate) fn answer(call: &str, given: &Given, out: &mut Answer) -> bool {
+    match call {
+        "span" => span(given, out),
+        "picks" => picks(given, out),
+        "part" => part(given, out),
+        "part_read" => {
+            let range = range_read(&given.bytes("text", out));
+            out.show(&range);
+        }
+        _ => return false,
+    }
+    true
 }

@@ -1,74 +1,63 @@
 // The tables of cases: a line for each.
-use crate::given::{Answered, string_at};
+use crate::answer::Answer;
+use crate::given::Given;
 use case_table::{Field, Refusal, Route, ValueType};
-use row_files::{RowFault, RowFile};
-use serde_json::Value;
-use std::alloc::{AllocError, Global};
 
 // Each refusal's number, word, status and message, and three dots where a detail comes behind it.
-fn refusals(alloc: Global) -> Result<String, AllocError> {
-    let mut lines = String::new(alloc);
+fn refusals(out: &mut Answer) {
     for refusal in &Refusal::ALL {
-        let (code, status) = (refusal.code(), refusal.status());
-        let (word, message) = (refusal.word(), refusal.message());
-        let detail = if refusal.has_detail() { "..." } else { "" };
-        let line = format!(in alloc; "{code} {word} {status} {message}{detail}\n")?;
-        lines.push_str(&line)?;
+        out.number("", u64::from(refusal.code()));
+        out.words(" ", refusal.word());
+        out.number(" ", u64::from(refusal.status()));
+        out.words(" ", refusal.message());
+        out.word(if refusal.has_detail() { "...\n" } else { "\n" });
     }
-    Ok(lines)
 }
 
-fn routes(alloc: Global) -> Result<String, AllocError> {
-    let mut lines = String::new(alloc);
+fn routes(out: &mut Answer) {
     for route in &Route::ALL {
-        let (code, word, method) = (route.code(), route.word(), route.method());
-        let line = format!(in alloc; "{code} {word} {method:?}\n")?;
-        lines.push_str(&line)?;
+        out.number("", u64::from(route.code()));
+        out.words(" ", route.word());
+        out.word(" ");
+        out.show(&route.method());
+        out.word("\n");
     }
-    Ok(lines)
 }
 
-fn value_types(alloc: Global) -> Result<String, AllocError> {
-    let mut lines = String::new(alloc);
+fn value_types(out: &mut Answer) {
     for kind in &ValueType::ALL {
-        let (word, class) = (kind.word(), kind.class());
-        let line = format!(in alloc; "{word} {class:?}\n")?;
-        lines.push_str(&line)?;
+        out.words(kind.word(), " ");
+        out.show(&kind.class());
+        out.word("\n");
     }
-    Ok(lines)
 }
 
 // Each field's number, action and name.
-fn fields(alloc: Global) -> Result<String, AllocError> {
-    let mut lines = String::new(alloc);
+fn fields(out: &mut Answer) {
     for field in &Field::ALL {
-        let (code, action, name) = (field.code(), field.kind().word(), field.name());
-        let line = format!(in alloc; "{code} {action} {name}\n")?;
-        lines.push_str(&line)?;
+        out.number("", u64::from(field.code()));
+        out.words(" ", field.kind().word());
+        out.words(" ", field.name());
+        out.word("\n");
     }
-    Ok(lines)
 }
 
-fn refusal(file: &RowFile, with: &Value) -> Result<String, RowFault> {
-    let found = Refusal::of_word(&string_at(file, with, "word")?);
-    Ok(format!(in file.alloc(); "{found:?}")?)
-}
-
-fn value_type(file: &RowFile, with: &Value) -> Result<String, RowFault> {
-    let found = ValueType::of_word(&string_at(file, with, "word")?);
-    Ok(format!(in file.alloc(); "{found:?}")?)
-}
-
-/// What a call answers, none where it isn't one of these.
-pub(crate) fn answer(file: &RowFile, call: &str, with: &Value) -> Answered {
-    let text = match call {
-        "refusals" => refusals(file.alloc())?,
-        "routes" => routes(file.alloc())?,
-        "value_types" => value_types(file.alloc())?,
-        "fields_of_actions" => fields(file.alloc())?,
-        "refusal" => refusal(file, with)?,
-        "value_type" => value_type(file, with)?,
-        _ => return Ok(None),
-    };
-    Ok(Some(text.into_bytes()))
+/// Answers a call, where it is one of these.
+pub(crate) fn answer(call: &str, given: &Given, out: &mut Answer) -> bool {
+    match call {
+        "refusals" => refusals(out),
+        "routes" => routes(out),
+        "value_types" => value_types(out),
+        "fields_of_actions" => fields(out),
+        "refusal" => {
+            let found = Refusal::of_word(given.word("word", out));
+            out.show(&found);
+        }
+        "value_type" => {
+            let found = ValueType::of_word(given.word("word", out));
+            out.show(&found);
+        }
+        _ => return false,
+    }
+    true
 }

@@ -1,206 +1,194 @@
 // Page tokens and links, spelt and read.
-use crate::given::{Answered, string_at, told};
+use crate::answer::Answer;
+use crate::given::Given;
 use hmac_core::HmacKey;
-use json_tree::{Edition, Millis, Place, Text, Version};
+use json_tree::{Millis, Place};
 use page_token::{
     Asked, Cursor, FeedCursor, FilesCursor, ListCursor, ListKind, TableAccess, cursor_of, spell,
 };
-use row_files::{RowFault, RowFile, text_at};
+use row_files::RowFault;
 use serde_json::Value;
 use share_catalog::{CatalogName, TableName};
 use signed_link::{LinkParts, link, parts_of};
-use std::alloc::{AllocError, Global};
+use std::alloc::AllocError;
 
-fn text(file: &RowFile, with: &Value, name: &'static str) -> Option<Text> {
-    Some(Text::of(string_at(file, with, name).ok()?))
+fn key(given: &Given, out: &mut Answer) -> HmacKey {
+    HmacKey::of(&given.bytes("key", out))
 }
 
-fn number(with: &Value, name: &str) -> Option<u64> {
-    with.get(name)?.as_u64()
-}
-
-fn edition(with: &Value, name: &str) -> Option<Edition> {
-    Edition::of(number(with, name)?)
-}
-
-fn version(with: &Value, name: &str) -> Option<Version> {
-    Version::of(number(with, name)?)
-}
-
-fn key_in(file: &RowFile, with: &Value) -> Result<HmacKey, RowFault> {
-    Ok(HmacKey::of(&text_at(file, with, "key")?))
-}
-
-fn access(file: &RowFile, with: &Value) -> Option<TableAccess> {
-    Some(TableAccess {
-        recipient: text(file, with, "recipient")?,
-        share: text(file, with, "share")?,
-        schema: text(file, with, "schema")?,
-        table: text(file, with, "table")?,
-        grant: edition(with, "grant")?,
-        binding: edition(with, "binding")?,
-    })
+fn access(given: &Given, out: &mut Answer) -> TableAccess {
+    TableAccess {
+        recipient: given.json_text("recipient", out),
+        share: given.json_text("share", out),
+        schema: given.json_text("schema", out),
+        table: given.json_text("table", out),
+        grant: given.edition("grant", out),
+        binding: given.edition("binding", out),
+    }
 }
 
 // What was asked for: a version, or a `{"moment":NUMBER}`, or the latest where it is lacking.
-fn asked(with: &Value, name: &str) -> Option<Asked> {
-    match with.get(name) {
-        None => Some(Asked::Latest),
-        Some(Value::Object(members)) => {
-            let moment = members.get("moment")?.as_i64()?;
-            Some(Asked::Moment(i128::from(moment)))
+fn asked(given: &Given, name: &'static str, out: &mut Answer) -> Asked {
+    match given.with.get(name) {
+        None => Asked::Latest,
+        Some(Value::Object(members)) => match members.get("moment").and_then(Value::as_i64) {
+            Some(moment) => Asked::Moment(i128::from(moment)),
+            None => {
+                out.lacks(name);
+                Asked::Latest
+            }
+        },
+        Some(_) => Asked::Version(given.version(name, out)),
+    }
+}
+
+fn place(given: &Given, out: &mut Answer) -> Place {
+    match Place::of(given.number("place", out)) {
+        Some(place) => place,
+        None => {
+            out.lacks("place");
+            Place::of_small(0)
         }
-        Some(_) => Some(Asked::Version(version(with, name)?)),
     }
 }
 
-fn place(with: &Value) -> Option<Place> {
-    Place::of(number(with, "place")?)
+fn files(given: &Given, out: &mut Answer) -> Cursor {
+    let hint = if given.has("hint") {
+        Some(given.json_text("hint", out))
+    } else {
+        None
+    };
+    Cursor::Files(FilesCursor {
+        access: access(given, out),
+        asked: asked(given, "asked", out),
+        version: given.version("version", out),
+        hint,
+        place: place(given, out),
+    })
 }
 
-fn files(file: &RowFile, with: &Value) -> Option<Cursor> {
-    Some(Cursor::Files(FilesCursor {
-        access: access(file, with)?,
-        asked: asked(with, "asked")?,
-        version: version(with, "version")?,
-        hint: text(file, with, "hint"),
-        place: place(with)?,
-    }))
+fn feed(given: &Given, out: &mut Answer) -> Cursor {
+    Cursor::Feed(FeedCursor {
+        access: access(given, out),
+        asked_from: asked(given, "asked_from", out),
+        asked_to: asked(given, "asked_to", out),
+        from: given.version("from", out),
+        to: given.version("to", out),
+        place: place(given, out),
+    })
 }
 
-fn feed(file: &RowFile, with: &Value) -> Option<Cursor> {
-    Some(Cursor::Feed(FeedCursor {
-        access: access(file, with)?,
-        asked_from: asked(with, "asked_from")?,
-        asked_to: asked(with, "asked_to")?,
-        from: version(with, "from")?,
-        to: version(with, "to")?,
-        place: place(with)?,
-    }))
-}
-
-fn all_tables(file: &RowFile, with: &Value) -> Option<Cursor> {
-    Some(Cursor::List(ListCursor {
+fn all_tables(given: &Given, out: &mut Answer) -> Cursor {
+    Cursor::List(ListCursor {
         kind: ListKind::AllTables,
-        recipient: text(file, with, "recipient")?,
-        share: text(file, with, "share")?,
-        schema: text(file, with, "schema")?,
-        after: text(file, with, "after")?,
-    }))
+        recipient: given.json_text("recipient", out),
+        share: given.json_text("share", out),
+        schema: given.json_text("schema", out),
+        after: given.json_text("after", out),
+    })
 }
 
-fn cursor(file: &RowFile, with: &Value) -> Option<Cursor> {
-    match with.get("of")?.as_str()? {
-        "files" => files(file, with),
-        "changes" => feed(file, with),
-        "all tables" => all_tables(file, with),
-        _ => None,
+fn spelt(key: &HmacKey, cursor: &Cursor, out: &mut Answer) {
+    if let Some(token) = out.kept(spell(out.alloc(), key, cursor)) {
+        out.word(token.as_str());
     }
 }
 
-fn spelt_or_none(
-    alloc: Global,
-    key: &HmacKey,
-    cursor: &Option<Cursor>,
-) -> Result<String, RowFault> {
-    match cursor {
-        Some(cursor) => Ok(String::from_str(alloc, spell(alloc, key, cursor)?.as_str())?),
-        None => told(alloc, "no token"),
+fn token(given: &Given, out: &mut Answer) {
+    let key = key(given, out);
+    match given.word("of", out) {
+        "files" => spelt(&key, &files(given, out), out),
+        "changes" => spelt(&key, &feed(given, out), out),
+        "all tables" => spelt(&key, &all_tables(given, out), out),
+        _ => out.lacks("of"),
     }
-}
-
-fn token(file: &RowFile, with: &Value) -> Result<String, RowFault> {
-    let key = key_in(file, with)?;
-    let cursor = cursor(file, with);
-    spelt_or_none(file.alloc(), &key, &cursor)
 }
 
 // What a token stands for, spelt again.
-fn token_read(file: &RowFile, with: &Value) -> Result<String, RowFault> {
-    let key = key_in(file, with)?;
-    let token = string_at(file, with, "token")?;
-    let cursor = cursor_of(file.alloc(), &key, &token)?;
-    spelt_or_none(file.alloc(), &key, &cursor)
-}
-
-fn name(file: &RowFile, with: &Value, member: &'static str) -> Option<CatalogName> {
-    CatalogName::of(string_at(file, with, member).ok()?)
-}
-
-fn table(file: &RowFile, with: &Value) -> Option<TableName> {
-    Some(TableName {
-        share: name(file, with, "share")?,
-        schema: name(file, with, "schema")?,
-        table: name(file, with, "table")?,
-    })
-}
-
-fn parts(file: &RowFile, with: &Value) -> Option<LinkParts> {
-    Some(LinkParts {
-        table: table(file, with)?,
-        path: text(file, with, "path")?,
-        binding: edition(with, "binding")?,
-        expires: Millis::of(number(with, "expires")?)?,
-        grant: edition(with, "grant")?,
-        recipient: name(file, with, "recipient")?,
-    })
-}
-
-fn link_or_none(
-    alloc: Global,
-    key: &HmacKey,
-    endpoint: &str,
-    parts: &Option<LinkParts>,
-) -> Result<String, RowFault> {
-    match parts {
-        Some(parts) => {
-            let text = link(alloc, key, endpoint, &parts.lent())?;
-            told(alloc, text.as_str())
-        }
-        None => told(alloc, "no link"),
+fn token_read(given: &Given, out: &mut Answer) {
+    let key = key(given, out);
+    let token = given.text("token", out);
+    match &cursor_of(out.alloc(), &key, &token) {
+        Ok(Some(cursor)) => spelt(&key, cursor, out),
+        Ok(None) => out.word("no token"),
+        Err(_) => out.fail(RowFault::NoMemory),
     }
 }
 
-fn linked(file: &RowFile, with: &Value) -> Result<String, RowFault> {
-    let key = key_in(file, with)?;
-    let endpoint = string_at(file, with, "endpoint")?;
-    let parts = parts(file, with);
-    link_or_none(file.alloc(), &key, &endpoint, &parts)
+fn name(given: &Given, member: &'static str, out: &mut Answer) -> Option<CatalogName> {
+    let name = CatalogName::of(given.text(member, out));
+    if name.is_none() {
+        out.lacks(member);
+    }
+    name
 }
 
-fn parts_text(alloc: Global, parts: &LinkParts) -> Result<String, AllocError> {
-    let (share, schema) = (parts.table.share.as_str(), parts.table.schema.as_str());
-    let (table, path) = (parts.table.table.as_str(), parts.path.as_str());
-    let (binding, grant) = (parts.binding.get(), parts.grant.get());
-    let (expires, recipient) = (parts.expires.get(), parts.recipient.as_str());
-    format!(in alloc;
-        "{share}/{schema}/{table} binding={binding} expires={expires} grant={grant} recipient={recipient} path={path}"
-    )
+fn table(given: &Given, out: &mut Answer) -> Option<TableName> {
+    Some(TableName {
+        share: name(given, "share", out)?,
+        schema: name(given, "schema", out)?,
+        table: name(given, "table", out)?,
+    })
 }
 
-fn parts_or_none(alloc: Global, parts: &Option<LinkParts>) -> Result<String, RowFault> {
+fn parts(given: &Given, out: &mut Answer) -> Option<LinkParts> {
+    let expires = Millis::of(given.number("expires", out))?;
+    Some(LinkParts {
+        table: table(given, out)?,
+        recipient: name(given, "recipient", out)?,
+        path: given.json_text("path", out),
+        binding: given.edition("binding", out),
+        expires,
+        grant: given.edition("grant", out),
+    })
+}
+
+fn linked(given: &Given, out: &mut Answer) {
+    let key = key(given, out);
+    let endpoint = given.text("endpoint", out);
+    match &parts(given, out) {
+        Some(parts) => match link(out.alloc(), &key, &endpoint, &parts.lent()) {
+            Ok(text) => out.word(text.as_str()),
+            Err(_) => out.fail(RowFault::NoMemory),
+        },
+        None => out.lacks("expires"),
+    }
+}
+
+fn add_parts(parts: &LinkParts, out: &mut Answer) {
+    out.word(parts.table.share.as_str());
+    out.words("/", parts.table.schema.as_str());
+    out.words("/", parts.table.table.as_str());
+    out.number(" binding=", parts.binding.get());
+    out.number(" expires=", parts.expires.get());
+    out.number(" grant=", parts.grant.get());
+    out.words(" recipient=", parts.recipient.as_str());
+    out.words(" path=", parts.path.as_str());
+}
+
+fn add_link(parts: &Result<Option<LinkParts>, AllocError>, out: &mut Answer) {
     match parts {
-        Some(parts) => Ok(parts_text(alloc, parts)?),
-        None => told(alloc, "no link"),
+        Ok(Some(parts)) => add_parts(parts, out),
+        Ok(None) => out.word("no link"),
+        Err(_) => out.fail(RowFault::NoMemory),
     }
 }
 
 // What a link leads to.
-fn link_read(file: &RowFile, with: &Value) -> Result<String, RowFault> {
-    let key = key_in(file, with)?;
-    let target = string_at(file, with, "target")?;
-    let parts = parts_of(file.alloc(), &key, &target)?;
-    parts_or_none(file.alloc(), &parts)
+fn link_read(given: &Given, out: &mut Answer) {
+    let key = key(given, out);
+    let target = given.text("target", out);
+    add_link(&parts_of(out.alloc(), &key, &target), out);
 }
 
-/// What a call answers, none where it isn't one of these.
-pub(crate) fn answer(file: &RowFile, call: &str, with: &Value) -> Answered {
-    let text = match call {
-        "token" => token(file, with)?,
-        "token_read" => token_read(file, with)?,
-        "link" => linked(file, with)?,
-        "link_read" => link_read(file, with)?,
-        _ => return Ok(None),
-    };
-    Ok(Some(text.into_bytes()))
+/// Answers a call, where it is one of these.
+pub(crate) fn answer(call: &str, given: &Given, out: &mut Answer) -> bool {
+    match call {
+        "token" => token(given, out),
+        "token_read" => token_read(given, out),
+        "link" => linked(given, out),
+        "link_read" => link_read(given, out),
+        _ => return false,
+    }
+    true
 }

@@ -1,6 +1,6 @@
 // JSON that is read as values, the fields of objects by their kinds, and objects that are printed field by field.
-use crate::given::Answered;
-use crate::texts::{Answer, word_at};
+use crate::answer::Answer;
+use crate::given::Given;
 use json_print::lines::cut;
 use json_print::{
     Length, Tokens, begin_object, count_field, end_object, flag_field, new_writer,
@@ -12,35 +12,27 @@ use json_tree::{
     FieldFault, Pair, Pairs, Text, Texts, flag_at, member_at, pairs_at, text_at, texts_at, tree_of,
     whole_at,
 };
-use row_files::{RowFault, RowFile, list_at};
+use row_files::RowFault;
 use serde_json::Value;
 use std::alloc::{AllocError, Global};
 
-// The value that the text of that member spells.
-fn tree_at(file: &RowFile, with: &Value, member: &'static str) -> Result<Value, RowFault> {
-    match tree_of(file.alloc(), &row_files::text_at(file, with, member)?) {
-        Ok(tree) => Ok(tree),
-        Err(_) => Err(RowFault::Member(member)),
-    }
-}
-
-fn tree(file: &RowFile, with: &Value, out: &mut Answer) -> Result<(), RowFault> {
-    let bytes = row_files::text_at(file, with, "text")?;
-    match tree_of(file.alloc(), &bytes) {
+fn tree(given: &Given, out: &mut Answer) {
+    match &tree_of(out.alloc(), &given.bytes("text", out)) {
         Ok(_) => out.word("read"),
-        Err(fault) => out.show(&fault),
+        Err(fault) => out.show(fault),
     }
-    Ok(())
 }
 
 // A copy of the text is told, and so of the others.
-fn add_text(out: &mut Answer, text: &Result<Option<Text>, FieldFault>) -> Result<(), AllocError> {
+fn add_text(out: &mut Answer, text: &Result<Option<Text>, FieldFault>) {
     match text {
-        Ok(Some(text)) => out.word(text.copy(out.alloc())?.as_str()),
+        Ok(Some(text)) => match &text.copy(out.alloc()) {
+            Ok(copy) => out.word(copy.as_str()),
+            Err(_) => out.fail(RowFault::NoMemory),
+        },
         Ok(None) => out.word("none"),
         Err(fault) => out.show(fault),
     }
-    Ok(())
 }
 
 fn add_list(out: &mut Answer, texts: &Texts) {
@@ -50,16 +42,15 @@ fn add_list(out: &mut Answer, texts: &Texts) {
     }
 }
 
-fn add_texts(
-    out: &mut Answer,
-    texts: &Result<Option<Texts>, FieldFault>,
-) -> Result<(), AllocError> {
+fn add_texts(out: &mut Answer, texts: &Result<Option<Texts>, FieldFault>) {
     match texts {
-        Ok(Some(texts)) => add_list(out, &texts.copy(out.alloc())?),
+        Ok(Some(texts)) => match &texts.copy(out.alloc()) {
+            Ok(copy) => add_list(out, copy),
+            Err(_) => out.fail(RowFault::NoMemory),
+        },
         Ok(None) => out.word("none"),
         Err(fault) => out.show(fault),
     }
-    Ok(())
 }
 
 fn add_members(out: &mut Answer, pairs: &Pairs) {
@@ -76,39 +67,40 @@ fn add_members(out: &mut Answer, pairs: &Pairs) {
     }
 }
 
-fn add_pairs(
-    out: &mut Answer,
-    pairs: &Result<Option<Pairs>, FieldFault>,
-) -> Result<(), AllocError> {
+fn add_pairs(out: &mut Answer, pairs: &Result<Option<Pairs>, FieldFault>) {
     match pairs {
-        Ok(Some(pairs)) => add_members(out, &pairs.copy(out.alloc())?),
+        Ok(Some(pairs)) => match &pairs.copy(out.alloc()) {
+            Ok(copy) => add_members(out, copy),
+            Err(_) => out.fail(RowFault::NoMemory),
+        },
         Ok(None) => out.word("none"),
         Err(fault) => out.show(fault),
     }
-    Ok(())
 }
 
 // Adds what the field of that name is, read as one of a kind.
-fn add_field(out: &mut Answer, object: &Value, kind: &str, name: &str) -> Result<(), AllocError> {
+fn add_field(out: &mut Answer, object: &Value, kind: &str, name: &str) {
     match kind {
         "whole" => out.show(&whole_at(object, name)),
         "flag" => out.show(&flag_at(object, name)),
-        "text" => add_text(out, &text_at(out.alloc(), object, name))?,
-        "texts" => add_texts(out, &texts_at(out.alloc(), object, name))?,
-        "pairs" => add_pairs(out, &pairs_at(out.alloc(), object, name))?,
+        "text" => add_text(out, &text_at(out.alloc(), object, name)),
+        "texts" => add_texts(out, &texts_at(out.alloc(), object, name)),
+        "pairs" => add_pairs(out, &pairs_at(out.alloc(), object, name)),
         _ => out.flag("", member_at(object, name).is_some()),
     }
-    Ok(())
 }
 
-fn field(file: &RowFile, with: &Value, out: &mut Answer) -> Result<(), RowFault> {
-    let kind = word_at(with, "as")?;
-    let name = word_at(with, "field")?;
-    Ok(add_field(out, &tree_at(file, with, "object")?, kind, name)?)
+fn field(given: &Given, out: &mut Answer) {
+    let kind = given.word("as", out);
+    let name = given.word("field", out);
+    match &tree_of(out.alloc(), &given.bytes("object", out)) {
+        Ok(object) => add_field(out, object, kind, name),
+        Err(_) => out.lacks("object"),
+    }
 }
 
 // Names as pairs, each with a text: none where they don't rise.
-fn pairs_of_names(alloc: Global, names: &[Value]) -> Result<Option<Pairs>, RowFault> {
+fn pairs_of_names(alloc: Global, names: &[Value]) -> Result<Option<Pairs>, AllocError> {
     let mut items = Vec::new(alloc);
     for name in names {
         let name = Text::of(String::from_str(alloc, name.as_str().unwrap_or(""))?);
@@ -118,12 +110,12 @@ fn pairs_of_names(alloc: Global, names: &[Value]) -> Result<Option<Pairs>, RowFa
     Ok(Pairs::of(items))
 }
 
-fn pairs(file: &RowFile, with: &Value, out: &mut Answer) -> Result<(), RowFault> {
-    match &pairs_of_names(file.alloc(), list_at(with, "names")?)? {
-        Some(pairs) => out.number("", pairs.items().len() as u64),
-        None => out.word("none"),
+fn pairs(given: &Given, out: &mut Answer) {
+    match &pairs_of_names(out.alloc(), given.list("names", out)) {
+        Ok(Some(pairs)) => out.number("", pairs.items().len() as u64),
+        Ok(None) => out.word("none"),
+        Err(_) => out.fail(RowFault::NoMemory),
     }
-    Ok(())
 }
 
 // The fields of an object that is to be printed.
@@ -203,10 +195,10 @@ fn add_optional(out: &mut Answer, some: &Pairs, of: &Fields) -> Result<(), Alloc
     Ok(())
 }
 
-fn fields_at(file: &RowFile, with: &Value) -> Result<Fields, RowFault> {
-    match fields_of(file.alloc(), &tree_at(file, with, "object")?) {
-        Ok(fields) => Ok(fields),
-        Err(_) => Err(RowFault::Member("object")),
+fn fields_at(alloc: Global, text: &[u8]) -> Option<Fields> {
+    match &tree_of(alloc, text) {
+        Ok(object) => fields_of(alloc, object).ok(),
+        Err(_) => None,
     }
 }
 
@@ -220,22 +212,34 @@ fn add_fields(out: &mut Answer, fields: &Fields, all: bool) -> Result<(), AllocE
     }
 }
 
-fn object(file: &RowFile, with: &Value, out: &mut Answer) -> Result<(), RowFault> {
-    let all = word_at(with, "fields")? == "all";
-    Ok(add_fields(out, &fields_at(file, with)?, all)?)
+fn object(given: &Given, out: &mut Answer) {
+    let all = given.word("fields", out) == "all";
+    match &fields_at(out.alloc(), &given.bytes("object", out)) {
+        Some(fields) => {
+            let done = add_fields(out, fields, all);
+            out.stored(done);
+        }
+        None => out.lacks("object"),
+    }
 }
 
-fn empty_object(out: &mut Answer) -> Result<(), RowFault> {
-    let mut line = new_writer(out.alloc(), 2)?;
+fn empty_text(alloc: Global) -> Result<String, AllocError> {
+    let mut line = new_writer(alloc, 2)?;
     begin_object(&mut line)?;
     end_object(&mut line)?;
-    out.word(printed(line).as_str());
-    Ok(())
+    Ok(printed(line))
+}
+
+fn empty_object(out: &mut Answer) {
+    match &empty_text(out.alloc()) {
+        Ok(text) => out.word(text.as_str()),
+        Err(_) => out.fail(RowFault::NoMemory),
+    }
 }
 
 // The first line of a text, and what follows it.
-fn cut_line(file: &RowFile, with: &Value, out: &mut Answer) -> Result<(), RowFault> {
-    let text = row_files::text_at(file, with, "text")?;
+fn cut_line(given: &Given, out: &mut Answer) {
+    let text = given.bytes("text", out);
     let (line, rest) = cut(&text);
     out.bytes(line);
     match rest {
@@ -245,20 +249,18 @@ fn cut_line(file: &RowFile, with: &Value, out: &mut Answer) -> Result<(), RowFau
         }
         None => out.word("\nno more"),
     }
-    Ok(())
 }
 
-/// The answer of a call of this module.
-pub(crate) fn answer(file: &RowFile, call: &str, with: &Value) -> Answered {
-    let mut out = Answer::new(file.alloc());
-    let done = match call {
-        "tree" => tree(file, with, &mut out),
-        "field" => field(file, with, &mut out),
-        "pairs" => pairs(file, with, &mut out),
-        "print" => object(file, with, &mut out),
-        "empty object" => empty_object(&mut out),
-        "cut" => cut_line(file, with, &mut out),
-        _ => return Ok(None),
-    };
-    out.after(done)
+/// Answers a call, where it is one of these.
+pub(crate) fn answer(call: &str, given: &Given, out: &mut Answer) -> bool {
+    match call {
+        "tree" => tree(given, out),
+        "field" => field(given, out),
+        "pairs" => pairs(given, out),
+        "print" => object(given, out),
+        "empty object" => empty_object(out),
+        "cut" => cut_line(given, out),
+        _ => return false,
+    }
+    true
 }

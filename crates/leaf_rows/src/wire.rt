@@ -1,39 +1,17 @@
 // Messages of connections that are read from a source in pieces.
-use crate::given::Answered;
+use crate::answer::Answer;
+use crate::given::Given;
 use crate::messages::flaw_word;
 use edge_core::MemSource;
-use http_wire::{FinalHead, Head, Message, Reply, Responses, Wire};
-use row_files::{RowFault, RowFile, flag_at, number_at, source_of, text_at};
-use serde_json::Value;
+use http_wire::{FinalHead, Message, Reply, Responses, Wire};
+use row_files::{RowFault, source_of};
 use std::alloc::{AllocError, Global};
 
 // What a session ends with where a read failed.
 const FAULT: &[u8] = b"a read failed\nclosed";
 
-fn push_body(lines: &mut Vec<u8>, body: &[u8]) -> Result<(), AllocError> {
-    lines.extend_from_slice(body)?;
-    lines.extend_from_slice(b"\n")
-}
-
-// Appends a request's place, version, target and body, and whether it is the last one of its connection.
-fn push_request(
-    alloc: Global,
-    lines: &mut Vec<u8>,
-    at: u64,
-    head: &Head,
-    closes: bool,
-) -> Result<(), AllocError> {
-    let (method, target, minor) = (head.method.as_str(), head.target.as_str(), head.minor);
-    let line = format!(in alloc; "at {at}: {method} {target} 1.{minor} closes={closes} body=")?;
-    lines.extend_from_slice(line.as_bytes())
-}
-
-fn push_line(lines: &mut Vec<u8>, line: Result<String, AllocError>) -> Result<(), AllocError> {
-    lines.extend_from_slice(line?.as_bytes())
-}
-
-// Appends what a message is.
-fn push_message(alloc: Global, lines: &mut Vec<u8>, message: &Message) -> Result<(), AllocError> {
+// Adds what a message is.
+fn add_message(message: &Message, out: &mut Answer) {
     match message {
         Message::Request {
             at,
@@ -41,74 +19,103 @@ fn push_message(alloc: Global, lines: &mut Vec<u8>, message: &Message) -> Result
             body,
             closes,
         } => {
-            push_request(alloc, lines, *at, head, *closes)?;
-            push_body(lines, body)
+            out.number("at ", *at);
+            out.words(": ", head.method.as_str());
+            out.words(" ", head.target.as_str());
+            out.number(" 1.", u64::from(head.minor));
+            out.flag(" closes=", *closes);
+            out.word(" body=");
+            out.bytes(body);
         }
-        Message::End => lines.extend_from_slice(b"the end\n"),
-        Message::Truncated { at } => push_line(lines, format!(in alloc; "at {at}: truncated\n")),
+        Message::End => out.word("the end"),
+        Message::Truncated { at } => {
+            out.number("at ", *at);
+            out.word(": truncated");
+        }
         Message::Bad { at, flaw } => {
-            let word = flaw_word(*flaw);
-            push_line(lines, format!(in alloc; "at {at}: {word}\n"))
+            out.number("at ", *at);
+            out.words(": ", flaw_word(*flaw));
         }
-        Message::ReadFault => lines.extend_from_slice(b"a read failed\n"),
+        Message::ReadFault => out.word("a read failed"),
     }
+    out.word("\n");
 }
 
-// Appends what the next message is, where the connection is open.
-fn push_next(
-    alloc: Global,
-    lines: &mut Vec<u8>,
-    wire: &mut Wire,
-    source: &mut MemSource,
-) -> Result<(), AllocError> {
+// Adds what the next message is, where the connection is open.
+fn add_next(wire: &mut Wire, source: &mut MemSource, out: &mut Answer) {
     if !wire.is_open() {
-        return Ok(());
+        return;
     }
-    let message = wire.next(alloc, source)?;
-    push_message(alloc, lines, &message)
+    match &wire.next(out.alloc(), source) {
+        Ok(message) => add_message(message, out),
+        Err(_) => out.fail(RowFault::NoMemory),
+    }
 }
 
 // What the first messages of a connection are, and whether it is open then.
-fn session(alloc: Global, source: &mut MemSource, most: u64) -> Result<Vec<u8>, AllocError> {
-    let mut wire = Wire::new(alloc);
-    let mut lines = Vec::new(alloc);
+fn add_session(source: &mut MemSource, most: u64, out: &mut Answer) {
+    let mut wire = Wire::new(out.alloc());
     for _ in 0..most {
-        push_next(alloc, &mut lines, &mut wire, source)?;
+        add_next(&mut wire, source, out);
     }
-    let end = if wire.is_open() { "open" } else { "closed" };
-    lines.extend_from_slice(end.as_bytes())?;
-    Ok(lines)
+    out.word(if wire.is_open() { "open" } else { "closed" });
 }
 
-fn most_at(with: &Value) -> Result<u64, RowFault> {
-    Ok(number_at(with, "messages")?.unwrap_or(1))
+fn most_at(given: &Given, out: &mut Answer) -> u64 {
+    if given.has("messages") {
+        given.number("messages", out)
+    } else {
+        1
+    }
 }
 
-fn requests(file: &RowFile, with: &Value) -> Result<Vec<u8>, RowFault> {
-    let mut source = source_of(file, with, text_at(file, with, "in")?)?;
-    Ok(session(file.alloc(), &mut source, most_at(with)?)?)
+// The source of the bytes `in`.
+fn source_in(given: &Given, out: &mut Answer) -> Option<MemSource> {
+    let bytes = given.bytes("in", out);
+    match source_of(given.file, given.with, bytes) {
+        Ok(source) => Some(source),
+        Err(fault) => {
+            out.fail(fault);
+            None
+        }
+    }
 }
 
-// The session of a text whose first piece has so many bytes.
-fn cut_session(alloc: Global, text: &[u8], cut: usize, most: u64) -> Result<Vec<u8>, AllocError> {
+fn requests(given: &Given, out: &mut Answer) {
+    let most = most_at(given, out);
+    if let Some(mut source) = source_in(given, out) {
+        add_session(&mut source, most, out);
+    }
+}
+
+fn source_of_text(alloc: Global, text: &[u8]) -> Result<MemSource, AllocError> {
+    Ok(MemSource::new(alloc, Vec::from_slice(alloc, text)?))
+}
+
+// A source of a text whose first piece has so many bytes.
+fn cut_source(alloc: Global, text: &[u8], cut: usize) -> Result<MemSource, AllocError> {
     let sizes = Vec::from_slice(alloc, &[cut])?;
-    let mut source = MemSource::new(alloc, Vec::from_slice(alloc, text)?).with_sizes(sizes);
-    session(alloc, &mut source, most)
+    Ok(source_of_text(alloc, text)?.with_sizes(sizes))
 }
 
-// The session of a text in single bytes where the read behind so many fails.
-fn failed_session(
-    alloc: Global,
-    text: &[u8],
-    cut: usize,
-    most: u64,
-) -> Result<Vec<u8>, AllocError> {
+// A source of a text in single bytes where the read behind so many fails.
+fn failing_source(alloc: Global, text: &[u8], cut: usize) -> Result<MemSource, AllocError> {
     let sizes = vec![in alloc; 1usize; text.len()]?;
     let fails = Vec::from_slice(alloc, &[cut as u64])?;
-    let mut source = MemSource::new(alloc, Vec::from_slice(alloc, text)?)
-        .with_sizes(sizes)
-        .with_fails(fails);
-    session(alloc, &mut source, most)
+    Ok(
+        source_of_text(alloc, text)?
+            .with_sizes(sizes)
+            .with_fails(fails),
+    )
+}
+
+// What the session of such a source is.
+fn session(alloc: Global, source: Result<MemSource, AllocError>, most: u64) -> Vec<u8> {
+    let mut out = Answer::new(alloc);
+    if let Some(mut source) = out.kept(source) {
+        add_session(&mut source, most, &mut out);
+    }
+    out.end().unwrap_or(Vec::new(alloc))
 }
 
 // Whether the session is the front of the other one, up to the fault.
@@ -119,25 +126,25 @@ fn is_up_to_fault(came: &[u8], whole: &[u8]) -> bool {
     }
 }
 
-// The session of a text, which is the same wherever it is cut, and up to a read that fails; else the first that is another one.
-fn requests_cut(file: &RowFile, with: &Value) -> Result<Vec<u8>, RowFault> {
-    let (alloc, most) = (file.alloc(), most_at(with)?);
-    let text = text_at(file, with, "in")?;
-    let whole = cut_session(alloc, &text, text.len(), most)?;
+// The session of a text, which is the same wherever it is cut, and up to a read that fails; else all that are other ones.
+fn requests_cut(given: &Given, out: &mut Answer) {
+    let (alloc, most) = (out.alloc(), most_at(given, out));
+    let text = given.bytes("in", out);
+    let whole = session(alloc, cut_source(alloc, &text, text.len()), most);
+    out.bytes(&whole);
     for cut in 1..text.len() {
-        let came = cut_session(alloc, &text, cut, most)?;
+        let came = session(alloc, cut_source(alloc, &text, cut), most);
         if came != whole {
-            return Ok(came);
+            out.bytes(&came);
         }
-        let failed = failed_session(alloc, &text, cut, most)?;
+        let failed = session(alloc, failing_source(alloc, &text, cut), most);
         if !is_up_to_fault(&failed, &whole) {
-            return Ok(failed);
+            out.bytes(&failed);
         }
     }
-    Ok(whole)
 }
 
-fn push_reply(alloc: Global, lines: &mut Vec<u8>, reply: &Reply) -> Result<(), AllocError> {
+fn add_reply(reply: &Reply, out: &mut Answer) {
     match reply {
         Reply::Response {
             at,
@@ -145,67 +152,74 @@ fn push_reply(alloc: Global, lines: &mut Vec<u8>, reply: &Reply) -> Result<(), A
             body,
             ..
         } => {
-            push_line(lines, format!(in alloc; "at {at}: {status} body="))?;
-            push_body(lines, body)
+            out.number("at ", *at);
+            out.number(": ", u64::from(*status));
+            out.word(" body=");
+            out.bytes(body);
         }
-        Reply::Bad { at } => push_line(lines, format!(in alloc; "at {at}: bad\n")),
-        Reply::Truncated { at } => push_line(lines, format!(in alloc; "at {at}: truncated\n")),
-        Reply::ReadFault => lines.extend_from_slice(b"a read failed\n"),
+        Reply::Bad { at } => {
+            out.number("at ", *at);
+            out.word(": bad");
+        }
+        Reply::Truncated { at } => {
+            out.number("at ", *at);
+            out.word(": truncated");
+        }
+        Reply::ReadFault => out.word("a read failed"),
     }
-}
-
-fn reply_in(
-    alloc: Global,
-    source: &mut MemSource,
-    to_head: bool,
-    lines: &mut Vec<u8>,
-) -> Result<(), AllocError> {
-    let mut responses = Responses::new(alloc);
-    let reply = responses.next(alloc, source, to_head)?;
-    push_reply(alloc, lines, &reply)
+    out.word("\n");
 }
 
 // What the first response is.
-fn response(file: &RowFile, with: &Value) -> Result<Vec<u8>, RowFault> {
-    let mut source = source_of(file, with, text_at(file, with, "in")?)?;
-    let mut lines = Vec::new(file.alloc());
-    reply_in(
-        file.alloc(),
-        &mut source,
-        flag_at(with, "to_head")?,
-        &mut lines,
-    )?;
-    Ok(lines)
-}
-
-fn head_text(alloc: Global, head: &FinalHead) -> Result<String, AllocError> {
-    match head {
-        FinalHead::Head { at, head } => {
-            let status = head.status;
-            format!(in alloc; "at {at}: {status}\n")
-        }
-        FinalHead::Bad { at } => format!(in alloc; "at {at}: bad\n"),
-        FinalHead::Truncated { at } => format!(in alloc; "at {at}: truncated\n"),
-        FinalHead::ReadFault => String::from_str(alloc, "a read failed\n"),
+fn response(given: &Given, out: &mut Answer) {
+    let to_head = given.flag("to_head", out);
+    let Some(mut source) = source_in(given, out) else {
+        return;
+    };
+    match &Responses::new(out.alloc()).next(out.alloc(), &mut source, to_head) {
+        Ok(reply) => add_reply(reply, out),
+        Err(_) => out.fail(RowFault::NoMemory),
     }
 }
 
-// What the head of the first response is, where its body isn't read.
-fn response_alone(file: &RowFile, with: &Value) -> Result<Vec<u8>, RowFault> {
-    let mut source = source_of(file, with, text_at(file, with, "in")?)?;
-    let mut responses = Responses::new(file.alloc());
-    let head = responses.head(file.alloc(), &mut source)?;
-    Ok(head_text(file.alloc(), &head)?.into_bytes())
+fn add_head(head: &FinalHead, out: &mut Answer) {
+    match head {
+        FinalHead::Head { at, head } => {
+            out.number("at ", *at);
+            out.number(": ", u64::from(head.status));
+        }
+        FinalHead::Bad { at } => {
+            out.number("at ", *at);
+            out.word(": bad");
+        }
+        FinalHead::Truncated { at } => {
+            out.number("at ", *at);
+            out.word(": truncated");
+        }
+        FinalHead::ReadFault => out.word("a read failed"),
+    }
+    out.word("\n");
 }
 
-/// What a call answers, none where it isn't one of these.
-pub(crate) fn answer(file: &RowFile, call: &str, with: &Value) -> Answered {
-    let text = match call {
-        "requests" => requests(file, with)?,
-        "requests_cut" => requests_cut(file, with)?,
-        "response" => response(file, with)?,
-        "response_alone" => response_alone(file, with)?,
-        _ => return Ok(None),
+// What the head of the first response is, where its body isn't read.
+fn response_alone(given: &Given, out: &mut Answer) {
+    let Some(mut source) = source_in(given, out) else {
+        return;
     };
-    Ok(Some(text))
+    match &Responses::new(out.alloc()).head(out.alloc(), &mut source) {
+        Ok(head) => add_head(head, out),
+        Err(_) => out.fail(RowFault::NoMemory),
+    }
+}
+
+/// Answers a call, where it is one of these.
+pub(crate) fn answer(call: &str, given: &Given, out: &mut Answer) -> bool {
+    match call {
+        "requests" => requests(given, out),
+        "requests_cut" => requests_cut(given, out),
+        "response" => response(given, out),
+        "response_alone" => response_alone(given, out),
+        _ => return false,
+    }
+    true
 }
