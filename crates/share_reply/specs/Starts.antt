@@ -7,7 +7,6 @@ use Rattle.json_tree.specs.Results.{◌>>=◌}
 use Rattle.log_actions.specs.declared.actions.Action.{Action}
 use Rattle.log_replay.specs.Reconciliation.{last_meta}
 use Rattle.page_token.specs.declared.cursor.TableAccess.{TableAccess}
-use Rattle.page_token.specs.declared.cursor.FeedCursor.{FeedCursor}
 use Rattle.page_token.specs.declared.cursor.FilesCursor.{FilesCursor}
 use Rattle.share_book.specs.declared.look.FeedPart.{FeedPart}
 use Rattle.share_lines.specs.declared.kinds.EndLine.{EndLine}
@@ -40,9 +39,10 @@ query_in q = record { from = q.from; to = q.to; max = q.max; token = q.token.now
 abbrev pub feed_start : FeedBegin → FeedStart
 feed_start s = record { asked_from = s.asked_from; asked_to = s.asked_to; from = s.from; to = s.to; place = s.place }
 
-abbrev pub feed_start_by : ChangesQuery → Option FeedCursor → FeedPart → FeedStart
+-- where a token tells, else at the first change that is found
+abbrev pub feed_start_by : ChangesQuery → Option FeedBegin → FeedPart → FeedStart
 feed_start_by q None f = feeds.first_start q f
-feed_start_by q (Some c) f = feeds.start_at c
+feed_start_by q (Some b) f = feed_start b
 
 -- the end, where pages are asked for
 abbrev pub end_of : ReplyKeys → Bool → Ending → Option EndLine

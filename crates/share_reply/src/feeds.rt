@@ -1,5 +1,5 @@
 // Pages of a table's changes.
-ghost use Rattle.std.specs.Prelude.{◌≡◌, ◌+◌, ◌≤◌, ◌^◌, IfOk, length, map, option_map, vec_len};
+ghost use Rattle.std.specs.Prelude.{◌≡◌, ◌+◌, ◌≤◌, ◌^◌, IfOk, length, map, option_copied, option_map, vec_len};
 ghost use Rattle.page_token.specs.Token.{token_text};
 ghost use Rattle.share_reply.specs.Answer.{ends_with};
 ghost use Rattle.share_reply.specs.Asking.{asked_at};
@@ -60,37 +60,6 @@ fn asked_at(bound: &Option<Bound>) -> Asked
         None => Asked::Latest,
         Some(Bound::Version(version)) => Asked::Version(*version),
         Some(Bound::Moment(moment)) => Asked::Moment(*moment),
-    }
-}
-
-fn first_begin(asked: &ChangesAsked<'_>, feed: &FeedPart) -> Result<FeedBegin, AllocError>
-    ensures { IfOk result (λ s. feed_start s ≡ spec.first_start (query_in asked.now) feed.now) }
-{
-    Ok(FeedBegin {
-        asked_from: asked_at(&asked.from),
-        asked_to: asked_at(&asked.to),
-        from: version_of(feed.from)?,
-        to: version_of(feed.to)?,
-        place: place_of(0)?,
-    })
-}
-
-fn begin_by(
-    asked: &ChangesAsked<'_>,
-    later: Option<FeedCursor>,
-    feed: &FeedPart,
-) -> Result<FeedBegin, AllocError>
-    ensures { IfOk result (λ s. feed_start s ≡ feed_start_by (query_in asked.now) later feed.now) }
-{
-    match later {
-        None => first_begin(asked, feed),
-        Some(cursor) => Ok(FeedBegin {
-            asked_from: cursor.asked_from,
-            asked_to: cursor.asked_to,
-            from: cursor.from,
-            to: cursor.to,
-            place: cursor.place,
-        }),
     }
 }
 
@@ -282,6 +251,44 @@ fn page_of_changes<'a>(
     })
 }
 
+// Of the changes of a range that are found.
+fn page_of_feed<'a>(
+    alloc: Global,
+    keys: &'a ReplyKeys,
+    access: Access<'a>,
+    now: Millis,
+    begin: &FeedBegin,
+    asked: &ChangesAsked<'_>,
+    feed: &'a FeedPart,
+) -> Result<Paged<'a>, Stop>
+    ensures { Gives result (as_lines keys.now (spec.page_of_feed keys.now access.entry now (query_in asked.now) (feed_start begin.now) feed.now)) }
+{
+    let changes = changes_in(alloc, feed)?;
+    let actions = feed.meta.get().actions();
+    page_of_changes(alloc, keys, access, now, asked, begin, actions, changes)
+}
+
+// The first page of a range.
+fn first_page<'a>(
+    alloc: Global,
+    keys: &'a ReplyKeys,
+    access: Access<'a>,
+    now: Millis,
+    asked: &ChangesAsked<'_>,
+    feed: &'a FeedPart,
+) -> Result<Paged<'a>, Stop>
+    ensures { Gives result (as_lines keys.now (spec.page_of_feed keys.now access.entry now (query_in asked.now) (spec.first_start (query_in asked.now) feed.now) feed.now)) }
+{
+    let begin = FeedBegin {
+        asked_from: asked_at(&asked.from),
+        asked_to: asked_at(&asked.to),
+        from: version_of(feed.from)?,
+        to: version_of(feed.to)?,
+        place: place_of(0)?,
+    };
+    page_of_feed(alloc, keys, access, now, &begin, asked, feed)
+}
+
 // ---- of what is found
 
 fn feed_from<'a>(
@@ -290,18 +297,16 @@ fn feed_from<'a>(
     access: Access<'a>,
     now: Millis,
     asked: &ChangesAsked<'_>,
-    later: Option<FeedCursor>,
+    later: Option<&FeedBegin>,
     found: &'a PartFound,
 ) -> Result<Paged<'a>, Stop>
-    ensures { Gives result (as_lines keys.now (spec.feed_from keys.now access.entry now (query_in asked.now) (feed_start_by (query_in asked.now) later) found.now)) }
+    ensures { Gives result (as_lines keys.now (spec.feed_from keys.now access.entry now (query_in asked.now) (feed_start_by (query_in asked.now) (option_copied later.entry)) found.now)) }
 {
     match found {
-        PartFound::Feed(feed) => {
-            let begin = begin_by(asked, later, feed)?;
-            let changes = changes_in(alloc, feed)?;
-            let actions = feed.meta.get().actions();
-            page_of_changes(alloc, keys, access, now, asked, &begin, actions, changes)
-        }
+        PartFound::Feed(feed) => match later {
+            Some(begin) => page_of_feed(alloc, keys, access, now, begin, asked, feed),
+            None => first_page(alloc, keys, access, now, asked, feed),
+        },
         PartFound::Refused(why) => Err(not_found(alloc, *why)),
         PartFound::Nothing | PartFound::Version(_) | PartFound::Files(_, _) => {
             Err(refuse(alloc, Refusal::NotFound))
@@ -315,10 +320,10 @@ fn later_feed<'a>(
     access: Access<'a>,
     now: Millis,
     asked: &ChangesAsked<'_>,
-    cursor: FeedCursor,
+    cursor: &FeedCursor,
     found: &'a PartFound,
 ) -> Result<Paged<'a>, Stop>
-    ensures { Gives result (as_lines keys.now (spec.later_feed keys.now access.entry now (query_in asked.now) cursor found.now)) }
+    ensures { Gives result (as_lines keys.now (spec.later_feed keys.now access.entry now (query_in asked.now) cursor.now found.now)) }
 {
     if !access.is_same_table(&cursor.access) {
         return Err(refuse(alloc, Refusal::TokenInvalid));
@@ -326,10 +331,17 @@ fn later_feed<'a>(
     if !access.is_same_edition(&cursor.access) {
         return Err(refuse(alloc, Refusal::TokenStale));
     }
-    if !agrees(asked, &cursor) {
+    if !agrees(asked, cursor) {
         return Err(refuse(alloc, Refusal::TokenMismatch));
     }
-    feed_from(alloc, keys, access, now, asked, Some(cursor), found)
+    let begin = FeedBegin {
+        asked_from: cursor.asked_from,
+        asked_to: cursor.asked_to,
+        from: cursor.from,
+        to: cursor.to,
+        place: cursor.place,
+    };
+    feed_from(alloc, keys, access, now, asked, Some(&begin), found)
 }
 
 fn feed_by<'a>(
@@ -338,10 +350,10 @@ fn feed_by<'a>(
     access: Access<'a>,
     now: Millis,
     asked: &ChangesAsked<'_>,
-    cursor: Option<Cursor>,
+    cursor: &Option<Cursor>,
     found: &'a PartFound,
 ) -> Result<Paged<'a>, Stop>
-    ensures { Gives result (as_lines keys.now (spec.feed_by keys.now access.entry now (query_in asked.now) cursor found.now)) }
+    ensures { Gives result (as_lines keys.now (spec.feed_by keys.now access.entry now (query_in asked.now) cursor.now found.now)) }
 {
     match cursor {
         Some(Cursor::Feed(cursor)) => later_feed(alloc, keys, access, now, asked, cursor, found),
@@ -364,5 +376,5 @@ pub(crate) fn changes_page<'a>(
         return feed_from(alloc, keys, access, now, asked, None, found);
     };
     let cursor = cursor_of(alloc, &keys.token, token.as_str())?;
-    feed_by(alloc, keys, access, now, asked, cursor, found)
+    feed_by(alloc, keys, access, now, asked, &cursor, found)
 }
