@@ -1,9 +1,9 @@
 // Commands, from words and stored bytes to printed lines.
-use crate::lines::{compare_lines, line_of, link_of, sink_in_pieces};
+use crate::lines::{compare_count, compare_lines, line_of, link_of, sink_in_pieces};
 use edge_core::{MemClock, MemLine, MemLink, MemListener, MemSink, MemSource, MemStore, OpenGate};
 use row_files::{
-    RowFault, RowFile, Told, clock_of, list_at, member_at, number_at, numbers_at, source_of,
-    store_of, text_at, text_or_nothing,
+    RowFault, RowFile, Told, clock_of, list_at, member_at, numbers_at, source_of, store_of,
+    text_at, text_or_nothing,
 };
 use serde_json::Value;
 use share_commands::{Edge, run};
@@ -109,13 +109,6 @@ fn status_of<R: Threads + Wait + Sync>(
     run(rt, file.alloc(), words, edge, desks, way)
 }
 
-fn compare_status(row: &Value, status: u8, told: &mut Told) {
-    match number_at(row, "status") {
-        Ok(wanted) => told.want_number("status", wanted.unwrap_or(0), u64::from(status)),
-        Err(fault) => told.fail(fault),
-    }
-}
-
 // Compares what came of the run.
 fn compare_edge(file: &RowFile, row: &Value, edge: &Memory, told: &mut Told) {
     told.want(
@@ -137,6 +130,13 @@ fn compare_end(file: &RowFile, of: &Value, end: Option<ServeEnd>, told: &mut Tol
     }
 }
 
+fn compare_desk(file: &RowFile, of: &Value, desk: &MemDesk, told: &mut Told) {
+    match list_at(of, "lines") {
+        Ok(lines) => compare_lines(file, lines, desk.door.closed(), told),
+        Err(fault) => told.fail(fault),
+    }
+}
+
 fn compare_desks(
     file: &RowFile,
     row: &Value,
@@ -144,7 +144,7 @@ fn compare_desks(
     told: &mut Told,
 ) -> Result<(), RowFault> {
     for (of, desk) in list_at(row, "desks")?.iter().zip(desks) {
-        compare_lines(file, list_at(of, "lines")?, desk.door.closed(), told);
+        compare_desk(file, of, desk, told);
         compare_end(file, of, desk.end, told);
     }
     Ok(())
@@ -162,7 +162,7 @@ fn run_words<R: Threads + Wait + Sync>(
 ) -> Result<(), RowFault> {
     let mut edge = edge_of(file, row)?;
     let status = status_of(rt, file, words, &mut edge, desks, way);
-    compare_status(row, status, told);
+    compare_count(row, "status", u64::from(status), told);
     compare_edge(file, row, &edge, told);
     Ok(())
 }

@@ -73,17 +73,12 @@ pub(crate) fn link_of(file: &RowFile, lines: &[Value]) -> Result<MemLink, RowFau
     Ok(MemLink::new(file.alloc(), peers)?)
 }
 
-fn compare_count(of: &Value, name: &'static str, came: u64, told: &mut Told) {
+/// Compares a number with the one of that name, 0 where it is lacking.
+pub(crate) fn compare_count(of: &Value, name: &'static str, came: u64, told: &mut Told) {
     match number_at(of, name) {
         Ok(wanted) => told.want_number(name, wanted.unwrap_or(0), came),
         Err(fault) => told.fail(fault),
     }
-}
-
-// Compares how often the reads and the writes of a line had failed: never, unless the row says how often.
-fn compare_faults(of: &Value, closed: &MemClosed, told: &mut Told) {
-    compare_count(of, "read_faults", closed.read_faults(), told);
-    compare_count(of, "write_faults", closed.write_faults(), told);
 }
 
 /// Compares what was written to the lines that were closed with what each is to be told, and how often each failed: one that is told
@@ -107,6 +102,7 @@ pub(crate) fn compare_lines(
             text_or_nothing(file, line, "told"),
             closed.written(),
         );
-        compare_faults(line, closed, told);
+        compare_count(line, "read_faults", closed.read_faults(), told);
+        compare_count(line, "write_faults", closed.write_faults(), told);
     }
 }
