@@ -6,9 +6,6 @@ ghost use Rattle.std.specs.Prelude.{◌≡◌, ◌+◌};
 use std::marker::{Model, PhantomData};
 use std::snapshot::Snapshot;
 
-#[cfg(test)]
-mod tests;
-
 // A natural number of any size: zero, or one more than a number that is remembered for proofs alone.
 #[derive(Drop)]
 #[cycle(count)]

@@ -8,8 +8,6 @@ mod cell;
 mod kept;
 mod pass;
 mod plays;
-#[cfg(test)]
-mod tests;
 mod view;
 
 pub use cell::TurnCell;
