@@ -183,7 +183,11 @@ fn write_at_once<K: Sink>(sink: &mut K, bytes: &[u8]) -> Gave {
 // kept after it comes behind.
 fn step(given: &Given, sink: &mut Gathering<MemSink>, out: &mut Answer) {
     if given.has("all") {
-        let times = if given.has("often") { given.number("often", out) } else { 1 };
+        let times = if given.has("often") {
+            given.number("often", out)
+        } else {
+            1
+        };
         let bytes = given.bytes("all", out);
         out.show(&write_often(sink, &bytes, times));
     } else if given.has("write") {

@@ -344,12 +344,7 @@ fn add_count(out: &mut Answer, changes: &[Change]) {
 }
 
 // Adds the feed of a range of a log's versions.
-fn add_feed(
-    out: &mut Answer,
-    log: &[Arc<Commit>],
-    range: (usize, usize),
-    counted: bool,
-) {
+fn add_feed(out: &mut Answer, log: &[Arc<Commit>], range: (usize, usize), counted: bool) {
     let (first, end) = range;
     let marks = marks_in(log, out);
     if first > end || end > log.len() || end > marks.len() {

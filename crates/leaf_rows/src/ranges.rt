@@ -65,7 +65,10 @@ fn add_part(range: ByteRange, out: &mut Answer) {
         Ok(text) => {
             out.word(text.as_str());
             out.number(", ", range.len());
-            out.flag(" bytes, read=", range_read(text.as_str().as_bytes()) == Some(range));
+            out.flag(
+                " bytes, read=",
+                range_read(text.as_str().as_bytes()) == Some(range),
+            );
         }
         Err(_) => out.fail(RowFault::NoMemory),
     }

@@ -23,7 +23,10 @@ fn tag(given: &Given, out: &mut Answer) {
     let text = given.bytes("text", out);
     if let Ok(digits) = hex::encode(out.alloc(), hmac(&bytes, &text).as_slice()) {
         out.word(digits.as_str());
-        out.flag(" ", HmacKey::of(&bytes).tag_digits(&text).as_slice() == digits.as_bytes());
+        out.flag(
+            " ",
+            HmacKey::of(&bytes).tag_digits(&text).as_slice() == digits.as_bytes(),
+        );
     }
 }
 
