@@ -7,12 +7,14 @@ use commit_check::{Offer, Reads};
 use http_message::field::Fields;
 use http_message::head::Head;
 use json_tree::Text;
-use query_body::{QueryBody, query_of};
+use query_body::{QueryBody, QueryFault, query_of};
 use row_files::RowFault;
 use share_catalog::{Edit, TableName};
 use share_request::{
     ByLink, ByToken, ListPage, Request, RequestFault, What, bearer_of, request_of,
 };
+use std::alloc::Global;
+use std::sync::Arc;
 
 // The `fields` of a row, and the field Authorization where the row has its value.
 fn push_fields(given: &Given, fields: &mut Fields, out: &mut Answer) {
@@ -179,6 +181,14 @@ fn add_by_link(by: &ByLink, out: &mut Answer) {
     out.words(" ", by.target.as_str());
 }
 
+// The request of a head and a body. It is shared, since a function that drops a request of its own takes long to prove.
+fn request_in(alloc: Global, head: &Head, body: &[u8]) -> Result<Arc<Request>, RowFault> {
+    match request_of(alloc, head, body) {
+        Ok(request) => Ok(Arc::new(alloc, request)?),
+        Err(_) => Err(RowFault::NoMemory),
+    }
+}
+
 fn add_request(request: &Request, out: &mut Answer) {
     match request {
         Request::TurnedAway(away) => {
@@ -196,9 +206,9 @@ fn request(given: &Given, out: &mut Answer) {
     let Some(head) = head(given, out) else {
         return;
     };
-    match &request_of(out.alloc(), &head, &body) {
-        Ok(request) => add_request(request, out),
-        Err(_) => out.fail(RowFault::NoMemory),
+    match request_in(out.alloc(), &head, &body) {
+        Ok(request) => add_request(&request, out),
+        Err(fault) => out.fail(fault),
     }
 }
 
@@ -213,12 +223,17 @@ fn bearer(given: &Given, out: &mut Answer) {
     }
 }
 
-// What the body of a query asks, or the fault.
-fn query(given: &Given, out: &mut Answer) {
-    match &query_of(out.alloc(), &given.bytes("body", out)) {
+fn add_query_read(query: &Result<QueryBody, QueryFault>, out: &mut Answer) {
+    match query {
         Ok(query) => add_query(query, out),
         Err(fault) => out.show(fault),
     }
+}
+
+// What the body of a query asks, or the fault.
+fn query(given: &Given, out: &mut Answer) {
+    let query = query_of(out.alloc(), &given.bytes("body", out));
+    add_query_read(&query, out);
 }
 
 /// Answers a call, where it is one of these.

@@ -1,12 +1,12 @@
 // The catalogue and the records of its log.
 use crate::answer::Answer;
 use crate::given::Given;
-use catalog_log::{bytes_of_edit, edit_at, edit_of, record_name};
+use catalog_log::{RecordFault, bytes_of_edit, edit_at, edit_of, record_name};
 use json_tree::tree_of;
 use row_files::RowFault;
 use serde_json::Value;
 use share_catalog::{Bound, Catalog, Credential, Edit, EditRefusal, Granted, TableName};
-use std::alloc::Global;
+use std::alloc::{AllocError, Global};
 
 fn add_edit(edit: &Edit, out: &mut Answer) {
     match &bytes_of_edit(out.alloc(), edit) {
@@ -15,12 +15,17 @@ fn add_edit(edit: &Edit, out: &mut Answer) {
     }
 }
 
-// The record of an edit that is read of a record, or the fault.
-fn record(given: &Given, out: &mut Answer) {
-    match &edit_of(out.alloc(), &given.bytes("record", out)) {
+fn add_record(edit: &Result<Edit, RecordFault>, out: &mut Answer) {
+    match edit {
         Ok(edit) => add_edit(edit, out),
         Err(fault) => out.show(fault),
     }
+}
+
+// The record of an edit that is read of a record, or the fault. An edit is much to drop, so it is lent here and below.
+fn record(given: &Given, out: &mut Answer) {
+    let edit = edit_of(out.alloc(), &given.bytes("record", out));
+    add_record(&edit, out);
 }
 
 // The edit that an object is.
@@ -31,12 +36,17 @@ fn edit_in(alloc: Global, text: &[u8]) -> Option<Edit> {
     }
 }
 
-// The record of the edit that an object is.
-fn edit(given: &Given, out: &mut Answer) {
-    match &edit_in(out.alloc(), &given.bytes("edit", out)) {
+fn add_read(edit: &Option<Edit>, out: &mut Answer) {
+    match edit {
         Some(edit) => add_edit(edit, out),
         None => out.lacks("edit"),
     }
+}
+
+// The record of the edit that an object is.
+fn edit(given: &Given, out: &mut Answer) {
+    let edit = edit_in(out.alloc(), &given.bytes("edit", out));
+    add_read(&edit, out);
 }
 
 fn named(given: &Given, out: &mut Answer) {
@@ -48,19 +58,29 @@ fn named(given: &Given, out: &mut Answer) {
 
 type Made = Result<(), EditRefusal>;
 
-// What is told of an edit's copy.
-fn told_of_copy(catalog: &Catalog, alloc: Global, edit: &Edit) -> Option<Made> {
-    match &edit.copy(alloc) {
-        Ok(copy) => Some(catalog.admits(copy)),
+fn admitted(catalog: &Catalog, edit: &Result<Edit, AllocError>) -> Option<Made> {
+    match edit {
+        Ok(edit) => Some(catalog.admits(edit)),
         Err(_) => None,
     }
 }
 
-fn told_of(catalog: &Catalog, alloc: Global, text: &[u8]) -> Option<Made> {
-    match &edit_in(alloc, text) {
+// What is told of an edit's copy.
+fn told_of_copy(catalog: &Catalog, alloc: Global, edit: &Edit) -> Option<Made> {
+    let copy = edit.copy(alloc);
+    admitted(catalog, &copy)
+}
+
+fn told_of_read(catalog: &Catalog, alloc: Global, edit: &Option<Edit>) -> Option<Made> {
+    match edit {
         Some(edit) => told_of_copy(catalog, alloc, edit),
         None => None,
     }
+}
+
+fn told_of(catalog: &Catalog, alloc: Global, text: &[u8]) -> Option<Made> {
+    let edit = edit_in(alloc, text);
+    told_of_read(catalog, alloc, &edit)
 }
 
 // Takes memory for an edit, and makes it.
@@ -183,12 +203,17 @@ fn copied(word: &str, out: &mut Answer) -> String {
     }
 }
 
-fn add_bound(catalog: &Catalog, share: &str, schema: &str, table: &str, out: &mut Answer) {
-    let (share, schema) = (copied(share, out), copied(schema, out));
-    match &TableName::of(share, schema, copied(table, out)) {
+fn add_bound_at(catalog: &Catalog, table: &Option<TableName>, out: &mut Answer) {
+    match table {
         Some(table) => add_binding(catalog, table, out),
         None => out.fail(RowFault::Unknown("the table")),
     }
+}
+
+fn add_bound(catalog: &Catalog, share: &str, schema: &str, table: &str, out: &mut Answer) {
+    let (share, schema) = (copied(share, out), copied(schema, out));
+    let table = TableName::of(share, schema, copied(table, out));
+    add_bound_at(catalog, &table, out);
 }
 
 // How many tables there are, and the first and the last.

@@ -2,7 +2,8 @@
 use crate::answer::Answer;
 use crate::given::Given;
 use row_files::RowFault;
-use share_config::{Config, HttpUrl, Profile, config_of, profile_of};
+use share_config::{Config, ConfigFault, HttpUrl, Profile, ProfileFault, config_of, profile_of};
+use std::alloc::AllocError;
 
 // A configuration's keys, each on a line.
 fn add_keys(config: &Config, out: &mut Answer) {
@@ -26,19 +27,18 @@ fn add_config(config: &Config, out: &mut Answer) {
     out.word(" providers");
 }
 
-// Where links lead and how long, and how many providers there are; or the fault.
-fn config(given: &Given, out: &mut Answer) {
-    match &config_of(out.alloc(), &given.bytes("text", out)) {
+fn add_read(config: &Result<Config, ConfigFault>, keys: bool, out: &mut Answer) {
+    match config {
+        Ok(config) if keys => add_keys(config, out),
         Ok(config) => add_config(config, out),
         Err(fault) => out.show(fault),
     }
 }
 
-fn config_keys(given: &Given, out: &mut Answer) {
-    match &config_of(out.alloc(), &given.bytes("text", out)) {
-        Ok(config) => add_keys(config, out),
-        Err(fault) => out.show(fault),
-    }
+// A configuration's keys; or where links lead and how long, and how many providers there are; or the fault.
+fn config(given: &Given, keys: bool, out: &mut Answer) {
+    let config = config_of(out.alloc(), &given.bytes("text", out));
+    add_read(&config, keys, out);
 }
 
 fn add_profile(profile: &Profile, out: &mut Answer) {
@@ -50,27 +50,37 @@ fn add_profile(profile: &Profile, out: &mut Answer) {
     out.words(" by ", profile.bearer.as_str());
 }
 
-// A profile's fields, or the fault.
-fn profile(given: &Given, out: &mut Answer) {
-    match &profile_of(out.alloc(), &given.bytes("text", out)) {
+fn add_profile_read(profile: &Result<Profile, ProfileFault>, out: &mut Answer) {
+    match profile {
         Ok(profile) => add_profile(profile, out),
         Err(fault) => out.show(fault),
     }
 }
 
-fn url(given: &Given, out: &mut Answer) {
-    match &HttpUrl::of(out.alloc(), &given.text("text", out)) {
+// A profile's fields, or the fault.
+fn profile(given: &Given, out: &mut Answer) {
+    let profile = profile_of(out.alloc(), &given.bytes("text", out));
+    add_profile_read(&profile, out);
+}
+
+fn add_url(url: &Result<Option<HttpUrl>, AllocError>, out: &mut Answer) {
+    match url {
         Ok(Some(url)) => out.word(url.as_str()),
         Ok(None) => out.word("no URL"),
         Err(_) => out.fail(RowFault::NoMemory),
     }
 }
 
+fn url(given: &Given, out: &mut Answer) {
+    let url = HttpUrl::of(out.alloc(), &given.text("text", out));
+    add_url(&url, out);
+}
+
 /// Answers a call, where it is one of these.
 pub(crate) fn answer(call: &str, given: &Given, out: &mut Answer) -> bool {
     match call {
-        "config" => config(given, out),
-        "config_keys" => config_keys(given, out),
+        "config" => config(given, false, out),
+        "config_keys" => config(given, true, out),
         "profile" => profile(given, out),
         "url" => url(given, out),
         _ => return false,

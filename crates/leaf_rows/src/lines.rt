@@ -6,10 +6,11 @@ ghost use Rattle.share_lines.specs.Printing.{is_printable as is_printable_line};
 use crate::answer::Answer;
 use crate::given::Given;
 use case_table::Refusal;
-use log_actions::{Action, action_of_line};
+use json_tree::Text;
+use log_actions::{Action, NoAction, action_of_line};
 use row_files::RowFault;
 use share_lines::{
-    FileKind, FileLine, FileParts, Line, LinesFault, error_of, error_text, file_parts_len,
+    FileKind, FileLine, FileParts, Line, Lines, LinesFault, error_of, error_text, file_parts_len,
     line_len, lines_of, lines_text, push_file, push_file_parts, push_meta, push_protocol,
 };
 use std::alloc::{AllocError, Global};
@@ -48,13 +49,18 @@ fn add_lines(lines: &[Line], out: &mut Answer) {
     }
 }
 
-// The lines that are read of a body, printed again.
-fn lines(given: &Given, out: &mut Answer) {
-    match &lines_of(out.alloc(), &given.bytes("body", out)) {
+fn add_read(lines: &Result<Lines, LinesFault>, out: &mut Answer) {
+    match lines {
         Ok(lines) => add_lines(lines.items(), out),
         Err(LinesFault::Bad { at }) => out.number("bad at ", *at),
         Err(LinesFault::NoMemory) => out.fail(RowFault::NoMemory),
     }
+}
+
+// The lines that are read of a body, printed again.
+fn lines(given: &Given, out: &mut Answer) {
+    let lines = lines_of(out.alloc(), &given.bytes("body", out));
+    add_read(&lines, out);
 }
 
 fn kind_of(word: &str) -> Option<FileKind> {
@@ -78,40 +84,50 @@ fn add_file(kind: FileKind, file: &FileLine, out: &mut Answer) {
     out.bytes(&text);
 }
 
-fn add_first(kind: FileKind, lines: &[Line], out: &mut Answer) {
-    match lines.first() {
-        Some(Line::Add(file)) => add_file(kind, file, out),
-        _ => out.fail(RowFault::Unknown("such a line")),
+fn add_first(kind: FileKind, lines: &Result<Lines, LinesFault>, out: &mut Answer) {
+    match lines {
+        Ok(lines) => match lines.items().first() {
+            Some(Line::Add(file)) => add_file(kind, file, out),
+            _ => out.fail(RowFault::Unknown("such a line")),
+        },
+        Err(_) => out.lacks("body"),
     }
 }
 
 // The file that a line adds, printed as that kind.
 fn file_as(given: &Given, out: &mut Answer) {
-    let kind = kind_of(given.word("kind", out));
-    match (kind, &lines_of(out.alloc(), &given.bytes("body", out))) {
-        (Some(kind), Ok(lines)) => add_first(kind, lines.items(), out),
-        _ => out.lacks("body"),
-    }
+    let Some(kind) = kind_of(given.word("kind", out)) else {
+        out.lacks("kind");
+        return;
+    };
+    let lines = lines_of(out.alloc(), &given.bytes("body", out));
+    add_first(kind, &lines, out);
 }
 
-fn push_action(alloc: Global, text: &mut Vec<u8>, action: &Action) -> Result<(), AllocError> {
+fn push_action(
+    alloc: Global,
+    text: &mut Vec<u8>,
+    action: &Result<Option<Action>, NoAction>,
+) -> Result<(), AllocError> {
+    push_protocol(text)?;
     match action {
-        Action::MetaData(meta) => push_meta(alloc, text, meta),
-        Action::Add(file) => push_file(alloc, text, file),
+        Ok(Some(Action::MetaData(meta))) => push_meta(alloc, text, meta),
+        Ok(Some(Action::Add(file))) => push_file(alloc, text, file),
         _ => Ok(()),
     }
 }
 
+fn add_action(action: &Result<Option<Action>, NoAction>, out: &mut Answer) {
+    let mut text = Vec::new(out.alloc());
+    let done = push_action(out.alloc(), &mut text, action);
+    out.stored(done);
+    out.bytes(&text);
+}
+
 // The lines of a protocol and of a log's action.
 fn line_of_action(given: &Given, out: &mut Answer) {
-    let mut text = Vec::new(out.alloc());
-    let done = push_protocol(&mut text);
-    out.stored(done);
-    if let Ok(Some(action)) = &action_of_line(out.alloc(), &given.bytes("action", out)) {
-        let done = push_action(out.alloc(), &mut text, action);
-        out.stored(done);
-    }
-    out.bytes(&text);
+    let action = action_of_line(out.alloc(), &given.bytes("action", out));
+    add_action(&action, out);
 }
 
 fn takes(refusal: Refusal, detail: &str) -> bool
@@ -139,9 +155,8 @@ fn error(given: &Given, out: &mut Answer) {
     }
 }
 
-// The refusal that a body tells, and its detail.
-fn error_read(given: &Given, out: &mut Answer) {
-    match &error_of(out.alloc(), &given.bytes("body", out)) {
+fn add_error_read(error: &Result<Option<(Refusal, Text)>, AllocError>, out: &mut Answer) {
+    match error {
         Ok(Some((refusal, detail))) => {
             out.show(refusal);
             out.words(" ", detail.as_str());
@@ -149,6 +164,12 @@ fn error_read(given: &Given, out: &mut Answer) {
         Ok(None) => out.word("no refusal"),
         Err(_) => out.fail(RowFault::NoMemory),
     }
+}
+
+// The refusal that a body tells, and its detail.
+fn error_read(given: &Given, out: &mut Answer) {
+    let error = error_of(out.alloc(), &given.bytes("body", out));
+    add_error_read(&error, out);
 }
 
 /// Answers a call, where it is one of these.

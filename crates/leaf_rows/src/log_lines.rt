@@ -133,12 +133,17 @@ fn add_action(out: &mut Answer, action: &Action) {
     }
 }
 
-// The fields of a copy of the action.
-fn add_copy(out: &mut Answer, action: &Action) {
-    match &action.copy(out.alloc()) {
+fn add_copied(out: &mut Answer, copy: &Result<Action, AllocError>) {
+    match copy {
         Ok(copy) => add_action(out, copy),
         Err(_) => out.fail(RowFault::NoMemory),
     }
+}
+
+// The fields of a copy of the action.
+fn add_copy(out: &mut Answer, action: &Action) {
+    let copy = action.copy(out.alloc());
+    add_copied(out, &copy);
 }
 
 // How the action is printed, and the length that is told of it.
@@ -150,14 +155,19 @@ fn add_printed(out: &mut Answer, action: &Action) {
     out.number("\n", line_len(action));
 }
 
-fn action(given: &Given, out: &mut Answer) {
-    let printed = given.flag("printed", out);
-    match &action_of_line(out.alloc(), &given.bytes("line", out)) {
+fn add_read(out: &mut Answer, read: &Result<Option<Action>, NoAction>, printed: bool) {
+    match read {
         Ok(Some(action)) if printed => add_printed(out, action),
         Ok(Some(action)) => add_copy(out, action),
         Ok(None) => out.word("none"),
         Err(told) => out.show(told),
     }
+}
+
+fn action(given: &Given, out: &mut Answer) {
+    let printed = given.flag("printed", out);
+    let action = action_of_line(out.alloc(), &given.bytes("line", out));
+    add_read(out, &action, printed);
 }
 
 // How the commit is printed, behind the length that is told of it.

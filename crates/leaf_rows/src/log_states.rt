@@ -197,15 +197,27 @@ fn replayed(given: &Given, out: &mut Answer) {
     }
 }
 
+fn add_copied(out: &mut Answer, copy: &Result<Snapshot, AllocError>) {
+    match copy {
+        Ok(copy) => add_state(out, copy),
+        Err(_) => out.fail(RowFault::NoMemory),
+    }
+}
+
 fn add_borrowed(out: &mut Answer, state: &SnapshotRef) {
     add_version(out, state.version(), state.len(), state.is_empty());
     add_table(out, state.protocol(), state.meta());
     for place in 0..state.len() {
         add_file(out, state.file(place));
     }
-    match &state.copy(out.alloc()) {
-        Ok(copy) => add_state(out, copy),
-        Err(_) => out.fail(RowFault::NoMemory),
+    let copy = state.copy(out.alloc());
+    add_copied(out, &copy);
+}
+
+fn add_borrowed_read(out: &mut Answer, state: &Result<SnapshotRef, NoState>) {
+    match state {
+        Ok(state) => add_borrowed(out, state),
+        Err(told) => out.show(told),
     }
 }
 
@@ -217,10 +229,8 @@ fn borrowed(given: &Given, out: &mut Answer) {
         return;
     }
     let mut steps: Steps<Work> = Steps::new();
-    match &replay_ref(out.alloc(), &log, &mut steps) {
-        Ok(state) => add_borrowed(out, state),
-        Err(told) => out.show(told),
-    }
+    let state = replay_ref(out.alloc(), &log, &mut steps);
+    add_borrowed_read(out, &state);
 }
 
 // What is told of the first commit that isn't admitted.

@@ -10,6 +10,7 @@ use http_message::refusal::Flaw;
 use http_message::response::{ResponseHead, is_interim, response_form, response_in};
 use row_files::RowFault;
 use serde_json::Value;
+use std::alloc::AllocError;
 
 // The most bytes of a body.
 const MOST: u64 = 16_777_216;
@@ -71,12 +72,17 @@ fn add_head(head: &Head, out: &mut Answer) {
     add_fields(&head.fields, out);
 }
 
-fn request_head(given: &Given, out: &mut Answer) {
-    match &head_in(out.alloc(), &given.bytes("text", out)) {
+fn add_head_read(head: &Result<Option<Head>, AllocError>, out: &mut Answer) {
+    match head {
         Ok(Some(head)) => add_head(head, out),
         Ok(None) => out.word("no head"),
         Err(_) => out.fail(RowFault::NoMemory),
     }
+}
+
+fn request_head(given: &Given, out: &mut Answer) {
+    let head = head_in(out.alloc(), &given.bytes("text", out));
+    add_head_read(&head, out);
 }
 
 // A response's status and fields, whether it is an interim one, and how its body is framed.
@@ -89,13 +95,22 @@ fn add_reply(to_head: bool, head: &ResponseHead, out: &mut Answer) {
     add_fields(&head.fields, out);
 }
 
-fn response_head(given: &Given, out: &mut Answer) {
-    let to_head = given.flag("to_head", out);
-    match &response_in(out.alloc(), &given.bytes("text", out)) {
+fn add_reply_read(
+    to_head: bool,
+    head: &Result<Option<ResponseHead>, AllocError>,
+    out: &mut Answer,
+) {
+    match head {
         Ok(Some(head)) => add_reply(to_head, head, out),
         Ok(None) => out.word("no head"),
         Err(_) => out.fail(RowFault::NoMemory),
     }
+}
+
+fn response_head(given: &Given, out: &mut Answer) {
+    let to_head = given.flag("to_head", out);
+    let head = response_in(out.alloc(), &given.bytes("text", out));
+    add_reply_read(to_head, &head, out);
 }
 
 // The two values of a list.

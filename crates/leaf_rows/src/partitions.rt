@@ -2,9 +2,9 @@
 use crate::answer::Answer;
 use crate::given::Given;
 use json_tree::{Text, Texts};
-use log_actions::{Action, AddFile, action_of_line};
+use log_actions::{Action, AddFile, NoAction, action_of_line};
 use part_values::{Columns, PartType, columns_of, value_of};
-use pred_tree::{Pred, bind, pred_of};
+use pred_tree::{BoundPred, Pred, bind, pred_of};
 use row_files::RowFault;
 use serde_json::Value;
 use std::alloc::{AllocError, Global};
@@ -63,17 +63,21 @@ fn add_columns(out: &mut Answer, columns: &Columns, asked: &[Value]) {
     }
 }
 
-fn columns(given: &Given, out: &mut Answer) {
-    let asked = given.list("asked", out);
-    match &columns_at(given, out) {
+fn add_columns_read(out: &mut Answer, columns: &Result<Columns, AllocError>, asked: &[Value]) {
+    match columns {
         Ok(columns) => add_columns(out, columns, asked),
         Err(_) => out.fail(RowFault::NoMemory),
     }
 }
 
-// What the predicate says of a file.
-fn add_truth(out: &mut Answer, pred: &Pred, columns: &Columns, file: &AddFile) {
-    match &bind(out.alloc(), pred, columns) {
+fn columns(given: &Given, out: &mut Answer) {
+    let asked = given.list("asked", out);
+    let columns = columns_at(given, out);
+    add_columns_read(out, &columns, asked);
+}
+
+fn add_truth(bound: &Result<BoundPred, AllocError>, file: &AddFile, out: &mut Answer) {
+    match bound {
         Ok(bound) => {
             let truth = bound.eval(file);
             out.show(&truth);
@@ -83,24 +87,45 @@ fn add_truth(out: &mut Answer, pred: &Pred, columns: &Columns, file: &AddFile) {
     }
 }
 
-// What it says of the file that a line adds.
-fn weigh(given: &Given, pred: &Pred, columns: &Columns, out: &mut Answer) {
-    match &action_of_line(out.alloc(), &given.bytes("file", out)) {
-        Ok(Some(Action::Add(file))) => add_truth(out, pred, columns, file),
+// What the predicate says of a file.
+fn add_weighed(
+    pred: &Pred,
+    columns: &Columns,
+    action: &Result<Option<Action>, NoAction>,
+    out: &mut Answer,
+) {
+    match action {
+        Ok(Some(Action::Add(file))) => {
+            let bound = bind(out.alloc(), pred, columns);
+            add_truth(&bound, file, out);
+        }
         _ => out.lacks("file"),
     }
 }
 
-fn predicate(given: &Given, out: &mut Answer) {
-    let Ok(columns) = columns_at(given, out) else {
-        out.fail(RowFault::NoMemory);
-        return;
-    };
-    match &pred_of(out.alloc(), &given.text("text", out)) {
-        Ok(Some(pred)) => weigh(given, pred, &columns, out),
-        Ok(None) => out.word("not read"),
-        Err(_) => out.fail(RowFault::NoMemory),
+// What it says of the file that a line adds.
+fn weigh(given: &Given, pred: &Pred, columns: &Columns, out: &mut Answer) {
+    let action = action_of_line(out.alloc(), &given.bytes("file", out));
+    add_weighed(pred, columns, &action, out);
+}
+
+fn weigh_read(
+    given: &Given,
+    pred: &Result<Option<Pred>, AllocError>,
+    columns: &Result<Columns, AllocError>,
+    out: &mut Answer,
+) {
+    match (pred, columns) {
+        (Ok(Some(pred)), Ok(columns)) => weigh(given, pred, columns, out),
+        (Ok(None), _) => out.word("not read"),
+        _ => out.fail(RowFault::NoMemory),
     }
+}
+
+fn predicate(given: &Given, out: &mut Answer) {
+    let columns = columns_at(given, out);
+    let pred = pred_of(out.alloc(), &given.text("text", out));
+    weigh_read(given, &pred, &columns, out);
 }
 
 /// Answers a call, where it is one of these.

@@ -5,17 +5,23 @@ use file_ranges::content_range::{range_read, range_text};
 use file_ranges::part::ByteRange;
 use file_ranges::pick::{Picked, pick};
 use file_ranges::span::{Span, span_of};
-use http_message::head::head_in;
+use http_message::head::{Head, head_in};
 use row_files::RowFault;
 use serde_json::Value;
+use std::alloc::AllocError;
 
-// The span that the head of a request asks for.
-fn span(given: &Given, out: &mut Answer) {
-    match &head_in(out.alloc(), &given.bytes("text", out)) {
+fn add_span(head: &Result<Option<Head>, AllocError>, out: &mut Answer) {
+    match head {
         Ok(Some(head)) => out.show(&span_of(head)),
         Ok(None) => out.word("no head"),
         Err(_) => out.fail(RowFault::NoMemory),
     }
+}
+
+// The span that the head of a request asks for.
+fn span(given: &Given, out: &mut Answer) {
+    let head = head_in(out.alloc(), &given.bytes("text", out));
+    add_span(&head, out);
 }
 
 // A span: two places, or `{"from":PLACE}`, or `{"last":COUNT}`.

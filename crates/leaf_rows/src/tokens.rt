@@ -94,25 +94,33 @@ fn spelt(key: &HmacKey, cursor: &Cursor, out: &mut Answer) {
     }
 }
 
+fn cursor(given: &Given, out: &mut Answer) -> Cursor {
+    match given.word("of", out) {
+        "files" => files(given, out),
+        "changes" => feed(given, out),
+        _ => all_tables(given, out),
+    }
+}
+
 fn token(given: &Given, out: &mut Answer) {
     let key = key(given, out);
-    match given.word("of", out) {
-        "files" => spelt(&key, &files(given, out), out),
-        "changes" => spelt(&key, &feed(given, out), out),
-        "all tables" => spelt(&key, &all_tables(given, out), out),
-        _ => out.lacks("of"),
+    let cursor = cursor(given, out);
+    spelt(&key, &cursor, out);
+}
+
+fn add_read(key: &HmacKey, cursor: &Result<Option<Cursor>, AllocError>, out: &mut Answer) {
+    match cursor {
+        Ok(Some(cursor)) => spelt(key, cursor, out),
+        Ok(None) => out.word("no token"),
+        Err(_) => out.fail(RowFault::NoMemory),
     }
 }
 
 // What a token stands for, spelt again.
 fn token_read(given: &Given, out: &mut Answer) {
     let key = key(given, out);
-    let token = given.text("token", out);
-    match &cursor_of(out.alloc(), &key, &token) {
-        Ok(Some(cursor)) => spelt(&key, cursor, out),
-        Ok(None) => out.word("no token"),
-        Err(_) => out.fail(RowFault::NoMemory),
-    }
+    let cursor = cursor_of(out.alloc(), &key, &given.text("token", out));
+    add_read(&key, &cursor, out);
 }
 
 fn name(given: &Given, member: &'static str, out: &mut Answer) -> Option<CatalogName> {
@@ -143,16 +151,21 @@ fn parts(given: &Given, out: &mut Answer) -> Option<LinkParts> {
     })
 }
 
-fn linked(given: &Given, out: &mut Answer) {
-    let key = key(given, out);
-    let endpoint = given.text("endpoint", out);
-    match &parts(given, out) {
-        Some(parts) => match link(out.alloc(), &key, &endpoint, &parts.lent()) {
+fn add_linked(key: &HmacKey, endpoint: &str, parts: &Option<LinkParts>, out: &mut Answer) {
+    match parts {
+        Some(parts) => match link(out.alloc(), key, endpoint, &parts.lent()) {
             Ok(text) => out.word(text.as_str()),
             Err(_) => out.fail(RowFault::NoMemory),
         },
         None => out.lacks("expires"),
     }
+}
+
+fn linked(given: &Given, out: &mut Answer) {
+    let key = key(given, out);
+    let endpoint = given.text("endpoint", out);
+    let parts = parts(given, out);
+    add_linked(&key, &endpoint, &parts, out);
 }
 
 fn add_parts(parts: &LinkParts, out: &mut Answer) {
@@ -177,8 +190,8 @@ fn add_link(parts: &Result<Option<LinkParts>, AllocError>, out: &mut Answer) {
 // What a link leads to.
 fn link_read(given: &Given, out: &mut Answer) {
     let key = key(given, out);
-    let target = given.text("target", out);
-    add_link(&parts_of(out.alloc(), &key, &target), out);
+    let parts = parts_of(out.alloc(), &key, &given.text("target", out));
+    add_link(&parts, out);
 }
 
 /// Answers a call, where it is one of these.

@@ -9,18 +9,23 @@ use json_print::{
     whole_field,
 };
 use json_tree::{
-    FieldFault, Pair, Pairs, Text, Texts, flag_at, member_at, pairs_at, text_at, texts_at, tree_of,
-    whole_at,
+    FieldFault, Pair, Pairs, Text, Texts, TreeFault, flag_at, member_at, pairs_at, text_at,
+    texts_at, tree_of, whole_at,
 };
 use row_files::RowFault;
 use serde_json::Value;
 use std::alloc::{AllocError, Global};
 
-fn tree(given: &Given, out: &mut Answer) {
-    match &tree_of(out.alloc(), &given.bytes("text", out)) {
+fn add_tree(tree: &Result<Value, TreeFault>, out: &mut Answer) {
+    match tree {
         Ok(_) => out.word("read"),
         Err(fault) => out.show(fault),
     }
+}
+
+fn tree(given: &Given, out: &mut Answer) {
+    let tree = tree_of(out.alloc(), &given.bytes("text", out));
+    add_tree(&tree, out);
 }
 
 // A copy of the text is told, and so of the others.
