@@ -1,3 +1,4 @@
+pub mod Acknowledged
 pub mod Arrivals
 pub mod Calls
 pub mod Clocks

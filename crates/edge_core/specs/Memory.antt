@@ -93,6 +93,10 @@ store_late s = s.late.items
 abbrev pub store_faults : MemStore → ℕ
 store_faults s = calls_failed (store_calls s)
 
+-- how many puts stored
+abbrev pub store_stored : MemStore → ℕ
+store_stored s = s.stored
+
 -- whether no object of others is to come
 abbrev pub store_alone : MemStore → Bool
 store_alone s = nat_eq (length (store_coming s)) 0

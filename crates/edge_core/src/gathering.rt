@@ -127,6 +127,8 @@ impl<K: Sink> Sink for Gathering<K> {
 
     ghost holds = { λ g. append_known (K.holds (inner_sink g)) (kept_bytes g) };
 
+    ghost kept = { λ g. K.kept (inner_sink g) ++ kept_bytes g };
+
     ghost faults = { λ g. K.faults (inner_sink g) };
 
     fn write(&mut self, bytes: &[u8]) -> Gave
@@ -150,6 +152,7 @@ impl<K: Sink> Sink for Gathering<K> {
     fn flush(&mut self) -> Flushing
         ensures held { append_known (K.holds (inner_sink self.new)) (kept_bytes self.new) ≡ append_known (K.holds (inner_sink self.old)) (kept_bytes self.old) }
         ensures cause { Cause (K.faults (inner_sink self.old)) (K.faults (inner_sink self.new)) (failed_flush result) }
+        ensures kept { OnTrue (not (failed_flush result)) (K.kept (inner_sink self.new) ++ kept_bytes self.new ≡ []) }
         ensures emptied { OnTrue (not (failed_flush result)) (kept_bytes self.new ≡ []) }
     {
         if !self.hand_on() {

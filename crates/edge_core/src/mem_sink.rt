@@ -107,13 +107,15 @@ fn append_piece(bytes: &mut Vec<u8>, pieces: &mut Vec<usize>, from: &[u8], size:
 }
 
 impl Sink for MemSink {
-    ghost use Rattle.std.specs.Prelude.{◌≡◌, ◌<◌, Some, length};
+    ghost use Rattle.std.specs.Prelude.{◌≡◌, ◌<◌, [], Some, length};
     ghost use Rattle.edge_core.specs.Faults.{Cause};
     ghost use Rattle.edge_core.specs.Flow.{Writes, failed_flush, failed_write};
     ghost use Rattle.edge_core.specs.Calls.{calls_failed, Counts};
     ghost use Rattle.edge_core.specs.Memory.{sink_bytes, sink_sizes, sink_calls, sink_fails, IsKept};
 
     ghost holds = { λ s. Some (sink_bytes s) };
+
+    ghost kept = { λ s. [] };
 
     ghost faults = { λ s. calls_failed (sink_calls s) };
 

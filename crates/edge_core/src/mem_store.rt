@@ -7,6 +7,7 @@ use crate::foreign::arrive;
 use crate::shelf::Shelf;
 use crate::{Foreign, Got, Listed, Measured, Name, Put, Store, Stored};
 use std::alloc::{AllocError, Global};
+use step_count::Steps;
 
 /// A store in memory, with room for a number of objects and of bytes, which it takes when it is made. Names count among
 /// the bytes. A put that finds no room fails. The numbers of the calls that are to fail can be given, and objects of others
@@ -18,6 +19,7 @@ pub struct MemStore {
     come: usize,
     calls: Calls,
     late: Vec<u64>,
+    stored: Steps<Put>,
     ghost within: { come ≤ length foreign.items },
 }
 
@@ -45,7 +47,7 @@ impl MemStore {
     ghost use Rattle.edge_core.specs.Objects.{GrowsTo};
     ghost use Rattle.edge_core.specs.Calls.{IsFresh, Plans};
     ghost use Rattle.edge_core.specs.Stored.{with_one};
-    ghost use Rattle.edge_core.specs.Memory.{store_shelf, store_objects, store_coming, store_calls, store_late, store_alone, found_shelf, is_free, Waits};
+    ghost use Rattle.edge_core.specs.Memory.{store_shelf, store_objects, store_coming, store_calls, store_late, store_alone, store_stored, found_shelf, is_free, Waits};
 
     /// An empty store with room for so many objects, and for so many bytes of names and objects, and with the objects of
     /// others that are to come, the first first. The error is want of memory.
@@ -59,6 +61,7 @@ impl MemStore {
         ensures coming { IfOk result (λ s. store_coming s ≡ foreign.items) }
         ensures calls { IfOk result (λ s. IsFresh (store_calls s)) }
         ensures late { IfOk result (λ s. store_late s ≡ []) }
+        ensures stored { IfOk result (λ s. store_stored s ≡ 0) }
     {
         Ok(MemStore {
             shelf: Shelf::new(alloc, objects, bytes)?,
@@ -66,6 +69,7 @@ impl MemStore {
             come: 0,
             calls: Calls::new(alloc),
             late: Vec::new(alloc),
+            stored: Steps::new(),
         })
     }
 
@@ -76,6 +80,7 @@ impl MemStore {
         ensures coming { store_coming result ≡ store_coming self }
         ensures calls { Plans (store_calls self) (store_calls result) fails.items }
         ensures late { store_late result ≡ late.items }
+        ensures stored { store_stored result ≡ store_stored self }
     {
         self.calls.set_fails(fails);
         self.late = late;
@@ -89,6 +94,7 @@ impl MemStore {
         ensures coming { store_coming self.new ≡ store_coming self.old }
         ensures calls { store_calls self.new ≡ store_calls self.old }
         ensures late { store_late self.new ≡ store_late self.old }
+        ensures puts { store_stored self.new ≡ store_stored self.old }
     {
         self.shelf.get(&object.name).is_none() && self.shelf.add(&object.name, &object.bytes)
     }
@@ -101,6 +107,7 @@ impl MemStore {
         ensures grows { GrowsTo (store_objects self.old) (store_objects self.new) }
         ensures same { OnTrue (store_alone self.old) (store_shelf self.new ≡ store_shelf self.old) }
         ensures stays { OnTrue (store_alone self.old) (store_alone self.new ≡ true) }
+        ensures stored { store_stored self.new ≡ store_stored self.old }
     {
         let come = arrive(
             &mut self.shelf,
@@ -117,7 +124,8 @@ impl Store for MemStore {
     ghost use Rattle.edge_core.specs.Faults.{Cause};
     ghost use Rattle.edge_core.specs.Objects.{Gets, Measures, Puts, Lists, failed_get, failed_size, failed_put, failed_list};
     ghost use Rattle.edge_core.specs.Calls.{due, Counts};
-    ghost use Rattle.edge_core.specs.Memory.{store_shelf, store_objects, store_alone, store_faults, store_calls, found_shelf, put_shelf, put_fails, Waits};
+    ghost use Rattle.edge_core.specs.Memory.{store_shelf, store_objects, store_alone, store_faults, store_stored, store_calls, found_shelf, put_shelf, put_fails, Waits};
+    ghost use Rattle.edge_core.specs.Acknowledged.{acknowledged};
 
     ghost objects = { λ s. Some (store_objects s) };
 
@@ -125,11 +133,14 @@ impl Store for MemStore {
 
     ghost faults = { store_faults };
 
+    ghost stored = { store_stored };
+
     fn get(&mut self, name: &Name, from: u64, out: &mut [u8]) -> Got
         requires { 0 < length out.old }
         ensures bytes { Gets (Some (store_objects self.old)) (Some (store_objects self.new)) (store_alone self.old) name.now from result out.new }
         ensures stays { OnTrue (store_alone self.old) (store_alone self.new ≡ true) }
         ensures cause { Cause (store_faults self.old) (store_faults self.new) (failed_get result) }
+        ensures stored { store_stored self.new ≡ store_stored self.old }
         ensures fails { failed_get result ≡ due (store_calls self.old) }
         ensures counts { Counts (store_calls self.old) (store_calls self.new) (failed_get result) }
         ensures shelf { store_shelf self.new ≡ found_shelf self.old }
@@ -149,6 +160,7 @@ impl Store for MemStore {
         ensures size { Measures (Some (store_objects self.old)) (Some (store_objects self.new)) (store_alone self.old) name.now result }
         ensures stays { OnTrue (store_alone self.old) (store_alone self.new ≡ true) }
         ensures cause { Cause (store_faults self.old) (store_faults self.new) (failed_size result) }
+        ensures stored { store_stored self.new ≡ store_stored self.old }
         ensures fails { failed_size result ≡ due (store_calls self.old) }
         ensures counts { Counts (store_calls self.old) (store_calls self.new) (failed_size result) }
         ensures shelf { store_shelf self.new ≡ found_shelf self.old }
@@ -168,6 +180,7 @@ impl Store for MemStore {
         ensures object { Puts (Some (store_objects self.old)) (Some (store_objects self.new)) (store_alone self.old) name.now bytes.now result }
         ensures stays { OnTrue (store_alone self.old) (store_alone self.new ≡ true) }
         ensures cause { Cause (store_faults self.old) (store_faults self.new) (failed_put result) }
+        ensures stored { store_stored self.new ≡ acknowledged (store_stored self.old) result }
         ensures fails { failed_put result ≡ put_fails self.old name.now bytes.now }
         ensures counts { Counts (store_calls self.old) (store_calls self.new) (failed_put result) }
         ensures shelf { store_shelf self.new ≡ put_shelf self.old name.now bytes.now }
@@ -185,13 +198,25 @@ impl Store for MemStore {
         }
         let failed = !self.shelf.add(name, bytes) || late;
         self.calls.count(failed);
-        if failed { Put::Failed } else { Put::Stored }
+        if failed {
+            Put::Failed
+        } else {
+            self.stored.tick();
+            Put::Stored
+        }
+    }
+
+    fn lists_at_once(&self) -> bool
+        ensures told { result ≡ true }
+    {
+        true
     }
 
     fn list(&mut self, alloc: Global, dir: &Name) -> Listed
         ensures names { Lists (Some (store_objects self.old)) (Some (store_objects self.new)) (store_alone self.old) dir.now result }
         ensures stays { OnTrue (store_alone self.old) (store_alone self.new ≡ true) }
         ensures cause { Cause (store_faults self.old) (store_faults self.new) (failed_list result) }
+        ensures stored { store_stored self.new ≡ store_stored self.old }
         ensures fails { failed_list result ≡ due (store_calls self.old) }
         ensures counts { Counts (store_calls self.old) (store_calls self.new) (failed_list result) }
         ensures shelf { store_shelf self.new ≡ found_shelf self.old }

@@ -1,5 +1,6 @@
 // Where bytes go.
-ghost use Rattle.std.specs.Prelude.{◌≡◌, ℕ, ◌<◌, List, Option, length};
+ghost use Rattle.std.specs.Prelude.{◌≡◌, ℕ, ◌<◌, List, [], Option, length, not};
+ghost use Rattle.std.specs.Bool.{OnTrue};
 ghost use Rattle.edge_core.specs.Faults.{Cause};
 ghost use Rattle.edge_core.specs.Flow.{Writes, failed_flush, failed_write};
 
@@ -27,6 +28,9 @@ pub trait Sink {
     /// doesn't never begins to.
     ghost holds: { Self → Option (List ℕ) };
 
+    /// What it keeps back of what was written, and hands on at a `flush` or as more comes: nothing where it hands on at once.
+    ghost kept: { Self → List ℕ };
+
     /// How often the sink has failed: a count that never falls, and stands still at 2^64 - 1.
     ghost faults: { Self → ℕ };
 
@@ -37,9 +41,11 @@ pub trait Sink {
         ensures bytes { Writes (holds self.old) (holds self.new) result bytes.now }
         ensures cause { Cause (faults self.old) (faults self.new) (failed_write result) };
 
-    /// Hands on what the sink keeps back of what was written. It changes nothing of what the sink holds. `Failed` comes only
+    /// Hands on what the sink keeps back of what was written: nothing of it is kept where this didn't fail. It changes nothing of what the
+    /// sink holds. `Failed` comes only
     /// where the count of faults rose in this call.
     fn flush(&mut self) -> Flushing
         ensures held { holds self.new ≡ holds self.old }
-        ensures cause { Cause (faults self.old) (faults self.new) (failed_flush result) };
+        ensures cause { Cause (faults self.old) (faults self.new) (failed_flush result) }
+        ensures kept { OnTrue (not (failed_flush result)) (kept self.new ≡ []) };
 }

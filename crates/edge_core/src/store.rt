@@ -1,7 +1,8 @@
 // Where objects are kept.
-ghost use Rattle.std.specs.Prelude.{◌≡◌, ℕ, ◌<◌, Option, Bool, true, length};
+ghost use Rattle.std.specs.Prelude.{◌≡◌, ℕ, ◌<◌, Option, IfSome, Bool, true, length};
 ghost use Rattle.std.specs.Bool.{OnTrue};
 ghost use Rattle.edge_core.specs.Faults.{Cause};
+ghost use Rattle.edge_core.specs.Acknowledged.{acknowledged};
 ghost use Rattle.edge_core.specs.Objects.{Objects, Gets, Measures, Puts, Lists, failed_get, failed_size, failed_put, failed_list};
 
 use crate::{Name, Segments};
@@ -64,6 +65,10 @@ pub trait Store {
     /// How often the store has failed: a count that never falls, and stands still at 2^64 - 1.
     ghost faults: { Self → ℕ };
 
+    /// How many puts it has answered `Stored`, of which each stored an object: so what it acknowledged is told apart from what others
+    /// stored, also where it tells nothing of its objects.
+    ghost stored: { Self → ℕ };
+
     /// Reads the bytes of an object from place `from` on into the front of `out`: as many as the answer says, which may be
     /// fewer than fit or are there. `Bytes(0)` comes exactly where `from` is at or past the object's end. `Failed` comes
     /// only where the count of faults rose in this call.
@@ -71,25 +76,35 @@ pub trait Store {
         requires { 0 < length out.old }
         ensures bytes { Gets (objects self.old) (objects self.new) (alone self.old) name.now from result out.new }
         ensures stays { OnTrue (alone self.old) (alone self.new ≡ true) }
-        ensures cause { Cause (faults self.old) (faults self.new) (failed_get result) };
+        ensures cause { Cause (faults self.old) (faults self.new) (failed_get result) }
+        ensures stored { stored self.new ≡ stored self.old };
 
     /// The length of an object. `Failed` comes only where the count of faults rose in this call.
     fn size(&mut self, name: &Name) -> Measured
         ensures size { Measures (objects self.old) (objects self.new) (alone self.old) name.now result }
         ensures stays { OnTrue (alone self.old) (alone self.new ≡ true) }
-        ensures cause { Cause (faults self.old) (faults self.new) (failed_size result) };
+        ensures cause { Cause (faults self.old) (faults self.new) (failed_size result) }
+        ensures stored { stored self.new ≡ stored self.old };
 
     /// Stores bytes under a name that no object has. `Failed` comes only where the count of faults rose in this call; the
-    /// objects are then as before or have the bytes under that name.
+    /// objects are then as before or have the bytes under that name. The count of stored puts rises by one exactly with `Stored`.
     fn put_absent(&mut self, name: &Name, bytes: &[u8]) -> Put
         ensures object { Puts (objects self.old) (objects self.new) (alone self.old) name.now bytes.now result }
         ensures stays { OnTrue (alone self.old) (alone self.new ≡ true) }
-        ensures cause { Cause (faults self.old) (faults self.new) (failed_put result) };
+        ensures cause { Cause (faults self.old) (faults self.new) (failed_put result) }
+        ensures stored { stored self.new ≡ acknowledged (stored self.old) result };
+
+    /// Whether a listing shows the objects of one moment, so that a name that it lacks was absent while the names that it has were
+    /// there. A store that tells its objects does; a folder that others add to while it is read may show a later object and lack an
+    /// earlier one.
+    fn lists_at_once(&self) -> bool
+        ensures told { IfSome (objects self.now) (λ os. result ≡ true) };
 
     /// The last segments of the objects directly in the folder `dir`, in byte order of name; a folder that isn't there has
     /// none. `Failed` comes only where the count of faults rose in this call.
     fn list(&mut self, alloc: Global, dir: &Name) -> Listed
         ensures names { Lists (objects self.old) (objects self.new) (alone self.old) dir.now result }
         ensures stays { OnTrue (alone self.old) (alone self.new ≡ true) }
-        ensures cause { Cause (faults self.old) (faults self.new) (failed_list result) };
+        ensures cause { Cause (faults self.old) (faults self.new) (failed_list result) }
+        ensures stored { stored self.new ≡ stored self.old };
 }

@@ -8,6 +8,7 @@ use std::alloc::{AllocError, Global};
 use std::fs::File;
 use std::io::ErrorKind;
 use std::{fs, io};
+use step_count::Steps;
 
 // The file of the object that was read last. An object never changes, so it may stay open.
 #[derive(Drop)]
@@ -18,7 +19,7 @@ struct Opened {
 
 /// A store whose objects are the regular files below a root folder, each named by its path from there.
 ///
-/// It tells nothing of them, and counts the calls that failed. A folder, a FIFO, a device and a link that leads to one, in
+/// It tells nothing of them, and counts the calls that failed and the puts that stored. A folder, a FIFO, a device and a link that leads to one, in
 /// a circle or nowhere is no object: to read it answers `Absent`, and never waits. But a listing tells the name of each
 /// thing in a folder, whatever it is, so that who looks for an object by its name sees that something else is there in its
 /// place. A listing asks nothing of what it names, so it fails only where the folder itself can't be read; of what comes
@@ -34,16 +35,18 @@ pub struct FileStore {
     root: String,
     opened: Option<Opened>,
     faults: u64,
+    stored: Steps<Put>,
 }
 
 impl FileStore {
-    /// The store of the files below the folder `root`, with a count of 0.
+    /// The store of the files below the folder `root`, with counts of 0.
     pub fn new(rt: HostRuntime, root: String) -> FileStore {
         FileStore {
             rt,
             root,
             opened: None,
             faults: 0,
+            stored: Steps::new(),
         }
     }
 
@@ -52,7 +55,8 @@ impl FileStore {
     }
 
     fn count_fault(&mut self)
-        ensures { Cause self.old.faults self.new.faults true }
+        ensures cause { Cause self.old.faults self.new.faults true }
+        ensures stored { self.new.stored ≡ self.old.stored }
     {
         self.faults = self.faults.saturating_add(1);
     }
@@ -79,6 +83,7 @@ impl FileStore {
     fn read(&mut self, name: &str, from: u64, out: &mut [u8]) -> io::Result<Option<usize>>
         ensures most { IfOk result (λ o. IfSome o (λ n. n ≤ length out.new)) }
         ensures faults { self.new.faults ≡ self.old.faults }
+        ensures stored { self.new.stored ≡ self.old.stored }
     {
         if !self.has_open(name) {
             self.opened = None;
@@ -129,6 +134,8 @@ impl Store for FileStore {
 
     ghost faults = { λ s. s.faults };
 
+    ghost stored = { λ s. s.stored };
+
     fn get(&mut self, name: &Name, from: u64, out: &mut [u8]) -> Got {
         match self.read(name.as_str(), from, out) {
             Ok(Some(0)) => {
@@ -158,13 +165,21 @@ impl Store for FileStore {
 
     fn put_absent(&mut self, name: &Name, bytes: &[u8]) -> Put {
         match self.store(name.as_str(), bytes) {
-            Ok(true) => Put::Stored,
+            Ok(true) => {
+                self.stored.tick();
+                Put::Stored
+            }
             Ok(false) => Put::Exists,
             Err(_) => {
                 self.count_fault();
                 Put::Failed
             }
         }
+    }
+
+    // A folder is read name after name while others add to it.
+    fn lists_at_once(&self) -> bool {
+        false
     }
 
     fn list(&mut self, alloc: Global, dir: &Name) -> Listed {

@@ -1,5 +1,5 @@
 // The standard streams, as a source and sinks. They tell nothing of their bytes.
-ghost use Rattle.std.specs.Prelude.{None};
+ghost use Rattle.std.specs.Prelude.{[], None};
 
 use edge_core::{Flushing, Gave, Sink, Source, Took};
 use std::io::{Read, Write};
@@ -52,6 +52,8 @@ impl<T: Write + Drop> StdSink<T> {
 
 impl<T: Write + Drop> Sink for StdSink<T> {
     ghost holds = { λ _. None };
+
+    ghost kept = { λ _. [] };
 
     ghost faults = { λ s. s.faults };
 

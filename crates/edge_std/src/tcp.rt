@@ -1,7 +1,7 @@
 // Connections of TCP, as a source and a sink.
-ghost use Rattle.std.specs.Prelude.{◌≡◌, None, IfOk, nat_lt};
+ghost use Rattle.std.specs.Prelude.{◌≡◌, [], None, IfOk, nat_lt};
 ghost use Rattle.std.specs.Io.{ReadsAtMost, WritesAtMost};
-ghost use Rattle.edge_core.specs.Handles.{fault_count};
+ghost use Rattle.edge_core.specs.Handles.{fault_count, kept_bytes};
 
 use edge_core::{FaultCount, Flushing, Gathering, Gave, Sink, Source, Took};
 use std::alloc::AllocError;
@@ -113,6 +113,8 @@ struct TcpOut {
 impl Sink for TcpOut {
     ghost holds = { λ _. None };
 
+    ghost kept = { λ _. [] };
+
     ghost faults = { λ s. fault_count s.faults };
 
     fn write(&mut self, bytes: &[u8]) -> Gave {
@@ -167,6 +169,8 @@ impl Drop for TcpSink {
 
 impl Sink for TcpSink {
     ghost holds = { λ _. None };
+
+    ghost kept = { λ s. kept_bytes s.out };
 
     ghost faults = { λ s. fault_count s.faults };
 

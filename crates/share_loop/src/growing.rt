@@ -40,10 +40,12 @@ impl Growing {
 }
 
 impl Sink for Growing {
-    ghost use Rattle.std.specs.Prelude.{Some};
+    ghost use Rattle.std.specs.Prelude.{[], Some};
     ghost use Rattle.edge_core.specs.Handles.{fault_count};
 
     ghost holds = { λ k. Some k.bytes.items };
+
+    ghost kept = { λ _. [] };
 
     ghost faults = { λ k. fault_count k.faults };
 

@@ -142,10 +142,12 @@ impl<R> LoopSink<R> {
 }
 
 impl<R: Wait> Sink for LoopSink<R> {
-    ghost use Rattle.std.specs.Prelude.{None};
+    ghost use Rattle.std.specs.Prelude.{[], None};
     ghost use Rattle.edge_core.specs.Handles.{fault_count};
 
     ghost holds = { λ _. None };
+
+    ghost kept = { λ _. [] };
 
     ghost faults = { λ s. fault_count s.faults };
 
