@@ -67,6 +67,8 @@ refusal_back why.BadMessage = refl
 refusal_back why.BodyTooLarge = refl
 refusal_back why.HeadTooLarge = refl
 refusal_back why.TransferCoding = refl
+refusal_back why.VersionNotShared = refl
+refusal_back why.ChangesRestricted = refl
 refusal_back why.RangeNotSatisfiable = refl
 
 abbrev refusal_of_code : ℕ → Option Refusal
@@ -100,6 +102,8 @@ refusal_by_code why.BadMessage = refl
 refusal_by_code why.BodyTooLarge = refl
 refusal_by_code why.HeadTooLarge = refl
 refusal_by_code why.TransferCoding = refl
+refusal_by_code why.VersionNotShared = refl
+refusal_by_code why.ChangesRestricted = refl
 refusal_by_code why.RangeNotSatisfiable = refl
 
 abbrev route_of_word : List ℕ → Option Route

@@ -3,7 +3,7 @@
 use Rattle.std.specs.Prelude.{ℕ, List, [], ◌∷◌, Bool, true, false, Option, bytes_eq, codes}
 use Rattle.std.specs.List.{find}
 use Rattle.case_table.specs.declared.refuse.Refusal.{Refusal}
-use Rattle.case_table.specs.declared.refuse.Refusal.TheVariants.{Unauthenticated, NotFound, MethodNotAllowed, BadParameter, BadBody, VersionRange, TimestampRange, HistoryNotShared, ChangesNotEnabled, UnsupportedTable, TokenInvalid, TokenStale, TokenMismatch, TokenAhead, LinkInvalid, FileGone, Conflict, Contended, StoreFault, Limit, LinkExpired, LinkRevoked, CatalogBlocked, BadMessage, BodyTooLarge, HeadTooLarge, TransferCoding, RangeNotSatisfiable}
+use Rattle.case_table.specs.declared.refuse.Refusal.TheVariants.{Unauthenticated, NotFound, MethodNotAllowed, BadParameter, BadBody, VersionRange, TimestampRange, HistoryNotShared, ChangesNotEnabled, UnsupportedTable, TokenInvalid, TokenStale, TokenMismatch, TokenAhead, LinkInvalid, FileGone, Conflict, Contended, StoreFault, Limit, LinkExpired, LinkRevoked, CatalogBlocked, BadMessage, BodyTooLarge, HeadTooLarge, TransferCoding, VersionNotShared, ChangesRestricted, RangeNotSatisfiable}
 
 -- number, word, status of the response, the fixed words of the message, and whether a detail follows them
 pub record RefusalRow : Type 0 where
@@ -44,6 +44,8 @@ refusal_row BadMessage = row 24 (codes "BAD_MESSAGE") 400 (codes "bad message") 
 refusal_row BodyTooLarge = row 25 (codes "BODY_TOO_LARGE") 413 (codes "body too large") false
 refusal_row HeadTooLarge = row 26 (codes "HEAD_TOO_LARGE") 431 (codes "head too large") false
 refusal_row TransferCoding = row 27 (codes "TRANSFER_CODING") 501 (codes "transfer coding") false
+refusal_row VersionNotShared = row 28 (codes "VERSION_NOT_SHARED") 400 (codes "version not shared before ") true
+refusal_row ChangesRestricted = row 29 (codes "CHANGES_RESTRICTED") 400 (codes "changes restricted") false
 refusal_row RangeNotSatisfiable = row 30 (codes "RANGE_NOT_SATISFIABLE") 416 (codes "range not satisfiable") false
 
 -- all of them, by number
@@ -52,7 +54,7 @@ all_refusals =
     Unauthenticated ∷ NotFound ∷ MethodNotAllowed ∷ BadParameter ∷ BadBody ∷ VersionRange ∷ TimestampRange
     ∷ HistoryNotShared ∷ ChangesNotEnabled ∷ UnsupportedTable ∷ TokenInvalid ∷ TokenStale ∷ TokenMismatch ∷ TokenAhead
     ∷ LinkInvalid ∷ FileGone ∷ Conflict ∷ Contended ∷ StoreFault ∷ Limit ∷ LinkExpired ∷ LinkRevoked ∷ CatalogBlocked
-    ∷ BadMessage ∷ BodyTooLarge ∷ HeadTooLarge ∷ TransferCoding ∷ RangeNotSatisfiable ∷ []
+    ∷ BadMessage ∷ BodyTooLarge ∷ HeadTooLarge ∷ TransferCoding ∷ VersionNotShared ∷ ChangesRestricted ∷ RangeNotSatisfiable ∷ []
 
 -- the refusal of a word
 abbrev pub refusal_of_word : List ℕ → Option Refusal

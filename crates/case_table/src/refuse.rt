@@ -4,8 +4,8 @@ ghost use Rattle.case_table.specs.Refusals.{refusal_of_word, refusal_row};
 ghost use Rattle.std.specs.List.{find};
 ghost use Rattle.case_table.specs.Laws.{RefusalsDiffer};
 
-/// Why the server refuses a request (Delta Sharing PROTOCOL.md, the errors of the REST APIs; the four before the last, which refuse a
-/// message before it is known what it asks, are those of RFC 9112; the last one is of RFC 9110, section 15.5.17).
+/// Why the server refuses a request (Delta Sharing PROTOCOL.md, the errors of the REST APIs; the four from `BadMessage` on, which refuse
+/// a message before it is known what it asks, are those of RFC 9112; the last one is of RFC 9110, section 15.5.17).
 #[derive(Clone, Copy, Debug, PartialEq, Eq)]
 pub enum Refusal {
     /// The request has no bearer token that a recipient, a provider or the administrator has, or the recipient's time is over.
@@ -62,13 +62,17 @@ pub enum Refusal {
     HeadTooLarge,
     /// The transfer coding isn't `chunked` alone.
     TransferCoding,
+    /// A version is asked for that is before the first one that is shared. The detail is that one.
+    VersionNotShared,
+    /// Changes are asked for, and the table is shared by the values of its partition columns.
+    ChangesRestricted,
     /// The file has none of the bytes that are asked for.
     RangeNotSatisfiable,
 }
 
 impl Refusal {
     /// All refusals, by number.
-    pub const ALL: [Refusal; 28] = [
+    pub const ALL: [Refusal; 30] = [
         Refusal::Unauthenticated,
         Refusal::NotFound,
         Refusal::MethodNotAllowed,
@@ -96,10 +100,12 @@ impl Refusal {
         Refusal::BodyTooLarge,
         Refusal::HeadTooLarge,
         Refusal::TransferCoding,
+        Refusal::VersionNotShared,
+        Refusal::ChangesRestricted,
         Refusal::RangeNotSatisfiable,
     ];
 
-    /// The number of the refusal in the documents, from 1 on. Numbers rise in the order of [`Refusal::ALL`]; there is no 28 and no 29.
+    /// The number of the refusal in the documents, from 1 on, in the order of [`Refusal::ALL`].
     pub fn code(self) -> u16
         ensures { result ≡ (refusal_row self).code }
     {
@@ -131,6 +137,8 @@ impl Refusal {
             Refusal::BodyTooLarge => 25,
             Refusal::HeadTooLarge => 26,
             Refusal::TransferCoding => 27,
+            Refusal::VersionNotShared => 28,
+            Refusal::ChangesRestricted => 29,
             Refusal::RangeNotSatisfiable => 30,
         }
     }
@@ -167,6 +175,8 @@ impl Refusal {
             Refusal::BodyTooLarge => "BODY_TOO_LARGE",
             Refusal::HeadTooLarge => "HEAD_TOO_LARGE",
             Refusal::TransferCoding => "TRANSFER_CODING",
+            Refusal::VersionNotShared => "VERSION_NOT_SHARED",
+            Refusal::ChangesRestricted => "CHANGES_RESTRICTED",
             Refusal::RangeNotSatisfiable => "RANGE_NOT_SATISFIABLE",
         }
     }
@@ -205,6 +215,8 @@ impl Refusal {
             Refusal::BodyTooLarge => 413,
             Refusal::HeadTooLarge => 431,
             Refusal::TransferCoding => 501,
+            Refusal::VersionNotShared => 400,
+            Refusal::ChangesRestricted => 400,
             Refusal::RangeNotSatisfiable => 416,
         }
     }
@@ -241,6 +253,8 @@ impl Refusal {
             Refusal::BodyTooLarge => "body too large",
             Refusal::HeadTooLarge => "head too large",
             Refusal::TransferCoding => "transfer coding",
+            Refusal::VersionNotShared => "version not shared before ",
+            Refusal::ChangesRestricted => "changes restricted",
             Refusal::RangeNotSatisfiable => "range not satisfiable",
         }
     }
@@ -256,6 +270,7 @@ impl Refusal {
                 | Refusal::Conflict
                 | Refusal::Limit
                 | Refusal::CatalogBlocked
+                | Refusal::VersionNotShared
         )
     }
 

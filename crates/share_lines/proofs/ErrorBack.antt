@@ -70,6 +70,8 @@ word_is_text why.BadMessage = IsUtf8-are_ascii _ refl
 word_is_text why.BodyTooLarge = IsUtf8-are_ascii _ refl
 word_is_text why.HeadTooLarge = IsUtf8-are_ascii _ refl
 word_is_text why.TransferCoding = IsUtf8-are_ascii _ refl
+word_is_text why.VersionNotShared = IsUtf8-are_ascii _ refl
+word_is_text why.ChangesRestricted = IsUtf8-are_ascii _ refl
 word_is_text why.RangeNotSatisfiable = IsUtf8-are_ascii _ refl
 
 message_is_text : (refusal : Refusal) → IsUtf8 (refusal_row refusal).message
@@ -100,6 +102,8 @@ message_is_text why.BadMessage = IsUtf8-are_ascii _ refl
 message_is_text why.BodyTooLarge = IsUtf8-are_ascii _ refl
 message_is_text why.HeadTooLarge = IsUtf8-are_ascii _ refl
 message_is_text why.TransferCoding = IsUtf8-are_ascii _ refl
+message_is_text why.VersionNotShared = IsUtf8-are_ascii _ refl
+message_is_text why.ChangesRestricted = IsUtf8-are_ascii _ refl
 message_is_text why.RangeNotSatisfiable = IsUtf8-are_ascii _ refl
 
 led_back : (refusal : Refusal) → refusal_by_word (refusal_row refusal).word ≡ Some refusal
