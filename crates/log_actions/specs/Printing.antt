@@ -45,35 +45,44 @@ meta_data_fields m =
     ∷ []
 
 -- "Add File and Remove File", without the deletion vector
-abbrev pub add_fields : AddFile → List Field
-add_fields f =
+abbrev pub add_fields_at : List ℕ → AddFile → List Field
+add_fields_at path f =
     (codes "dataChange", Some (boolean f.data_change))
     ∷ (codes "modificationTime", Some (whole_value f.modified))
     ∷ (codes "partitionValues", Some (pairs_value f.values))
-    ∷ (codes "path", Some (string f.path))
+    ∷ (codes "path", Some (string path))
     ∷ (codes "size", Some (count_value f.size))
     ∷ (codes "stats", option_map string f.stats)
     ∷ (codes "tags", option_map pairs_value f.tags)
     ∷ []
 
+abbrev pub add_fields : AddFile → List Field
+add_fields f = add_fields_at f.path f
+
 -- "Add File and Remove File", without the deletion vector
-abbrev pub remove_fields : RemoveFile → List Field
-remove_fields f =
+abbrev pub remove_fields_at : List ℕ → RemoveFile → List Field
+remove_fields_at path f =
     (codes "dataChange", Some (boolean f.data_change))
     ∷ (codes "deletionTimestamp", option_map whole_value f.deleted)
     ∷ (codes "partitionValues", option_map pairs_value f.values)
-    ∷ (codes "path", Some (string f.path))
+    ∷ (codes "path", Some (string path))
     ∷ (codes "size", option_map count_value f.size)
     ∷ []
 
+abbrev pub remove_fields : RemoveFile → List Field
+remove_fields f = remove_fields_at f.path f
+
 -- "Add CDC File": its `dataChange` is always false
-abbrev pub cdc_fields : CdcFile → List Field
-cdc_fields f =
+abbrev pub cdc_fields_at : List ℕ → CdcFile → List Field
+cdc_fields_at path f =
     (codes "dataChange", Some (boolean false))
     ∷ (codes "partitionValues", Some (pairs_value f.values))
-    ∷ (codes "path", Some (string f.path))
+    ∷ (codes "path", Some (string path))
     ∷ (codes "size", Some (count_value f.size))
     ∷ []
+
+abbrev pub cdc_fields : CdcFile → List Field
+cdc_fields f = cdc_fields_at f.path f
 
 -- "Transaction Identifiers"
 abbrev pub txn_fields : Txn → List Field

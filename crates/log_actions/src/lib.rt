@@ -22,5 +22,5 @@ pub use fields::size_at;
 pub use line_fault::{LineFault, NoAction};
 pub use lines::{action_of, action_of_line};
 pub use paths::{is_good_path, path_name};
-pub use printing::{line_len, line_of_action, size_field};
+pub use printing::{line_len, line_of_action, push_add, push_cdc, push_remove, size_field};
 pub use ranges::{CommitTime, FileSize, ProtocolVersion};

@@ -6,7 +6,7 @@ ghost use Rattle.json_print.specs.Tokens.{field_tokens, value_tokens};
 ghost use Rattle.json_print.specs.Values.{count_value};
 ghost use Rattle.log_actions.specs.Kept.{Kept, KeptAdd, KeptCdc, KeptCommitInfo, KeptMetaData, KeptProtocol, KeptRemove, KeptTxn};
 ghost use Rattle.log_actions.specs.Lines.{action_at};
-ghost use Rattle.log_actions.specs.Printing.{action_data, action_fields, action_name, add_fields, cdc_fields, commit_info_fields, format_fields, has_vector, line_text, meta_data_fields, protocol_fields, remove_fields, txn_fields};
+ghost use Rattle.log_actions.specs.Printing.{action_data, action_fields, action_name, add_fields_at, cdc_fields_at, commit_info_fields, format_fields, has_vector, line_text, meta_data_fields, protocol_fields, remove_fields_at, txn_fields};
 ghost use Rattle.log_actions.specs.Ranges.{times_end};
 ghost use Rattle.json_tree.specs.Pairs.{IsPairs};
 
@@ -103,42 +103,46 @@ fn meta_data_object<W: Tokens>(line: &mut W, meta: &MetaData) -> Result<(), W::E
     line.end_object()
 }
 
-fn add_object<W: Tokens>(line: &mut W, file: &AddFile) -> Result<(), W::Error>
-    ensures written { OnOk result (W.adds line.old line.new (value_tokens (object_of (add_fields file.now)))) }
+/// Prints what a log says of a file that comes in, with this path in place of its own: the object alone, without the action's name
+/// around it ("Add File and Remove File"). A deletion vector is left out.
+pub fn push_add<W: Tokens>(line: &mut W, file: &AddFile, path: &Text) -> Result<(), W::Error>
+    ensures written { OnOk result (W.adds line.old line.new (value_tokens (object_of (add_fields_at path.now file.now)))) }
     ensures kept { OnOk result (KeptAdd file.now) }
 {
     line.begin_object()?;
     flag_field(line, "dataChange", file.data_change)?;
     whole_field(line, "modificationTime", file.modified)?;
     pairs_field(line, "partitionValues", &file.values)?;
-    text_field(line, "path", &file.path)?;
+    text_field(line, "path", path)?;
     size_field(line, file.size)?;
     optional_text_field(line, "stats", &file.stats)?;
     optional_pairs_field(line, "tags", &file.tags)?;
     line.end_object()
 }
 
-fn remove_object<W: Tokens>(line: &mut W, file: &RemoveFile) -> Result<(), W::Error>
-    ensures written { OnOk result (W.adds line.old line.new (value_tokens (object_of (remove_fields file.now)))) }
+/// The same of a file that goes.
+pub fn push_remove<W: Tokens>(line: &mut W, file: &RemoveFile, path: &Text) -> Result<(), W::Error>
+    ensures written { OnOk result (W.adds line.old line.new (value_tokens (object_of (remove_fields_at path.now file.now)))) }
     ensures kept { OnOk result (KeptRemove file.now) }
 {
     line.begin_object()?;
     flag_field(line, "dataChange", file.data_change)?;
     optional_whole_field(line, "deletionTimestamp", file.deleted)?;
     optional_pairs_field(line, "partitionValues", &file.values)?;
-    text_field(line, "path", &file.path)?;
+    text_field(line, "path", path)?;
     optional_size_field(line, file.size)?;
     line.end_object()
 }
 
-fn cdc_object<W: Tokens>(line: &mut W, file: &CdcFile) -> Result<(), W::Error>
-    ensures written { OnOk result (W.adds line.old line.new (value_tokens (object_of (cdc_fields file.now)))) }
+/// The same of a file of changed rows ("Add CDC File").
+pub fn push_cdc<W: Tokens>(line: &mut W, file: &CdcFile, path: &Text) -> Result<(), W::Error>
+    ensures written { OnOk result (W.adds line.old line.new (value_tokens (object_of (cdc_fields_at path.now file.now)))) }
     ensures kept { OnOk result (KeptCdc file.now) }
 {
     line.begin_object()?;
     flag_field(line, "dataChange", false)?;
     pairs_field(line, "partitionValues", &file.values)?;
-    text_field(line, "path", &file.path)?;
+    text_field(line, "path", path)?;
     size_field(line, file.size)?;
     line.end_object()
 }
@@ -184,9 +188,9 @@ fn value_object<W: Tokens>(line: &mut W, action: &Action) -> Result<(), W::Error
     match action {
         Action::Protocol(protocol) => protocol_object(line, protocol),
         Action::MetaData(meta) => meta_data_object(line, meta),
-        Action::Add(file) => add_object(line, file),
-        Action::Remove(file) => remove_object(line, file),
-        Action::Cdc(file) => cdc_object(line, file),
+        Action::Add(file) => push_add(line, file, &file.path),
+        Action::Remove(file) => push_remove(line, file, &file.path),
+        Action::Cdc(file) => push_cdc(line, file, &file.path),
         Action::Txn(txn) => txn_object(line, txn),
         Action::CommitInfo(info) => commit_info_object(line, info),
     }

@@ -2,6 +2,7 @@
 ghost use Rattle.std.specs.Prelude.{◌≡◌, ◌<◌, ◌^◌};
 ghost use Rattle.log_actions.specs.Ranges.{within, times_end};
 
+use json_tree::Small;
 use std::marker::Model;
 
 /// A version of the protocol: 0 to 2^31 - 1.
@@ -43,44 +44,12 @@ impl ProtocolVersion {
     }
 }
 
+/// What the size of a file counts.
+#[derive(Clone, Copy, PartialEq, Eq, Drop)]
+pub struct Bytes;
+
 /// A number of bytes: 0 to 2^63 - 1.
-#[derive(Clone, Copy, Debug, PartialEq, Eq)]
-pub struct FileSize {
-    bytes: u64,
-}
-
-impl Model for FileSize {
-    ghost use Rattle.std.specs.Prelude.{ℕ, ◌<◌, ◌^◌};
-
-    ghost Value = { ℕ };
-
-    ghost view = { λ s. s.bytes };
-
-    ghost inverse = { λ n. record { bytes = n } };
-
-    ghost invariant = { λ s. s.bytes < 2 ^ 63 };
-}
-
-impl FileSize {
-    /// The size of so many bytes, none exactly from 2^63 on.
-    pub fn of(bytes: u64) -> Option<FileSize>
-        ensures { result ≡ within (2 ^ 63) bytes }
-    {
-        if bytes < 1 << 63 {
-            Some(FileSize { bytes })
-        } else {
-            None
-        }
-    }
-
-    /// How many bytes it is.
-    pub fn get(self) -> u64
-        ensures value { result ≡ self }
-        ensures bound { result < 2 ^ 63 }
-    {
-        self.bytes
-    }
-}
+pub type FileSize = Small<Bytes>;
 
 /// The moment of a commit in milliseconds since the start of 1970 in UTC: 0 to 253402300799999,
 /// the end of the year 9999.

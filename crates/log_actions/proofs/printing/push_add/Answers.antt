@@ -3,14 +3,14 @@ use Rattle.std.specs.Int.{w64}
 use Rattle.std.proofs.lemmas.Int.{to_z-of_z}
 use Rattle.std.proofs.lemmas.Result.{on_ok_weaker}
 use Rattle.json_print.proofs.TokenLemmas.{next, object_written}
-use Rattle.log_actions.specs.Printing.{add_fields}
-use Rattle.log_actions.proofs.printing.add_object.Goals as goal
+use Rattle.log_actions.specs.Printing.{add_fields_at}
+use Rattle.log_actions.proofs.printing.push_add.Goals as goal
 
 pub returns-clause-written : goal.returns-clause-written
 returns-clause-written g c =
     let fits : FitsSigned w64 c.args.file.now.modified = search rules in
     let modified = simp to_z-of_z at c.in_ok-whole_field.ensures.written in
-    rw (← object_written (add_fields c.args.file.now)) (on_ok_weaker c.end_object.result (λ last.
+    rw (← object_written (add_fields_at c.args.path.now c.args.file.now)) (on_ok_weaker c.end_object.result (λ last.
     next g.met.W.Tokens.then c.in_ok-begin_object.ensures
     (next g.met.W.Tokens.then c.in_ok-flag_field.ensures
     (next g.met.W.Tokens.then modified

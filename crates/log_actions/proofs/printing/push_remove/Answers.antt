@@ -1,11 +1,11 @@
 use Rattle.std.proofs.lemmas.Result.{on_ok_weaker}
 use Rattle.json_print.proofs.TokenLemmas.{next, object_written}
-use Rattle.log_actions.specs.Printing.{remove_fields}
-use Rattle.log_actions.proofs.printing.remove_object.Goals as goal
+use Rattle.log_actions.specs.Printing.{remove_fields_at}
+use Rattle.log_actions.proofs.printing.push_remove.Goals as goal
 
 pub returns-clause-written : goal.returns-clause-written
 returns-clause-written g c =
-    rw (← object_written (remove_fields c.args.file.now)) (on_ok_weaker c.end_object.result (λ last.
+    rw (← object_written (remove_fields_at c.args.path.now c.args.file.now)) (on_ok_weaker c.end_object.result (λ last.
     next g.met.W.Tokens.then c.in_ok-begin_object.ensures
     (next g.met.W.Tokens.then c.in_ok-flag_field.ensures
     (next g.met.W.Tokens.then c.in_ok-optional_whole_field.ensures.written
