@@ -2,6 +2,7 @@ pub mod Reconciliation
 pub mod Support
 pub mod State
 pub mod Applied
+pub mod Settings
 pub mod Times
 pub mod Standing
 pub mod Snapshots
