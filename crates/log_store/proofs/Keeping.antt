@@ -1,5 +1,5 @@
 -- Steps of keeping the commits of versions.
-use Rattle.std.proofs.Common.{◌≡◌, ℕ, suc, zero, ◌+◌, ◌<◌, List, [], ◌∷◌, ◌++◌, Option, Some, None, option_map, Result, Ok, Err, refl, sym, ap, ◌∙◌, subst, arith, add-one, true≢false}
+use Rattle.std.proofs.Common.{◌≡◌, ℕ, suc, zero, ◌+◌, ◌<◌, List, [], ◌∷◌, ◌++◌, length, max, Option, Some, None, option_map, Result, Ok, Err, refl, sym, ap, ◌∙◌, subst, arith, add-one, true≢false}
 use Rattle.std.specs.Prelude.{IfSome, filter_map, option_and_then}
 use Rattle.std.specs.List.{range_with_len, cons_option}
 use Rattle.std.specs.Option.{option_map_or}
@@ -13,7 +13,7 @@ use Rattle.log_commit.specs.Texts.{commit_in}
 use Rattle.log_replay.proofs.RefusalLemmas.{first_at, none_at, shift}
 use Rattle.log_actions.specs.CommitTexts.{printed_bytes}
 use Rattle.log_store.specs.Log.{block_below, cause_at, commit_at, commits_below, log_below, text_at}
-use Rattle.log_store.specs.Reading.{Adds, AreStored, Keeps, cause_found}
+use Rattle.log_store.specs.Reading.{Adds, AreStored, Keeps, cause_found, loaded_of}
 use Rattle.log_store.specs.declared.loaded.Block.{Block}
 use Rattle.log_store.specs.declared.loaded.BlockCause.{BlockCause}
 use Rattle.log_store.specs.declared.loaded.Loaded.{Loaded}
@@ -24,10 +24,6 @@ use Rattle.log_store.specs.declared.refusal.Stop.TheVariants as stop
 pub record IsReading (location : List ℕ) (os : Objects) (version : ℕ) (kept : List (List Action)) : Type 0 where
   pub commits : kept ≡ commits_below location os version
   pub none : (v : ℕ) → v < version → cause_at location os v ≡ None
-
-pub reading_none : (start : Option Objects) (location : List ℕ) → IfSome start (λ os. IsReading location os 0 [])
-reading_none None location = tt
-reading_none (Some os) location = record { commits = refl; none = λ v low. absurd (omega (arith, low)) }
 
 -- one number more at the end
 range_more : (a n : ℕ) → range_with_len a (suc n) ≡ range_with_len a n ++ (a + n) ∷ []
@@ -111,9 +107,11 @@ reading_stops (Some os) location version n before after r c l lt stored is loade
     loaded ∙ log_at location os n version after (Some (record { version = version; cause = c })) (blocked_at location os version n c lt so.none (cause_is location os version before there.0 so.commits there.1 ∙ k.1)) refl (k.0 ∙ so.commits)
 
 -- the log where all versions are kept
-pub reading_done : (start : Option Objects) (location : List ℕ) (version n : ℕ) (kept : List (List Action)) (l : Loaded) → version ≡ n → l ≡ record { commits = kept; bytes = printed_bytes kept; block = None }
-    → IfSome start (λ os. IsReading location os version kept) → IfSome start (λ os. l ≡ log_below location os n)
-reading_done None location version n kept l e loaded so = tt
-reading_done (Some os) location version n kept l e loaded so =
-    loaded ∙ log_at location os n version kept None (none_at (λ v. block_of v (cause_at location os v)) 0 n (λ v low. shift (λ v. block_of v (cause_at location os v)) v (0 + v) None (omega arith) (ap (block_of v) (so.none v (omega (arith, low, e))))))
-    (sym e) so.commits
+pub reading_done : (start : Option Objects) (location : List ℕ) (version n : ℕ) (before kept : List (List Action)) → version ≡ max (length before) n → IfSome start (λ os. before ≡ [])
+    → IfSome start (λ os. IsReading location os version kept) → IfSome start (λ os. loaded_of kept None ≡ log_below location os n)
+reading_done None location version n before kept e none so = tt
+reading_done (Some os) location version n before kept e none so =
+    let zero : length before ≡ 0 = ap length none in
+    let at : version ≡ n = omega (arith, e, zero) in
+    log_at location os n version kept None (none_at (λ v. block_of v (cause_at location os v)) 0 n (λ v low. shift (λ v. block_of v (cause_at location os v)) v (0 + v) None (omega arith) (ap (block_of v) (so.none v (omega (arith, low, at))))))
+    (sym at) so.commits

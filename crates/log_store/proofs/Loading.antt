@@ -4,13 +4,14 @@ use Rattle.std.specs.Prelude.{IfSome, ◌^◌, filter_map, slice_get}
 use Rattle.std.specs.List.{range_with_len, cons_option}
 use Rattle.std.specs.Option.{option_map_or, option_or}
 use Rattle.std.proofs.lemmas.Bool.Decides.{nat_tests}
-use Rattle.edge_core.specs.Objects.{Objects, Grows, Between, listing}
+use Rattle.edge_core.specs.Objects.{Objects, listing}
 use Rattle.log_commit.specs.Names.{folder, version_of}
+use Rattle.log_actions.specs.declared.actions.Action.{Action}
 use Rattle.log_replay.proofs.NextLemmas.{none_each}
 use Rattle.log_replay.proofs.RefusalLemmas.{shift}
 use Rattle.log_actions.specs.CommitTexts.{printed_bytes}
 use Rattle.log_store.specs.Log.{block_below, cause_at, commits_below, end_of, log_below, log_in, missing, text_at, versions_in}
-use Rattle.log_store.specs.Reading.{AreStored, gap_at, leading_from}
+use Rattle.log_store.specs.Reading.{AreStored, gap_at, leading_from, loaded_of}
 use Rattle.log_store.specs.declared.loaded.Block.{Block}
 use Rattle.log_store.specs.declared.loaded.BlockCause.{BlockCause}
 use Rattle.log_store.specs.declared.loaded.Loaded.{Loaded}
@@ -100,15 +101,18 @@ whole location os vs n l r is small at below made =
     ∙ ap (λ ws. log_of location os (end_of ws) (block_below location os (end_of ws))) is
 
 -- the log that was loaded is that of the moment of the listing
-pub loaded_log : (old mid new : Option Objects) (location : List ℕ) (names : List (List ℕ)) (vs : List ℕ) (n : ℕ) (l r : Loaded) → Grows old mid → Grows mid new → IfSome mid (λ os. names ≡ listing (folder location) os)
-    → vs ≡ filter_map version_of names → length vs < 2 ^ 63 → n ≡ leading_from 0 vs → IfSome mid (λ os. l ≡ log_below location os n)
-    → r ≡ record { commits = l.commits; bytes = l.bytes; block = option_or l.block (gap_at vs n) } → Between old new (λ os. r ≡ log_in location os)
-loaded_log old None new location names vs n l r grows more listed is small at below made = (None, grows, more, tt)
-loaded_log old (Some os) new location names vs n l r grows more listed is small at below made =
-    (Some os, grows, more, whole location os vs n l r (is ∙ ap (filter_map version_of) listed) small at below made)
+pub loaded_log : (mid : Option Objects) (location : List ℕ) (vs : List ℕ) (n : ℕ) (kept : List (List Action)) (block told : Option Block) → IfSome mid (λ os. vs ≡ versions_in location os) → length vs < 2 ^ 63 → n ≡ leading_from 0 vs
+    → IfSome mid (λ os. loaded_of kept block ≡ log_below location os n) → told ≡ option_or block (gap_at vs n) → IfSome mid (λ os. loaded_of kept told ≡ log_in location os)
+loaded_log None location vs n kept block told is small at below made = tt
+loaded_log (Some os) location vs n kept block told is small at below made = whole location os vs n (loaded_of kept block) (loaded_of kept told) is small at below (ap (loaded_of kept) made)
 
 -- the versions in front are stored
-pub are_stored : (mid : Option Objects) (location : List ℕ) (names : List (List ℕ)) (vs : List ℕ) (n : ℕ) → IfSome mid (λ os. names ≡ listing (folder location) os) → vs ≡ filter_map version_of names → length vs < 2 ^ 63
-    → n ≡ leading_from 0 vs → IfSome mid (AreStored location n)
-are_stored None location names vs n listed is small at = tt
-are_stored (Some os) location names vs n listed is small at = subst (λ k. AreStored location k os) (sym at) (leading_stored location os vs (is ∙ ap (filter_map version_of) listed) small)
+pub are_stored : (mid : Option Objects) (location : List ℕ) (vs : List ℕ) (n : ℕ) → IfSome mid (λ os. vs ≡ versions_in location os) → length vs < 2 ^ 63 → n ≡ leading_from 0 vs → IfSome mid (AreStored location n)
+are_stored None location vs n is small at = tt
+are_stored (Some os) location vs n is small at = subst (λ k. AreStored location k os) (sym at) (leading_stored location os vs is small)
+
+-- the versions of the names that were listed
+pub listed_there : (mid : Option Objects) (location dir : List ℕ) (names : List (List ℕ)) (vs : List ℕ) → IfSome mid (λ os. names ≡ listing dir os) → dir ≡ folder location → vs ≡ filter_map version_of names
+    → IfSome mid (λ os. vs ≡ versions_in location os)
+listed_there None location dir names vs listed at is = tt
+listed_there (Some os) location dir names vs listed at is = is ∙ ap (filter_map version_of) (listed ∙ ap (λ d. listing d os) at)

@@ -1,6 +1,6 @@
 -- What the steps of a load give, of a store that others may add to.
-use Rattle.std.specs.Prelude.{◌≡◌, ℕ, ◌+◌, ◌<◌, ◌≤◌, ◌^◌, ◌==◌, List, [], ◌∷◌, ◌++◌, length, Option, Some, None, IfSome, option_map, Result, Ok, Err, ⊤, nat_lt, if◌then◌else◌}
-use Rattle.edge_core.specs.Objects.{Objects, listing}
+use Rattle.std.specs.Prelude.{◌≡◌, ℕ, ◌+◌, ◌<◌, ◌≤◌, ◌^◌, ◌==◌, List, [], ◌∷◌, ◌++◌, length, Option, Some, None, option_map, Result, Ok, Err, ⊤, nat_lt, if◌then◌else◌}
+use Rattle.edge_core.specs.Objects.{Objects}
 use Rattle.log_actions.specs.declared.actions.Action.{Action}
 use Rattle.log_commit.specs.Texts.{commit_in}
 use Rattle.log_replay.specs.Standing.{IsSupported, Standing, standing_of}
@@ -9,7 +9,7 @@ use Rattle.log_store.specs.Log.{cause_of, missing, text_at}
 use Rattle.log_store.specs.declared.loaded.Block.{Block}
 use Rattle.log_store.specs.declared.loaded.BlockCause.{BlockCause}
 use Rattle.log_store.specs.declared.loaded.BlockCause.TheVariants as cause
-use Rattle.log_store.specs.declared.refusal.LoadRefusal.{LoadRefusal}
+use Rattle.log_store.specs.declared.loaded.Loaded.{Loaded}
 use Rattle.log_store.specs.declared.refusal.Stop.{Stop}
 use Rattle.log_store.specs.declared.refusal.Stop.TheVariants as stop
 
@@ -53,11 +53,6 @@ pub record IsKept (commits : List (List Action)) (bytes : ℕ) (standing : Stand
 abbrev pub AreStored : List ℕ → ℕ → Objects → Type 0
 AreStored location n objects = (version : ℕ) → version < n → (bytes : List ℕ) × (text_at location objects version ≡ Some bytes)
 
--- what a listing of a folder gives
-abbrev pub IsListed : Option Objects → List ℕ → Result (List (List ℕ)) LoadRefusal → Type 0
-IsListed new dir (Ok names) = IfSome new (λ os. names ≡ listing dir os)
-IsListed new dir (Err refusal) = ⊤
-
 -- how many numbers in front are those from one on, in order
 abbrev pub leading_from : ℕ → List ℕ → ℕ
 leading_from first [] = 0
@@ -66,3 +61,7 @@ leading_from first (v ∷ vs) = if v == first then leading_from (first + 1) vs +
 -- the block after so many versions in front, where later ones are named
 abbrev pub gap_at : List ℕ → ℕ → Option Block
 gap_at versions count = if nat_lt count (length versions) then Some (record { version = count; cause = missing versions count }) else None
+
+-- what is loaded where these commits are kept, with the block after them
+abbrev pub loaded_of : List (List Action) → Option Block → Loaded
+loaded_of kept block = record { commits = kept; bytes = printed_bytes kept; block = block }

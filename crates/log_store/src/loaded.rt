@@ -65,13 +65,6 @@ pub enum BlockCause {
     TooLarge,
 }
 
-impl BlockCause {
-    /// Whether no object has the version's name.
-    pub(crate) fn is_missing(self) -> bool {
-        matches!(self, BlockCause::NeedsCheckpoint { .. } | BlockCause::Gap)
-    }
-}
-
 /// The first version of a log that isn't kept, and why.
 #[derive(Clone, Copy, Debug, PartialEq, Eq)]
 pub struct Block {

@@ -1,79 +1,63 @@
 // The loading of a log.
-ghost use Rattle.std.specs.Prelude.{◌≡◌, ◌<◌, ◌≤◌, IfOk, length, true};
+ghost use Rattle.std.specs.Prelude.{◌≡◌, ◌<◌, ◌≤◌, [], IfOk, IfSome, None, length, true};
 ghost use Rattle.std.specs.Bool.{OnTrue};
 ghost use Rattle.edge_core.specs.Faults.{Cause};
 ghost use Rattle.edge_core.specs.Objects.{Between};
-ghost use Rattle.log_commit.specs.Names.{folder};
-ghost use Rattle.log_store.specs.Log.{log_in};
-ghost use Rattle.log_store.specs.Reading.{IsListed};
+ghost use Rattle.log_store.specs.Log.{log_in, versions_in};
+ghost use Rattle.log_store.specs.Reading.{loaded_of};
 ghost use Rattle.log_store.specs.Loads.{IsLoaded, Looked};
 ghost use Rattle.log_store.specs.Refusals.{failed_load};
 
+use crate::kept::Kept;
 use crate::loaded::{Block, Loaded};
-use crate::reading::{read_below, version_name};
+use crate::reading::read_on;
 use crate::refusal::LoadRefusal;
-use crate::versions::{before_gap, folder_name, leading, versions_of};
-use edge_core::{Listed, Measured, Name, Segments, Store};
+use crate::versions::{end_named, folder_name, gap, leading, versions_of, with_beginning};
+use edge_core::{Listed, Name, Store};
 use std::alloc::Global;
 
-// The last segments in the folder of a table's log.
-fn listed_names<W: Store>(
+// The versions that are named in the folder of a table's log.
+fn listed_versions<W: Store>(
     alloc: Global,
     store: &mut W,
     location: &Name,
-) -> Result<Segments, LoadRefusal>
+) -> Result<Vec<u64>, LoadRefusal>
     requires { length location.now ≤ 256 }
     ensures looked { Looked (W.objects store.old) (W.objects store.new) (W.alone store.old) (W.alone store.new) }
-    ensures names { IsListed (W.objects store.new) (folder location.now) result }
+    ensures versions { IfOk result (λ versions. IfSome (W.objects store.new) (λ os. versions.items ≡ versions_in location.now os)) }
     ensures cause { Cause (W.faults store.old) (W.faults store.new) (failed_load result) }
 {
     let folder = folder_name(alloc, location)?;
     match store.list(alloc, &folder) {
-        Listed::Names(names) => Ok(names),
+        Listed::Names(names) => Ok(versions_of(alloc, names.items())?),
         Listed::Failed => Err(LoadRefusal::StoreFault),
         Listed::NoMemory => Err(LoadRefusal::NoMemory),
     }
 }
 
-// The log as it was when its folder was listed in this call.
-fn load_once<W: Store>(alloc: Global, store: &mut W, location: &Name) -> Result<Loaded, LoadRefusal>
-    requires { length location.now ≤ 256 }
-    ensures looked { Looked (W.objects store.old) (W.objects store.new) (W.alone store.old) (W.alone store.new) }
-    ensures log { Between (W.objects store.old) (W.objects store.new) (λ os. IfOk result (λ loaded. loaded ≡ log_in location.now os)) }
-    ensures kept { IfOk result IsLoaded }
-    ensures cause { Cause (W.faults store.old) (W.faults store.new) (failed_load result) }
-{
-    let names = listed_names(alloc, store, location)?;
-    let versions = versions_of(alloc, names.items())?;
-    let count = leading(&versions);
-    let loaded = read_below(alloc, store, location, count as u64)?;
-    Ok(before_gap(loaded, &versions, count))
-}
-
-// How often a folder is listed again whose listing lacked a version that was there.
-const MOST_LISTINGS: u32 = 1_000;
-
-// Whether the version is there which a block tells as missing.
-fn has_come<W: Store>(
+// Keeps the versions that a listing named, up to the block. Behind what it lacked it goes on by name, up to the greatest version that it had.
+fn read_listed<W: Store>(
     alloc: Global,
     store: &mut W,
     location: &Name,
-    block: Option<Block>,
-) -> Result<bool, LoadRefusal>
-    requires { length location.now ≤ 256 }
+    kept: &mut Kept,
+    versions: &[u64],
+) -> Result<Option<Block>, LoadRefusal>
+    requires short { length location.now ≤ 256 }
+    requires first { kept.old ≡ [] }
+    requires listed { IfSome (W.objects store.old) (λ os. versions.now ≡ versions_in location.now os) }
     ensures looked { Looked (W.objects store.old) (W.objects store.new) (W.alone store.old) (W.alone store.new) }
+    ensures log { IfSome (W.objects store.old) (λ os. IfOk result (λ block. loaded_of kept.new block ≡ log_in location.now os)) }
+    ensures next { IfOk result (λ block. IfSome block (λ b. b.version ≡ length kept.new)) }
     ensures cause { Cause (W.faults store.old) (W.faults store.new) (failed_load result) }
 {
-    let version = match block {
-        Some(block) if block.cause.is_missing() && block.version < 1 << 63 => block.version,
-        _ => return Ok(false),
-    };
-    let name = version_name(alloc, location, version)?;
-    match store.size(&name) {
-        Measured::Size(_) => Ok(true),
-        Measured::Absent => Ok(false),
-        Measured::Failed => Err(LoadRefusal::StoreFault),
+    let count = leading(versions);
+    let block = read_on(alloc, store, location, kept, count as u64)?;
+    if block.is_some() || count == versions.len() || store.lists_at_once() {
+        return Ok(block.or(gap(versions, count)));
     }
+    let block = read_on(alloc, store, location, kept, end_named(versions))?;
+    Ok(with_beginning(block, versions))
 }
 
 /// The log of the table at `location`, a name of at most 256 bytes, as it was at one moment of this
@@ -81,9 +65,11 @@ fn has_come<W: Store>(
 /// cause, where it or a later one is named in the folder. Commits that others add later aren't read.
 /// A folder that names no version gives no commits and no block.
 ///
-/// A version is told as missing only where it is still absent after a later one was seen. A log
-/// grows by one version after the other, so what a listing of a folder that others write to missed
-/// is there by then, and the folder is listed again.
+/// A version is told as missing only where it is still absent after a later one was seen, and none
+/// is read twice. A log grows by one version after the other, so what a listing of a folder that
+/// others write to lacks is there by then: it is asked for by its name, and so is each after it, up
+/// to the greatest that was listed. What is greater isn't asked for, since others may write faster
+/// than we read.
 ///
 /// `StoreFault` comes where a call of the store failed, and `NoMemory` for want of memory.
 pub fn load<W: Store>(alloc: Global, store: &mut W, location: &Name) -> Result<Loaded, LoadRefusal>
@@ -93,12 +79,8 @@ pub fn load<W: Store>(alloc: Global, store: &mut W, location: &Name) -> Result<L
     ensures kept { IfOk result IsLoaded }
     ensures cause { Cause (W.faults store.old) (W.faults store.new) (failed_load result) }
 {
-    let mut loaded = load_once(alloc, store, location)?;
-    for _again in 0..MOST_LISTINGS {
-        if !has_come(alloc, store, location, loaded.block)? {
-            return Ok(loaded);
-        }
-        loaded = load_once(alloc, store, location)?;
-    }
-    Ok(loaded)
+    let versions = listed_versions(alloc, store, location)?;
+    let mut kept = Kept::new(alloc);
+    let block = read_listed(alloc, store, location, &mut kept, &versions)?;
+    Ok(kept.loaded(block))
 }

@@ -1,15 +1,15 @@
 // Reads the commits of versions from a store.
-ghost use Rattle.std.specs.Prelude.{◌≡◌, ◌<◌, ◌≤◌, ◌+◌, ◌^◌, length, IfOk, IfNone, IfSome, OnErr, OnOk, vec_len};
+ghost use Rattle.std.specs.Prelude.{◌≡◌, ◌<◌, ◌≤◌, ◌+◌, ◌^◌, [], length, max, IfOk, IfNone, IfSome, OnErr, OnOk, vec_len};
 ghost use Rattle.edge_core.specs.Faults.{Cause};
 ghost use Rattle.log_commit.specs.Names.{commit_name};
 ghost use Rattle.log_store.specs.Log.{log_below, text_at};
-ghost use Rattle.log_store.specs.Reading.{AreStored, IsCommitAt, Keeps};
-ghost use Rattle.log_store.specs.Loads.{IsFetched, IsLoaded, Looked};
+ghost use Rattle.log_store.specs.Reading.{AreStored, IsCommitAt, Keeps, loaded_of};
+ghost use Rattle.log_store.specs.Loads.{IsFetched, Looked};
 ghost use Rattle.log_store.specs.Refusals.{failed_load, failed_step};
 ghost use Rattle.std.specs.FinMap as finmap;
 
 use crate::kept::Kept;
-use crate::loaded::{Block, BlockCause, Loaded};
+use crate::loaded::{Block, BlockCause};
 use crate::refusal::{LoadRefusal, Stop};
 use edge_core::{Got, Name, Store};
 use log_actions::Commit;
@@ -125,30 +125,31 @@ fn keep_version<W: Store>(
     kept.keep(alloc, Arc::new(alloc, commit)?)
 }
 
-// What is kept of the versions below n, whose commits are stored.
-pub(crate) fn read_below<W: Store>(
+// Keeps the versions after those that are kept, below an end, up to the first that isn't kept, which is the block.
+pub(crate) fn read_on<W: Store>(
     alloc: Global,
     store: &mut W,
     location: &Name,
-    n: u64,
-) -> Result<Loaded, LoadRefusal>
+    kept: &mut Kept,
+    end: u64,
+) -> Result<Option<Block>, LoadRefusal>
     requires short { length location.now ≤ 256 }
-    requires small { n ≤ 2 ^ 63 }
-    requires stored { IfSome (W.objects store.old) (AreStored location.now n) }
+    requires small { end ≤ 2 ^ 63 }
+    requires first { IfSome (W.objects store.old) (λ os. kept.old ≡ []) }
+    requires stored { IfSome (W.objects store.old) (AreStored location.now end) }
     ensures looked { Looked (W.objects store.old) (W.objects store.new) (W.alone store.old) (W.alone store.new) }
-    ensures log { IfSome (W.objects store.old) (λ os. IfOk result (λ loaded. loaded ≡ log_below location.now os n)) }
-    ensures kept { IfOk result IsLoaded }
-    ensures count { IfOk result (λ loaded. IfNone loaded.block (length loaded.commits ≡ n)) }
+    ensures log { IfSome (W.objects store.old) (λ os. IfOk result (λ block. loaded_of kept.new block ≡ log_below location.now os end)) }
+    ensures next { IfOk result (λ block. IfSome block (λ b. b.version ≡ length kept.new)) }
+    ensures count { IfOk result (λ block. IfNone block (length kept.new ≡ max (length kept.old) end)) }
     ensures cause { Cause (W.faults store.old) (W.faults store.new) (failed_load result) }
 {
     let mut piece = piece_room(alloc)?;
-    let mut kept = Kept::new(alloc);
-    for version in 0..n {
-        match keep_version(alloc, store, location, version, &mut kept, &mut piece) {
+    for version in kept.versions()..end {
+        match keep_version(alloc, store, location, version, kept, &mut piece) {
             Ok(()) => {}
-            Err(Stop::Blocked(cause)) => return Ok(kept.loaded(Some(Block { version, cause }))),
+            Err(Stop::Blocked(cause)) => return Ok(Some(Block { version, cause })),
             Err(Stop::Failed(refusal)) => return Err(refusal),
         }
     }
-    Ok(kept.loaded(None))
+    Ok(None)
 }

@@ -1,12 +1,10 @@
 // The versions that names stand for.
-ghost use Rattle.std.specs.Prelude.{◌≡◌, ◌<◌, ◌≤◌, ◌^◌, IfNone, IfOk, IfSome, filter_map, fold, length, min};
-ghost use Rattle.std.specs.Option.{option_or};
+ghost use Rattle.std.specs.Prelude.{◌≡◌, ◌<◌, ◌≤◌, ◌^◌, IfOk, IfSome, filter_map, fold, length, min, option_map};
 ghost use Rattle.log_commit.specs.Names.{folder, version_of as version_in};
 ghost use Rattle.log_store.specs.Log.{least_of, missing};
 ghost use Rattle.log_store.specs.Reading.{gap_at, leading_from};
-ghost use Rattle.log_store.specs.Loads.{IsLoaded};
 
-use crate::loaded::{Block, BlockCause, Loaded};
+use crate::loaded::{Block, BlockCause};
 use edge_core::{Name, Segment};
 use log_commit::version_of;
 use std::alloc::{AllocError, Global};
@@ -71,7 +69,7 @@ fn cause_of(versions: &[u64], count: usize) -> BlockCause
 }
 
 // The block after so many versions in front, where later ones are named.
-fn gap(versions: &[u64], count: usize) -> Option<Block>
+pub(crate) fn gap(versions: &[u64], count: usize) -> Option<Block>
     ensures { result ≡ gap_at versions.now count }
 {
     if count < versions.len() {
@@ -84,17 +82,28 @@ fn gap(versions: &[u64], count: usize) -> Option<Block>
     }
 }
 
-// What was loaded of so many versions in front, with the block after it.
-pub(crate) fn before_gap(loaded: Loaded, versions: &[u64], count: usize) -> Loaded
-    requires kept { IsLoaded loaded }
-    requires count { IfNone loaded.block (length loaded.commits ≡ count) }
-    ensures value { result ≡ record { commits = loaded.commits; bytes = loaded.bytes; block = option_or loaded.block (gap_at versions.now count) } }
-    ensures kept { IsLoaded result }
+// The version after the last that is named, which is the greatest, since names are listed in byte order. Versions are below 2^63.
+pub(crate) fn end_named(versions: &[u64]) -> u64
+    ensures { result ≤ 2 ^ 63 }
 {
-    Loaded {
-        commits: loaded.commits,
-        bytes: loaded.bytes,
-        block: loaded.block.or(gap(versions, count)),
+    match versions.last() {
+        Some(last) => (*last).min((1 << 63) - 1) + 1,
+        None => 0,
+    }
+}
+
+// A block with the cause that a log's beginning has where version 0 is missing.
+pub(crate) fn with_beginning(block: Option<Block>, versions: &[u64]) -> Option<Block>
+    ensures { option_map (λ b. b.version) result ≡ option_map (λ b. b.version) block }
+{
+    match block {
+        Some(block) if block.version == 0 && matches!(block.cause, BlockCause::Gap) => Some(
+            Block {
+                version: 0,
+                cause: cause_of(versions, 0),
+            },
+        ),
+        _ => block,
     }
 }
 

@@ -1,35 +1,15 @@
-use Rattle.std.proofs.Common.{arith, rules, tests}
-use Rattle.edge_core.proofs.Growth.{Between-on, Grows-itself}
+use Rattle.std.proofs.Common.{◌≡◌, sym, subst}
+use Rattle.std.specs.Prelude.{IfSome}
+use Rattle.log_store.specs.Log.{log_in}
 use Rattle.log_store.proofs.Growing.{looked_more}
 use Rattle.log_store.proofs.log.load.Goals as goal
 
-pub returns-in_err-has_come-clause-looked : goal.returns-in_err-has_come-clause-looked
-returns-in_err-has_come-clause-looked g c = looked_more _ _ _ _ _ _ c.loop-again.invariant.looked c.has_come.ensures.looked
+pub returns-in_err-block-clause-looked : goal.returns-in_err-block-clause-looked
+returns-in_err-block-clause-looked g c = looked_more _ _ _ _ _ _ c.listed_versions.ensures.looked c.read_listed.ensures.looked
 
-pub returns-then-not-branch-clause-looked : goal.returns-then-not-branch-clause-looked
-returns-then-not-branch-clause-looked g c = looked_more _ _ _ _ _ _ c.loop-again.invariant.looked c.has_come.ensures.looked
+pub returns-clause-looked : goal.returns-clause-looked
+returns-clause-looked g c = looked_more _ _ _ _ _ _ c.listed_versions.ensures.looked c.read_listed.ensures.looked
 
-pub returns-then-not-branch-clause-log : goal.returns-then-not-branch-clause-log
-returns-then-not-branch-clause-log g c =
-    Between-on _ _ _ _ _ (Grows-itself _) c.loop-again.invariant.log c.has_come.ensures.looked.grows
-
-pub returns-in_err-loaded-2-clause-looked : goal.returns-in_err-loaded-2-clause-looked
-returns-in_err-loaded-2-clause-looked g c =
-    looked_more _ _ _ _ _ _ (looked_more _ _ _ _ _ _ c.loop-again.invariant.looked c.has_come.ensures.looked) c.load_once-in-loop-again.ensures.looked
-
-pub returns-in_err-loaded-2-clause-log : goal.returns-in_err-loaded-2-clause-log
-returns-in_err-loaded-2-clause-log g c =
-    let come = looked_more _ _ _ _ _ _ c.loop-again.invariant.looked c.has_come.ensures.looked in
-    let all = looked_more _ _ _ _ _ _ come c.load_once-in-loop-again.ensures.looked in
-    (_, all.grows, Grows-itself _, search (rules, tests))
-
-pub loop-again-preserved : goal.loop-again-preserved
-loop-again-preserved g c =
-    let l = c.loop-again.invariant in
-    let come = looked_more _ _ _ _ _ _ l.looked c.has_come.ensures.looked in
-    record {
-      looked = looked_more _ _ _ _ _ _ come c.load_once-in-loop-again.ensures.looked;
-      later = omega (arith, l.later, c.has_come.ensures.cause.later, c.load_once-in-loop-again.ensures.cause.later);
-      log = Between-on _ _ _ _ _ come.grows c.in_ok-loaded-2.ensures.log (Grows-itself _);
-      kept = c.in_ok-loaded-2.ensures.kept;
-    }
+pub returns-clause-log : goal.returns-clause-log
+returns-clause-log g c =
+    (_, c.listed_versions.ensures.looked.grows, c.read_listed.ensures.looked.grows, subst (λ l. IfSome (g.W.Store.objects c.listed_versions.new.store) (λ os. l ≡ log_in c.args.location.now os)) (sym c.loaded.ensures.value) c.in_ok-block.ensures.log)
