@@ -1,4 +1,5 @@
 pub mod Changes
+pub mod Borrowed
 pub mod Feed
 pub mod Known
 pub mod Laws

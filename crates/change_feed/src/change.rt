@@ -17,25 +17,32 @@ pub enum ChangeKind {
     Remove,
 }
 
-/// A change of the feed, borrowed of the commit that it came with.
+/// The action by which a change came, borrowed of its commit.
+#[derive(Clone, Copy)]
+pub enum ChangedAction<'a> {
+    /// A file came in.
+    Add(&'a AddFile),
+    /// A file has the changed rows themselves.
+    Cdc(&'a CdcFile),
+    /// A file went.
+    Remove(&'a RemoveFile),
+}
+
+/// A change of the feed: the action by which it came, and the version and time with which it came.
 #[derive(Drop)]
 pub struct Change<'a> {
-    kind: ChangeKind,
-    path: &'a Text,
-    values: Option<&'a Pairs>,
-    size: FileSize,
-    stats: Option<&'a Option<Text>>,
+    action: ChangedAction<'a>,
     version: Version,
     time: i64,
 }
 
 impl<'a> Model for Change<'a> {
-    ghost use Rattle.std.specs.Prelude.{[], None, option_map, unwrap_or};
     ghost use Rattle.change_feed.specs.Changes.{ChangedFile};
+    ghost use Rattle.change_feed.specs.Borrowed.{changed_by};
 
     ghost Value = { ChangedFile };
 
-    ghost view = { λ c. record { kind = c.kind; path = c.path.now; values = unwrap_or (option_map (λ v. v.now) c.values) []; size = c.size; stats = unwrap_or (option_map (λ s. s.now) c.stats) None; version = c.version; time = c.time } };
+    ghost view = { λ c. changed_by c.version c.time c.action };
 }
 
 // The size that is said, or 0.
@@ -50,18 +57,16 @@ fn size_or_zero(size: Option<FileSize>) -> FileSize
 }
 
 impl<'a> Change<'a> {
+    ghost use Rattle.change_feed.specs.Borrowed.{changed_by};
     ghost use Rattle.change_feed.specs.Changes.{added_file, removed_file, row_file};
 
     // A file of changed rows.
     pub(crate) fn of_rows(version: Version, time: i64, file: &'a CdcFile) -> Change<'a>
         ensures { result ≡ row_file version time file.now }
     {
+        let action = ChangedAction::Cdc(file);
         Change {
-            kind: ChangeKind::Cdf,
-            path: &file.path,
-            values: Some(&file.values),
-            size: file.size,
-            stats: None,
+            action,
             version,
             time,
         }
@@ -71,12 +76,9 @@ impl<'a> Change<'a> {
     pub(crate) fn of_add(version: Version, time: i64, file: &'a AddFile) -> Change<'a>
         ensures { result ≡ added_file version time file.now }
     {
+        let action = ChangedAction::Add(file);
         Change {
-            kind: ChangeKind::Add,
-            path: &file.path,
-            values: Some(&file.values),
-            size: file.size,
-            stats: Some(&file.stats),
+            action,
             version,
             time,
         }
@@ -86,29 +88,41 @@ impl<'a> Change<'a> {
     pub(crate) fn of_remove(version: Version, time: i64, file: &'a RemoveFile) -> Change<'a>
         ensures { result ≡ removed_file version time file.now }
     {
+        let action = ChangedAction::Remove(file);
         Change {
-            kind: ChangeKind::Remove,
-            path: &file.path,
-            values: file.values.as_ref(),
-            size: size_or_zero(file.size),
-            stats: None,
+            action,
             version,
             time,
         }
+    }
+
+    /// The action by which it came, as its commit has it.
+    pub fn action(&self) -> ChangedAction<'a>
+        ensures { self.now ≡ changed_by self.now.version self.now.time result }
+    {
+        self.action
     }
 
     /// What was done with the file.
     pub fn kind(&self) -> ChangeKind
         ensures { result ≡ self.now.kind }
     {
-        self.kind
+        match self.action {
+            ChangedAction::Add(_) => ChangeKind::Add,
+            ChangedAction::Cdc(_) => ChangeKind::Cdf,
+            ChangedAction::Remove(_) => ChangeKind::Remove,
+        }
     }
 
     /// `path`, as it is spelt in the log.
     pub fn path(&self) -> &Text
         ensures { result.now ≡ self.now.path }
     {
-        self.path
+        match self.action {
+            ChangedAction::Add(file) => &file.path,
+            ChangedAction::Cdc(file) => &file.path,
+            ChangedAction::Remove(file) => &file.path,
+        }
     }
 
     /// `partitionValues`, texts or nulls by name of column; none where a remove doesn't say them, for
@@ -117,14 +131,22 @@ impl<'a> Change<'a> {
         requires { none.now ≡ [] }
         ensures { result.now ≡ self.now.values }
     {
-        self.values.unwrap_or(none)
+        match self.action {
+            ChangedAction::Add(file) => &file.values,
+            ChangedAction::Cdc(file) => &file.values,
+            ChangedAction::Remove(file) => file.values.as_ref().unwrap_or(none),
+        }
     }
 
     /// `size` in bytes, 0 where a remove doesn't say it.
     pub fn size(&self) -> FileSize
         ensures { result ≡ self.now.size }
     {
-        self.size
+        match self.action {
+            ChangedAction::Add(file) => file.size,
+            ChangedAction::Cdc(file) => file.size,
+            ChangedAction::Remove(file) => size_or_zero(file.size),
+        }
     }
 
     /// `stats`, the file's statistics as a text of JSON. Only an add has them; for the others `none` is
@@ -133,7 +155,10 @@ impl<'a> Change<'a> {
         requires { none.now ≡ None }
         ensures { result.now ≡ self.now.stats }
     {
-        self.stats.unwrap_or(none)
+        match self.action {
+            ChangedAction::Add(file) => &file.stats,
+            ChangedAction::Cdc(_) | ChangedAction::Remove(_) => none,
+        }
     }
 
     /// The version that it came with.

@@ -8,7 +8,7 @@ mod feed;
 mod laws;
 mod refusal;
 
-pub use change::{Change, ChangeKind};
+pub use change::{Change, ChangeKind, ChangedAction};
 pub use feed::changes;
 pub use laws::{cuts_join, later_commits_leave, ranges_join, versions_stand_alone};
 pub use refusal::FeedRefusal;
