@@ -1,6 +1,8 @@
 pub mod Bound
 pub mod Grammar
 pub mod Kinds
+pub mod Rows
+pub mod Shown
 pub mod Laws
 pub mod Listing
 pub mod Tree

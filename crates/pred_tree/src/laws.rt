@@ -1,6 +1,7 @@
 // Laws of predicates. Each function does nothing when it is called.
 ghost use Rattle.pred_tree.specs.Laws.{FollowsTable, JoinedListNoMore, LevelsAreDepth};
-ghost use Rattle.pred_tree.specs.Laws.{NoneListsAll, NotTwiceIsSame, RestsOnNamed};
+ghost use Rattle.pred_tree.specs.Laws.{NoneListsAll, NotTwiceIsSame, PruningIsSound, RestsOnNamed};
+ghost use Rattle.pred_tree.specs.Laws.{ShownAreListed, ShownRestsOnNamed, ShownRowsSatisfy};
 
 /// A law: files that hold the same at each column that a predicate names have one truth. It does
 /// nothing when it is called.
@@ -34,4 +35,27 @@ pub fn classes_follow_the_table()
 /// leaf from the outer one counted. It does nothing when it is called.
 pub fn levels_are_depth()
     ensures { LevelsAreDepth }
+{}
+
+/// A law: what a file's partition values say of a predicate is so of each of its rows. So a file that is left out has no row that
+/// satisfies the predicate, where each row has in each partition column the value that its text stands for, and null where the text isn't
+/// read, and the predicate doesn't ask whether such a one is null. It does nothing when it is called.
+pub fn pruning_is_sound()
+    ensures { PruningIsSound }
+{}
+
+/// A law: what a text shows of a table that is shared in part is listed by the same text. It does nothing when it is called.
+pub fn shown_files_are_listed()
+    ensures { ShownAreListed }
+{}
+
+/// A law: files that hold the same at each column that the predicate names are shown alike. It does nothing when it is called.
+pub fn shown_files_rest_on_named_columns()
+    ensures { ShownRestsOnNamed }
+{}
+
+/// A law: each row of a file that is shown satisfies the predicate, by what `pruning_is_sound` says of rows. It does nothing when it is
+/// called.
+pub fn shown_rows_satisfy()
+    ensures { ShownRowsSatisfy }
 {}

@@ -8,11 +8,13 @@ mod kinds;
 pub mod laws;
 mod look;
 mod reading;
+mod shown;
 mod tree;
 mod truth;
 
 pub use bound::{BoundPred, bind};
 pub use filter::Filter;
 pub use reading::pred_of;
+pub use shown::Shown;
 pub use tree::{Comparison, Leaf, Pred};
 pub use truth::Truth;

@@ -1,6 +1,7 @@
 // Kleene's three truth values, and comparisons of typed values.
 ghost use Rattle.std.specs.Prelude.{◌≡◌, option_copied};
 ghost use Rattle.part_values.specs.Typed.{seen};
+ghost use Rattle.pred_tree.specs.Shown.{is_true};
 ghost use Rattle.pred_tree.specs.Truth as spec;
 
 use crate::Comparison;
@@ -50,6 +51,13 @@ impl Truth {
             Truth::False => Truth::True,
             Truth::Unknown => Truth::Unknown,
         }
+    }
+
+    /// Whether it holds for sure.
+    pub fn is_true(self) -> bool
+        ensures { result ≡ is_true self }
+    {
+        matches!(self, Truth::True)
     }
 
     /// Whether a file of that truth is listed: each is, unless the predicate is false of it.
