@@ -30,10 +30,10 @@ use Rattle.commit_check.proofs.Still.{Free, actions_split, any_or, later, none_l
 
 -- ---- no conflict
 
-some_conflict : (c : Conflict) → Some c ≡ None → ⊥
+pub some_conflict : (c : Conflict) → Some c ≡ None → ⊥
 some_conflict c e = cc
 
-neither : (a b : Option Conflict) → option_or a b ≡ None → (a ≡ None) × (b ≡ None)
+pub neither : (a b : Option Conflict) → option_or a b ≡ None → (a ≡ None) × (b ≡ None)
 neither None b e = (refl, e)
 neither (Some c) b e = absurd (some_conflict c e)
 
@@ -44,7 +44,7 @@ actions_or xs (Err f) = xs
 no_ok : (e : Conflict) (xs : List Action) → Err e ≡ Ok xs → ⊥
 no_ok e xs h = cc
 
-no_conflict : (o : Option Conflict) (all commit : List Action) → unless_conflict o all ≡ Ok commit → (o ≡ None) × (commit ≡ all)
+pub no_conflict : (o : Option Conflict) (all commit : List Action) → unless_conflict o all ≡ Ok commit → (o ≡ None) × (commit ≡ all)
 no_conflict None all commit is = (refl, sym (ap (actions_or all) is))
 no_conflict (Some c) all commit is = absurd (no_ok c commit is)
 

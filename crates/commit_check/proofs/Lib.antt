@@ -6,6 +6,7 @@ pub mod Chosen
 pub mod Entries
 pub mod Still
 pub mod Lawfulness
+pub mod Winning
 pub mod Presence
 pub mod Trial
 pub mod Order

@@ -1,5 +1,5 @@
 // Laws of admission. Each function does nothing when it is called.
-ghost use Rattle.commit_check.specs.Laws.{AdmittedIsLawful, ReadStillHolds};
+ghost use Rattle.commit_check.specs.Laws.{AdmittedIsLawful, ReadStillHolds, RetriesAreRefused};
 
 /// A law: what is admitted the log takes. It begins with its only commitInfo, has no deletion
 /// vector, and removes only paths that are live at the head, and no data where files may be added
@@ -12,4 +12,10 @@ pub fn admitted_is_lawful()
 /// same at the head as at the version that was read. It does nothing when it is called.
 pub fn read_still_holds()
     ensures { ReadStillHolds }
+{}
+
+/// A law: an offer that was committed is refused when it is made again with the same version read, whatever came since, where it has
+/// any action but change files. It does nothing when it is called.
+pub fn retries_are_refused()
+    ensures { RetriesAreRefused }
 {}

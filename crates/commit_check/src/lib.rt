@@ -14,5 +14,5 @@ mod written;
 
 pub use admission::{admit, next_version};
 pub use conflict::{Conflict, NotAdmitted};
-pub use laws::{admitted_is_lawful, read_still_holds};
+pub use laws::{admitted_is_lawful, read_still_holds, retries_are_refused};
 pub use offer::{Offer, Reads};
