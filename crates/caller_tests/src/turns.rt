@@ -27,6 +27,8 @@ impl Kept for Page {
 
     ghost history = { λ page. page.lines.items };
 
+    ghost may = { λ _ _. Unit {0} };
+
     ghost rests = { λ _. true };
 
     fn count(&self) -> u64 {
@@ -142,6 +144,7 @@ fn write_a_page<R: Threads + Wait + Sync>(
     let (cell, mut passes) = TurnCell::new(alloc, page, callers)?;
     let passes = passes.as_mut_slice();
     add_all(rt, &cell, passes, lines);
+    cell.one_history(passes);
     Ok(finds_a_whole_page(rt, &cell, passes, callers, lines))
 }
 

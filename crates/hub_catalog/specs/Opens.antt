@@ -1,6 +1,6 @@
 -- What a hub is opened with.
 use Rattle.std.specs.Prelude.{◌≡◌, ℕ, Bool, true, false, List, [], ◌∷◌, ◌++◌, Option, Some, Result, Ok, Err, ⊤, IfSome, length, map}
-use Rattle.atomic_table.specs.Seated.{TableId}
+use Rattle.turn_cell.specs.Passes.{CellId}
 use Rattle.edge_core.specs.Objects.{Lacks, Objects}
 use Rattle.log_store.specs.declared.refusal.LoadRefusal.{LoadRefusal}
 use Rattle.log_store.specs.declared.refusal.LoadRefusal.TheVariants as load
@@ -76,6 +76,6 @@ ReadsBook (Err r) old new = (found : List Step) × AreSteps old new 0 found × I
 
 -- The passes have seen the history of the records' edits, up to the first record that is absent. A refusal tells of the first
 -- record that is none, or whose edit the catalogue refuses after those of the records before it.
-abbrev pub OpensAs : Result (TableId × Vec P) OpenRefusal → ℕ → Option Objects → Option Objects → Type 0
+abbrev pub OpensAs : Result (CellId × Vec P) OpenRefusal → ℕ → Option Objects → Option Objects → Type 0
 OpensAs (Ok made) callers old new = (length made.1.items ≡ callers) × ((found : List Step) × AllFresh made.0 (first_history found) 0 made.1.items × AreSteps old new 0 found × Lacks (record_name_of (length found)) new)
 OpensAs (Err r) callers old new = (found : List Step) × AreSteps old new 0 found × IsNoOpening r (length found) new (map edit_in found)

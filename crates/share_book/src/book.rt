@@ -6,7 +6,7 @@ ghost use Rattle.share_catalog.specs.CatalogState.{unless};
 ghost use Rattle.log_actions.specs.CommitTexts.{commit_text};
 ghost use Rattle.share_book.specs.History as history;
 ghost use Rattle.share_book.specs.History.{caller_of, entry, open_on, pending, starts, table_on};
-ghost use Rattle.share_book.specs.Legal.{Follows, IsKeptLog, IsLegal, TakesCommit, There, TakesLog, has_log, locations_of, log_at};
+ghost use Rattle.share_book.specs.Legal.{Follows, IsKeptLog, IsLegal, May, TakesCommit, There, TakesLog, has_log, locations_of, log_at};
 ghost use Rattle.log_replay.specs.Times.{marks_in};
 ghost use Rattle.share_book.specs.Looked.{commits_by, found_by, log_by, table_by};
 ghost use Rattle.share_book.specs.Bases.{CanReplay, FilesStand, IsStateIn, MakesFound, MakesHead, MakesVersion};
@@ -584,6 +584,8 @@ impl Kept for Book {
     ghost caller = { caller_of };
 
     ghost history = { λ b. b.past.history };
+
+    ghost may = { May };
 
     ghost rests = { rests };
 

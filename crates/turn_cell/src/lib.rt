@@ -12,4 +12,4 @@ mod view;
 
 pub use cell::TurnCell;
 pub use kept::Kept;
-pub use pass::{Pass, Turn};
+pub use pass::{Note, Pass, Turn};

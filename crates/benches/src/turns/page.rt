@@ -17,6 +17,8 @@ impl Kept for Page {
 
     ghost history = { λ page. page.entries.items };
 
+    ghost may = { λ _ _. Unit {0} };
+
     ghost rests = { λ _. true };
 
     fn count(&self) -> u64 {

@@ -1,6 +1,12 @@
+use denote.Param.Send.{sendable}
+use Rattle.std.proofs.Crossing.{crosses}
+use Rattle.step_count.proofs.Count.TheLaws.TheKnot as count
 use Rattle.share_pool.specs.Desks.{HasPass}
 use Rattle.caller_tests.proofs.Pushed.{all_two}
 use Rattle.caller_tests.proofs.workers.end_at.Goals as goal
+
+pub serve_all-requires-send-W : goal.serve_all-requires-send-W
+serve_all-requires-send-W g c κs within = search (sendable, crosses, count.send-Count) depth 40 fits 20000
 
 pub serve_all-requires-clause-ready : goal.serve_all-requires-clause-ready
 serve_all-requires-clause-ready g c k d =
