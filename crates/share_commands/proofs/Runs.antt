@@ -96,7 +96,7 @@ query_then location old mid new text end tells m = subst (λ o. QueryEnds locati
 stdio_noted : (old mid : Outside) (noted : Option (List ℕ)) (faults : ℕ) (end : End) → IsStdio old mid end → IsStdio old (record mid { noted = noted; note_faults = faults }) end
 stdio_noted old mid noted faults end (inl (why, is, u)) = inl (why, is, record { reason = u.reason; left = u.left; held = u.held; coming = u.coming; same = u.same })
 stdio_noted old mid noted faults end (inr (e, is, (config, s))) =
-    inr (e, is, (config, record { pass = s.pass; begun = s.begun; looked = s.looked; configured = s.configured; opened = s.opened; last = s.last; grew = s.grew; session = s.session; cause = s.cause }))
+    inr (e, is, (config, record { pass = s.pass; begun = s.begun; looked = s.looked; configured = s.configured; opened = s.opened; last = s.last; grew = s.grew; known = s.known; session = s.session; cause = s.cause }))
 
 stdio_then : (old mid new : Outside) (text : List ℕ) (end : End) → Tells mid new text → IsStdio old mid end → IsStdio old new end
 stdio_then old mid new text end tells m = subst (λ o. IsStdio old o end) (sym tells.rest) (stdio_noted old mid new.noted new.note_faults end m)

@@ -4,7 +4,8 @@ use Rattle.std.specs.Prelude.{IfOk, IfSome, nat_le, option_and_then, if◌then�
 use Rattle.std.specs.FinMap as map
 use Rattle.std.proofs.lemmas.Bool.{le-leb}
 use Rattle.std.proofs.lemmas.Bool.Decides.{nat_tests}
-use Rattle.atomic_table.specs.Seated.{TableId}
+use Rattle.turn_cell.specs.Entries.{IsHistory}
+use Rattle.turn_cell.specs.Passes.{CellId}
 use Rattle.edge_core.specs.Faults.{Cause, Rose}
 use Rattle.edge_core.specs.Objects.{Objects, Grows, Lacks}
 use Rattle.edge_core.proofs.Growth.{Grows-itself, Grows-on}
@@ -18,6 +19,8 @@ use Rattle.catalog_log.specs.RecordNames.{record_name_of}
 use Rattle.share_config.specs.Configuration.{config_in}
 use Rattle.share_config.specs.declared.config.Config.{Config}
 use Rattle.share_book.specs.declared.entry.Entry.{Entry}
+use Rattle.share_book.specs.History.{caller_of}
+use Rattle.share_book.specs.Legal.{May}
 use Rattle.hub_calls.specs.Calls.{P}
 use Rattle.hub_catalog.specs.CatalogCalls.{Step}
 use Rattle.hub_catalog.specs.Edits.{AreSteps}
@@ -107,24 +110,29 @@ hub_reason (refusal.Edit number fault) config old mid new before between now fir
 hub_reason refusal.StoreFault config old mid new before between now first last found le cause opens = later_rose before between now le cause.rose
 hub_reason refusal.NoMemory config old mid new before between now first last found le cause opens = tt
 
+-- what the first pass knows of the history with which it was made
+pub known_first : (cell : CellId) (h : List Entry) (first : P) (callers : ℕ) → first ≡ fresh cell 0 h → cell.callers ≡ callers → IsHistory caller_of May first.cell.callers first.seen → IsHistory caller_of May callers h
+known_first cell h first callers is are known =
+    subst (λ (k : ℕ). IsHistory caller_of May k h) are (subst (λ (p : P). IsHistory caller_of May p.cell.callers p.seen) is known)
+
 -- the passes of a hub that was opened are new
-pub opens_for : (cell : TableId) (found : List Step) (passes : List P) (callers : ℕ) (old mid new : Option Objects) → length passes ≡ callers → AllFresh cell (first_history found) 0 passes → Grows old mid → AreSteps mid new 0 found → Lacks (record_name_of (length found)) new
-    → OpensFor callers cell passes old new
-opens_for cell found passes callers old mid new count all grows steps lacks =
-    record { count = count; found = found; begin = all; steps = steps_wider old mid new new 0 found grows (Grows-itself new) steps; last = lacks }
+pub opens_for : (cell : CellId) (found : List Step) (passes : List P) (callers : ℕ) (old mid new : Option Objects) → length passes ≡ callers → cell.callers ≡ callers → AllFresh cell (first_history found) 0 passes → IsHistory caller_of May callers (first_history found)
+    → Grows old mid → AreSteps mid new 0 found → Lacks (record_name_of (length found)) new → OpensFor callers cell passes old new
+opens_for cell found passes callers old mid new count are all known grows steps lacks =
+    record { count = count; callers_are = are; found = found; begin = all; known = known; steps = steps_wider old mid new new 0 found grows (Grows-itself new) steps; last = lacks }
 
 -- one caller's pass is
-pub opens_one : (cell : TableId) (passes : List P) (pass : P) (old new : Option Objects) → passes ≡ pass ∷ [] → OpensFor 1 cell passes old new → Opens pass old new
+pub opens_one : (cell : CellId) (passes : List P) (pass : P) (old new : Option Objects) → passes ≡ pass ∷ [] → OpensFor 1 cell passes old new → Opens pass old new
 opens_one cell passes pass old new one opens =
     let is : pass ≡ fresh cell 0 (first_history opens.found) = (subst (AllFresh cell (first_history opens.found) 0) one opens.begin).0 in
-    record { found = opens.found; begins = subst (λ c. pass ≡ fresh c 0 (first_history opens.found)) (sym (ap (λ p. p.cell) is)) is; steps = opens.steps; last = opens.last }
+    record { found = opens.found; one = ap (λ (p : P). p.cell.callers) is ∙ opens.callers_are; begins = subst (λ c. pass ≡ fresh c 0 (first_history opens.found)) (sym (ap (λ p. p.cell) is)) is; steps = opens.steps; last = opens.last }
 
 pub one_of : (passes : List P) → length passes ≡ 1 → (pass : P) × (passes ≡ pass ∷ [])
 one_of [] count = absurd cc
 one_of (p ∷ []) count = (p, refl)
 one_of (p ∷ q ∷ ps) count = absurd (omega (arith, count))
 
-pub idle_one : (cell : TableId) (history : List Entry) (passes : List P) (pass : P) → passes ≡ pass ∷ [] → AllFresh cell history 0 passes → (pass.cell ≡ cell) × (pass.holds ≡ false)
+pub idle_one : (cell : CellId) (history : List Entry) (passes : List P) (pass : P) → passes ≡ pass ∷ [] → AllFresh cell history 0 passes → (pass.cell ≡ cell) × (pass.holds ≡ false)
 idle_one cell history passes pass one all =
     let is : pass ≡ fresh cell 0 history = (subst (AllFresh cell history 0) one all).0 in
     (ap (λ p. p.cell) is, ap (λ p. p.holds) is)
@@ -189,6 +197,7 @@ served_runs config pass e old mid new looks found opens serves = record {
         opened = opens;
         last = serves.last;
         grew = serves.grew;
+        known = subst (λ (k : ℕ). IsHistory caller_of May k serves.last.seen) (ap (λ (c : CellId). c.callers) serves.grew.pass.cell ∙ opens.one) serves.known;
         session = subst (λ o. IsSession (server_of config) o.left (side o.coming (hold pass (shelf_of mid)) o.held) (side new.coming (hold serves.last (shelf_of new)) new.held) e) looks.rest serves.session;
         cause = cause_before e old.read_faults new.read_faults old.write_faults new.write_faults old.objects mid.objects old.store_faults mid.store_faults new.store_faults looks.looked.grows looks.later
             (subst (λ o. HasCause e o.read_faults new.read_faults o.write_faults new.write_faults mid.objects mid.store_faults new.store_faults) looks.rest serves.cause);

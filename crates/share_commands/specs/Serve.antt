@@ -1,6 +1,7 @@
 -- What `serve` does: a server is opened over the store, and workers serve the connections that come to the port of the words, each at a desk.
-use Rattle.std.specs.Prelude.{◌≡◌, ◌⊎◌, ◌<◌, ◌≤◌, ℕ, Bool, List, drop, length, map, min, take, Option, None, Some, slice_index_or}
-use Rattle.atomic_table.specs.Seated.{TableId}
+use Rattle.std.specs.Prelude.{◌≡◌, ◌⊎◌, ◌<◌, ◌≤◌, ℕ, Bool, List, drop, length, map, max, min, take, Option, None, Some, slice_index_or}
+use mathlib.Core.List.{IsPrefix}
+use Rattle.turn_cell.specs.Passes.{CellId}
 use Rattle.edge_core.specs.Faults.{Rose}
 use Rattle.edge_core.specs.Lines.{ClosedLine}
 use Rattle.edge_core.specs.Objects.{Lacks, Objects}
@@ -10,7 +11,9 @@ use Rattle.share_config.specs.declared.config.Config.{Config}
 use Rattle.hub_catalog.specs.CatalogCalls.{Step}
 use Rattle.hub_catalog.specs.Edits.{AreSteps}
 use Rattle.hub_catalog.specs.Opens.{first_history}
+use Rattle.share_book.specs.declared.entry.Entry.{Entry}
 use Rattle.share_pool.specs.Desks.{DeskWorks, all_end}
+use Rattle.share_pool.specs.OneHistory.{OneAt}
 use Rattle.share_pool.specs.declared.desk.Desk.{Desk}
 use Rattle.share_pool.specs.declared.desk.ServeEnd.{ServeEnd}
 use Rattle.share_pool.specs.declared.desk.ServeEnd.TheVariants as serve_end
@@ -68,15 +71,20 @@ module _ {N W C L : Type 0} (coming : N → Option (List (List ℕ))) (closed : 
       AllWait workers old new × ((i : ℕ) × (i < workers) × ((d : Desk N W C L) → Rose (failed (slice_index_or old i d).door) (failed (slice_index_or new i d).door)))
 
   -- The worker of that number had the place of its number at the hub, which has seen the edits that the hub was opened with, and a door that listens at the port, and did its work from there.
-  abbrev pub WorksAt : TableId → Config → List Step → (port i : ℕ) → (old new : Desk N W C L) → Type 0
+  abbrev pub WorksAt : CellId → Config → List Step → (port i : ℕ) → (old new : Desk N W C L) → Type 0
   WorksAt hub config found port i old new =
       (ready : Desk N W C L) × Waits old ready × (ready.pass ≡ Some (fresh hub i (first_history found))) × (listens ready.door ≡ Some port) × DeskWorks coming closed failed listens moments objects alone faults hub (server_of config) ready new
 
-  -- So many workers served what came to the port, each at its desk, all over one hub.
+  -- So many workers served what came to the port, each at its desk, all over one hub, and there is one history.
   pub record WorkersServe (config : Config) (found : List Step) (port workers : ℕ) (e : ServeEnd) (old new : List (Desk N W C L)) : Type 0 where
-    pub hub : TableId
+    pub hub : CellId
     pub each : (i : ℕ) (d : Desk N W C L) → i < workers → WorksAt hub config found port i (slice_index_or old i d) (slice_index_or new i d)
     pub end : e ≡ all_end (map (λ d. d.end) (take workers new))
+    pub history : List Entry
+    -- It begins with the edits that the hub was opened with.
+    pub begins : IsPrefix (first_history found) history
+    -- It is legal and by the workers alone (with none by the one caller who found those edits), and each worker stands in it.
+    pub one : OneAt (max 1 workers) (take workers new) history
 
   -- why workers ended so
   abbrev pub IsServing : Config → List Step → (port workers : ℕ) → ServeEnd → (old new : List (Desk N W C L)) → Type 0

@@ -18,7 +18,10 @@ use Rattle.share_serve.specs.Sides.{hold, shelf, side}
 use Rattle.share_serve.specs.Turns.{Grew, Shelf}
 use Rattle.share_serve.specs.declared.serve.SessionEnd.{SessionEnd}
 use Rattle.share_serve.specs.declared.serve.SessionEnd.TheVariants as session_end
+use Rattle.turn_cell.specs.Entries.{IsHistory}
 use Rattle.turn_cell.specs.Passes.{fresh}
+use Rattle.share_book.specs.History.{caller_of}
+use Rattle.share_book.specs.Legal.{May}
 use Rattle.share_commands.specs.Configuration.{config_at}
 use Rattle.query_command.specs.Outside.{Outside}
 use Rattle.query_command.specs.declared.ends.End.{End}
@@ -51,9 +54,10 @@ end_after (session_end.NoMemory served) = ends.NoMemory
 abbrev pub Configures : Option Config → Option Objects → Option Objects → Type 0
 Configures config old new = Between old new (λ objects. config_at objects ≡ config)
 
--- The caller's pass has seen the edits of the catalogue's records, up to the first record that was absent.
+-- The hub has one caller, whose pass has seen the edits of the catalogue's records, up to the first record that was absent.
 pub record Opens (pass : P) (old new : Option Objects) : Type 0 where
   pub found : List Step
+  pub one : pass.cell.callers ≡ 1
   pub begins : pass ≡ fresh pass.cell 0 (first_history found)
   pub steps : AreSteps old new 0 found
   pub last : Lacks (record_name_of (length found)) new
@@ -89,7 +93,7 @@ abbrev pub shelf_of : Outside → Shelf
 shelf_of o = shelf o.objects o.alone o.store_faults
 
 -- One session was served over the input and the output, by the configuration in the store and over a hub that was opened in this run.
--- Nothing was stored before it began. Its end has its cause in this run.
+-- Nothing was stored before it began. Its end has its cause in this run. In what it had seen at its end each entry may stand after those before it, and is its own caller's.
 pub record IsServed (config : Config) (e : SessionEnd) (old new : Outside) : Type 0 where
   pub pass : P
   pub begun : Shelf
@@ -98,6 +102,7 @@ pub record IsServed (config : Config) (e : SessionEnd) (old new : Outside) : Typ
   pub opened : Opens pass old.objects begun.objects
   pub last : P
   pub grew : Grew (hold pass begun) (hold last (shelf_of new))
+  pub known : IsHistory caller_of May 1 last.seen
   pub session : IsSession (server_of config) old.left (side old.coming (hold pass begun) old.held) (side new.coming (hold last (shelf_of new)) new.held) e
   pub cause : HasCause e old.read_faults new.read_faults old.write_faults new.write_faults old.objects old.store_faults new.store_faults
 

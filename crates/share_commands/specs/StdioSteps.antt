@@ -1,6 +1,6 @@
 -- What the steps of `stdio` do, one after another.
 use Rattle.std.specs.Prelude.{◌≡◌, ℕ, ◌≤◌, List, Option, Some, Result, Ok, Err, length}
-use Rattle.atomic_table.specs.Seated.{TableId}
+use Rattle.turn_cell.specs.Passes.{CellId}
 use Rattle.edge_core.specs.Objects.{Lacks, Objects}
 use Rattle.catalog_log.specs.RecordNames.{record_name_of}
 use Rattle.log_store.specs.Loads.{Looked}
@@ -19,7 +19,10 @@ use Rattle.share_serve.specs.Sides.{hold, side}
 use Rattle.share_serve.specs.Turns.{Grew}
 use Rattle.share_serve.specs.declared.serve.SessionEnd.{SessionEnd}
 use Rattle.share_serve.specs.declared.server.Server.{Server}
+use Rattle.turn_cell.specs.Entries.{IsHistory}
 use Rattle.turn_cell.specs.Passes.{AllFresh}
+use Rattle.share_book.specs.History.{caller_of}
+use Rattle.share_book.specs.Legal.{May}
 use Rattle.query_command.specs.Outside.{Outside}
 use Rattle.share_commands.specs.Stdio.{Configures, HasReason, shelf_of}
 use Rattle.share_commands.specs.declared.opening.NoServer.{NoServer}
@@ -36,11 +39,13 @@ without_hub (refusal.Edit number why) = no_server.Record number
 without_hub refusal.StoreFault = no_server.StoreFault
 without_hub refusal.NoMemory = no_server.NoMemory
 
--- So many passes, numbered from 0, have seen the edits of the catalogue's records, up to the first record that was absent.
-pub record OpensFor (callers : ℕ) (hub : TableId) (passes : List P) (old new : Option Objects) : Type 0 where
+-- The hub has so many callers, whose passes, numbered from 0, have seen the edits of the catalogue's records, up to the first record that was absent: a legal history, by these callers alone.
+pub record OpensFor (callers : ℕ) (hub : CellId) (passes : List P) (old new : Option Objects) : Type 0 where
   pub count : length passes ≡ callers
+  pub callers_are : hub.callers ≡ callers
   pub found : List Step
   pub begin : AllFresh hub (first_history found) 0 passes
+  pub known : IsHistory caller_of May callers (first_history found)
   pub steps : AreSteps old new 0 found
   pub last : Lacks (record_name_of (length found)) new
 
@@ -59,6 +64,7 @@ pub record LooksOnly (old new : Outside) : Type 0 where
 pub record ServesOne (server : Server) (pass : P) (e : SessionEnd) (old new : Outside) : Type 0 where
   pub last : P
   pub grew : Grew (hold pass (shelf_of old)) (hold last (shelf_of new))
+  pub known : IsHistory caller_of May last.cell.callers last.seen
   pub session : IsSession server old.left (side old.coming (hold pass (shelf_of old)) old.held) (side new.coming (hold last (shelf_of new)) new.held) e
   pub cause : HasCause e old.read_faults new.read_faults old.write_faults new.write_faults old.objects old.store_faults new.store_faults
   pub notes : new.noted ≡ old.noted

@@ -11,7 +11,7 @@ ghost use Rattle.query_command.specs.declared.ends.End.{End};
 ghost use Rattle.share_commands.specs.declared.words.Command.TheVariants.{Rehearse};
 
 use crate::client::client;
-use crate::serve::{serve, used_desks};
+use crate::serve::{callers_at, serve, used_desks};
 use crate::stdio::{end_without, open_over, stdio};
 use crate::words::{Command, HELP, VERSION, command_of};
 use edge_core::{Clock, Gate, Link, Listener, Sink, Source, Store};
@@ -50,7 +50,8 @@ fn rehearsal<R: Wait, S: Source, K: Sink, M: Sink, W: Store, C: Clock, G: Gate, 
 ///
 /// `serve`: the configuration and the records are read likewise; then the doors of as many desks as there are workers listen at the
 /// port, and each worker serves the lines of its desk's door as `serve_desk` says, over its desk's store and clock, all over one hub,
-/// until no further line comes or its door fails. The other desks are left as they are, and so are all by the other commands.
+/// until no further line comes or its door fails. There is one history of all workers then, legal and theirs alone. The other
+/// desks are left as they are, and so are all by the other commands.
 ///
 /// `rehearse`: a client reads a table of 50,000 files from a server in memory, and the lines of a summary are printed. Nothing of the
 /// outside is used but the output, and nothing is stored.
@@ -96,13 +97,13 @@ pub fn run<
         Ok(Some(Command::Query(location))) => query(alloc, location.name(), edge),
         Ok(Some(Command::Stdio)) => stdio(rt, alloc, edge),
         Ok(Some(Command::Rehearse(number))) => rehearsal(rt, alloc, number, edge),
-        Ok(Some(Command::Serve { port, workers })) => match open_over(alloc, workers, edge) {
-            Ok(opened) => {
-                let used = used_desks(workers, desks.len());
-                serve(rt, alloc, opened, port, &mut desks[..used], &edge.gate)
+        Ok(Some(Command::Serve { port, workers })) => {
+            let used = used_desks(workers, desks.len());
+            match open_over(alloc, callers_at(used), edge) {
+                Ok(opened) => serve(rt, alloc, opened, port, &mut desks[..used], &edge.gate),
+                Err(why) => end_without(why),
             }
-            Err(why) => end_without(why),
-        },
+        }
         Ok(
             Some(
                 Command::Client {

@@ -1,13 +1,16 @@
 // The command `serve`.
-ghost use Rattle.std.specs.Prelude.{◌≡◌, ◌<◌, ◌≤◌, ℕ, List, Some, length, min, slice_index_or};
+ghost use Rattle.std.specs.Prelude.{◌≡◌, ◌<◌, ◌≤◌, ℕ, List, Some, length, max, min, slice_index_or};
 ghost use Rattle.std.specs.Bool.{OnFalse, OnTrue};
 ghost use Rattle.edge_core.specs.Faults.{Rose};
+ghost use Rattle.share_book.specs.History.{caller_of};
+ghost use Rattle.share_book.specs.Legal.{May};
 ghost use Rattle.share_book.specs.declared.entry.Entry.{Entry};
 ghost use Rattle.hub_catalog.specs.CatalogCalls.{Step};
 ghost use Rattle.hub_catalog.specs.Opens.{first_history};
 ghost use Rattle.share_config.specs.declared.config.Config.{Config};
 ghost use Rattle.share_pool.specs.declared.desk.ServeEnd.{ServeEnd};
 ghost use Rattle.share_serve.specs.Callers.{server_of};
+ghost use Rattle.turn_cell.specs.Entries.{IsHistory};
 ghost use Rattle.turn_cell.specs.Passes.{AllFresh};
 ghost use Rattle.share_commands.specs.Serve.{AllWait, DoorFails, IsServing, Waits, end_of as end_is};
 
@@ -82,6 +85,14 @@ pub(crate) fn used_desks(workers: u32, count: usize) -> usize
     }
 }
 
+/// How many callers the hub of so many workers has: one each, and one where there is no worker.
+pub(crate) fn callers_at(used: usize) -> u32
+    requires { used ≤ 64 }
+    ensures { result ≡ max 1 used }
+{
+    (used as u32).max(1)
+}
+
 /// Has a worker at each desk serve the connections that come to the port, by a server that is opened. It comes back where every worker
 /// has ended, or, with no worker begun, where a door can't listen.
 pub(crate) fn serve<
@@ -94,8 +105,10 @@ pub(crate) fn serve<
 >(rt: &R, alloc: Global, opened: Opened, port: u16, desks: &mut [Desk<N, W, C, L>], gate: &G) -> End
     requires enough { length desks.old ≤ length opened.passes.items }
     requires fresh { (h : List Entry) × AllFresh opened.hub h 0 opened.passes.items }
+    requires callers { opened.hub.callers ≡ max 1 (length desks.old) }
     ensures count { length desks.new ≡ length desks.old }
     ensures serves { (config : Config) (found : List Step) → opened.server ≡ server_of config → AllFresh opened.hub (first_history found) 0 opened.passes.items
+        → IsHistory caller_of May (max 1 (length desks.old)) (first_history found)
         → (e : ServeEnd) × (result ≡ end_is e) × IsServing N.coming N.closed N.faults N.listens C.coming W.objects W.alone W.faults config found port (length desks.old) e desks.old desks.new }
 {
     let Opened {

@@ -97,6 +97,7 @@ fn serve<R: Wait, S: Source, K: Sink, M: Sink, W: Store, C: Clock, G: Gate, L>(
         &mut edge.steps,
     );
     edge.output.flush();
+    pass.known();
     end
 }
 

@@ -37,11 +37,11 @@ impl Hub {
 }
 
 impl Model for Hub {
-    ghost use Rattle.atomic_table.specs.Seated.{TableId, table_id_coded};
+    ghost use Rattle.turn_cell.specs.Passes.{CellId, cell_code};
 
-    ghost Value = { TableId };
+    ghost Value = { CellId };
 
-    ghost coded = { table_id_coded };
+    ghost coded = { cell_code };
 
     ghost view = { λ h. h.cell };
 }

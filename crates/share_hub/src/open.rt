@@ -1,5 +1,5 @@
 // A hub is opened over a store.
-ghost use Rattle.std.specs.Prelude.{◌≡◌, ◌≤◌};
+ghost use Rattle.std.specs.Prelude.{◌≡◌, ◌≤◌, IfOk};
 ghost use Rattle.edge_core.specs.Faults.{Cause};
 ghost use Rattle.log_store.specs.Loads.{Looked};
 ghost use Rattle.hub_catalog.specs.Opens.{OpensAs, failed_open};
@@ -16,7 +16,8 @@ impl Hub {
     ///
     /// The records are read from 0 up to the first that is absent, and the log of each location that one of them binds is
     /// loaded. The history begins with caller 0's Begin, the edits of the records in order, each right after the log that was
-    /// loaded for it, and caller 0's Abort. That a log has a version that isn't kept is no refusal. Nothing is stored.
+    /// loaded for it, and caller 0's Abort. That a log has a version that isn't kept is no refusal. Nothing is stored. The hub tells for how
+    /// many callers it was made, and each pass knows that what it has seen is legal and theirs alone (`Pass::known`).
     pub fn open<W: Store>(
         alloc: Global,
         store: &mut W,
@@ -24,6 +25,7 @@ impl Hub {
     ) -> Result<(Hub, Vec<HubPass>), OpenRefusal>
         requires callers { (1 ≤ callers) × (callers ≤ 65) }
         ensures opened { OpensAs result callers (W.objects store.old) (W.objects store.new) }
+        ensures callers { IfOk result (λ made. made.0.callers ≡ callers) }
         ensures looked { Looked (W.objects store.old) (W.objects store.new) (W.alone store.old) (W.alone store.new) }
         ensures cause { Cause (W.faults store.old) (W.faults store.new) (failed_open result) }
     {

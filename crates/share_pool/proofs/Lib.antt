@@ -1,4 +1,5 @@
 mod Crossing
+pub mod Histories
 pub mod Refreshes
 pub mod Attending
 pub mod Working

@@ -2,7 +2,7 @@
 use Rattle.std.specs.Prelude.{◌≡◌, ◌-◌, ◌^◌, ℕ, min, Bool, true, false, List, Option, Some, None, if◌then◌else◌}
 use Rattle.std.specs.List.{list_any, sum_by}
 use Rattle.std.specs.Option.{IsSomeAnd}
-use Rattle.atomic_table.specs.Seated.{TableId}
+use Rattle.turn_cell.specs.Passes.{CellId}
 use Rattle.edge_core.specs.Lines.{ClosedLine}
 use Rattle.edge_core.specs.Objects.{Objects}
 use Rattle.hub_calls.specs.Calls.{IsIdle, P}
@@ -15,7 +15,7 @@ use Rattle.share_pool.specs.declared.desk.ServeEnd.{ServeEnd}
 use Rattle.share_pool.specs.declared.desk.ServeEnd.TheVariants as serve_end
 
 -- there is a pass of the hub, which holds no turn
-abbrev pub HasPass : TableId → Option P → Type 0
+abbrev pub HasPass : CellId → Option P → Type 0
 HasPass hub pass = IsSomeAnd pass (λ p. (p.cell ≡ hub) × (p.holds ≡ false))
 
 module _ {N W C L : Type 0} (coming : N → Option (List (List ℕ))) (closed : N → Option (List ClosedLine)) (failed : N → ℕ) (listens : N → Option ℕ) (moments : C → Option (List ℕ)) (objects : W → Option Objects) (alone : W → Bool) (faults : W → ℕ) where
@@ -23,7 +23,7 @@ module _ {N W C L : Type 0} (coming : N → Option (List (List ℕ))) (closed : 
   post_of d pass = post (coming d.door) (closed d.door) (moments d.clock) (held objects alone faults pass d.store)
 
   -- the desk's worker did its work, from where its pass, door, clock and store stood to where they stand, its door listens where it did, and it left its answer
-  pub record DeskWorks (hub : TableId) (server : Server) (old new : Desk N W C L) : Type 0 where
+  pub record DeskWorks (hub : CellId) (server : Server) (old new : Desk N W C L) : Type 0 where
     pub before : P
     pub after : P
     pub ended : ServeEnd

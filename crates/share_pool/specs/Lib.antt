@@ -3,3 +3,4 @@ pub mod Refreshing
 pub mod Visits
 pub mod Desks
 pub mod Laws
+pub mod OneHistory

@@ -2,6 +2,7 @@
 #![tactic(auto)]
 
 mod desk;
+mod history;
 mod law;
 mod pool;
 mod refresh;

@@ -1,8 +1,11 @@
 // Workers side by side.
-ghost use Rattle.std.specs.Prelude.{All, ◌≡◌, ◌<◌, ◌+◌, ◌-◌, ◌^◌, ◌||◌, ℕ, length, map, min, slice_index_or};
+ghost use Rattle.std.specs.Prelude.{All, ◌≡◌, ◌<◌, ◌+◌, ◌-◌, ◌^◌, ◌||◌, ℕ, List, length, map, min, slice_index_or};
+ghost use Rattle.share_book.specs.declared.entry.Entry.{Entry};
+ghost use Rattle.share_pool.specs.OneHistory.{OneAt};
 ghost use Rattle.share_pool.specs.Desks.{DeskWorks, HasPass, all_end, closed_in, is_fault, is_lack};
 
 use crate::desk::{Desk, ServeEnd, serve_desk};
+use crate::history::one_history;
 use edge_core::{Clock, Gate, Listener, Store};
 use share_hub::Hub;
 use share_serve::Server;
@@ -65,7 +68,8 @@ fn all_end<N, W, C, L>(desks: &[Desk<N, W, C, L>]) -> ServeEnd
 
 /// A worker for each desk, each in a thread of its own where one can be made; the others work after them. It comes back when all have
 /// ended, and says why: `NoMemory` where one of them ended so, else `ListenerFault` where one did, else how many lines they closed
-/// together.
+/// together. There is then one history that begins with what each of them has seen, legal and by the hub's callers alone, in which each has
+/// just the entries that it made; to say so their passes are held together, which changes none of them.
 pub fn serve_all<
     R: Threads + Wait + Sync,
     N: Listener + Send,
@@ -85,11 +89,14 @@ pub fn serve_all<
     requires ready { All (λ d. HasPass hub.now d.pass) desks.old }
     ensures each { (i : ℕ) (d : _) → i < length desks.old → DeskWorks N.coming N.closed N.faults N.listens C.coming W.objects W.alone W.faults hub.now server.now (slice_index_or desks.old i d) (slice_index_or desks.new i d) }
     ensures answer { result ≡ all_end (map (λ d. d.end) desks.new) }
+    ensures count { length desks.new ≡ length desks.old }
+    ensures one { (history : List Entry) × OneAt hub.now.callers desks.new history }
 {
     let count = desks.len();
     let work = |_: usize, desk: &mut Desk<N, W, C, L>|
         requires { HasPass hub.now desk.old.pass }
     { serve_desk(rt, alloc, hub, server, desk, gate) };
     thread::for_each_mut(rt, desks, count, &work);
+    one_history(hub, desks);
     all_end(desks)
 }

@@ -1,5 +1,9 @@
-use Rattle.std.proofs.Common.{◌≡◌, ◌≤◌, ◌++◌, ◌∙◌, length, min, take, drop, Some, None, refl, sym, ap, subst, arith, inl}
+use Rattle.std.proofs.Common.{◌≡◌, ℕ, ◌≤◌, ◌++◌, ◌∙◌, length, max, min, take, drop, Some, None, refl, sym, ap, subst, arith, inl}
 use Rattle.std.proofs.lemmas.List.{length-take}
+use Rattle.turn_cell.specs.Entries.{IsHistory}
+use Rattle.share_book.specs.History.{caller_of}
+use Rattle.share_book.specs.Legal.{May}
+use Rattle.hub_catalog.specs.Opens.{first_history}
 use Rattle.query_command.specs.Ends.{note}
 use Rattle.share_commands.specs.Steps.{Runs}
 use Rattle.share_commands.specs.Words.{command_in}
@@ -14,11 +18,20 @@ use Rattle.share_commands.proofs.Serving.{unserved}
 use Rattle.share_commands.proofs.commands.run.Goals.{in-Ok-Some-Help, in-Ok-Some-Version, in-Ok-Some-Query, in-Ok-Some-Stdio, in-Ok-Some-Rehearse, in-Ok-Some-Serve, in-Ok, in-Err-open_over, in-Ok-Some-Client, in-Ok-None, in-Err}
 use Rattle.share_commands.proofs.commands.run.Goals as goal
 
+pub callers_at-requires : goal.callers_at-requires
+callers_at-requires g c =
+    let bounds = workers_bounded c.args.words.now c.in-Ok-Some-Serve.port c.in-Ok-Some-Serve.workers (sym c.in-Ok-Some-Serve.ensures ∙ c.in-Ok-Some-Serve.field-0-is ∙ ap Some c.in-Ok-Some-Serve.field-0-0-is) in
+    let most = bounds.1 in
+    let used = c.used_desks-used.ensures in
+    omega (arith, most, used)
+
 pub open_over-requires : goal.open_over-requires
 open_over-requires g c =
     let bounds = workers_bounded c.args.words.now c.in-Ok-Some-Serve.port c.in-Ok-Some-Serve.workers (sym c.in-Ok-Some-Serve.ensures ∙ c.in-Ok-Some-Serve.field-0-is ∙ ap Some c.in-Ok-Some-Serve.field-0-0-is) in
     let most = bounds.1 in
-    record { callers = (bounds.0, omega (arith, most)) }
+    let is = c.callers_at.ensures in
+    let used = c.used_desks-used.ensures in
+    record { callers = (omega (arith, is), omega (arith, is, used, most)) }
 
 pub returns-clause-cause : goal.returns-clause-cause
 returns-clause-cause g c =
@@ -46,14 +59,15 @@ returns-clause-cause g c =
                 let opened = v.in-Ok.ensures.opened in
                 let config = opened.0.0 in
                 let found = opened.1.found in
-                let opens = opens_server config workers v.in-Ok.opened.hub v.in-Ok.opened.passes.items was next looks opened.0.2 opened.1 in
-                let used = v.used_desks-used.result in
+                let opens = opens_server config w.callers_at.result v.in-Ok.opened.hub v.in-Ok.opened.passes.items was next looks opened.0.2 opened.1 in
+                let used = w.used_desks-used.result in
                 let part = v.serve.new.desks in
-                let is : used ≡ min workers (length desks) = v.used_desks-used.ensures in
+                let is : used ≡ min workers (length desks) = w.used_desks-used.ensures in
                 let few : length (take used desks) ≡ used = (let a = length-take used desks in omega (arith, a, is)) in
                 let most : used ≤ length desks = omega (arith, is) in
                 let front : Front g.N.Listener.coming g.N.Listener.closed g.N.Listener.faults g.N.Listener.listens g.C.Clock.coming g.W.Store.objects g.W.Store.alone g.W.Store.faults used desks part (part ++ drop used desks) = record { most = most; count = v.serve.ensures.count ∙ few; rest = refl } in
-                let serves = v.serve.ensures.serves config found opened.0.1 opened.1.begin in
+                let known = subst (λ (k : ℕ). IsHistory caller_of May k (first_history found)) (w.callers_at.ensures ∙ ap (max 1) (sym few)) opened.1.known in
+                let serves = v.serve.ensures.serves config found opened.0.1 opened.1.begin known in
                 let by_desks = serves_at g.N.Listener.coming g.N.Listener.closed g.N.Listener.faults g.N.Listener.listens g.C.Clock.coming g.W.Store.objects g.W.Store.alone g.W.Store.faults config found port used workers serves.0 v.serve.result was next desks part (part ++ drop used desks) is front serves.1 opens (first_serve g.N.Listener.coming g.N.Listener.closed g.N.Listener.faults g.N.Listener.listens g.C.Clock.coming g.W.Store.objects g.W.Store.alone g.W.Store.faults config found port used (length (take used desks)) serves.0 desks part (part ++ drop used desks) few front serves.2) in
                 same (Some (command.Serve port workers)) _ _ _ _ _ _ _ _ _ _ _ _ asks w.edge-is (w.end-is ∙ v.end-is) (w.desks-is ∙ v.desks-is) w.way'-is (record { runs = hosted_runs port workers config found serves.0 v.serve.result was next looks serves.1 opens; by_desks = by_desks; by_way = refl })
             | in-Err-open_over v ↦
