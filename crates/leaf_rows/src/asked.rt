@@ -1,8 +1,8 @@
 // Requests, and what they ask for.
 use crate::answer::Answer;
+use crate::catalog::add_edit;
 use crate::given::Given;
 use crate::messages::push_pair;
-use catalog_log::bytes_of_edit;
 use commit_check::{Offer, Reads};
 use http_message::field::Fields;
 use http_message::head::Head;
@@ -75,13 +75,6 @@ fn add_offer(offer: &Offer, out: &mut Answer) {
     out.show(&offer.read.map(|version| version.get()));
     out.number(" actions=", offer.actions.items().len() as u64);
     out.words(" reads=", reads_text(&offer.reads));
-}
-
-fn add_edit(edit: &Edit, out: &mut Answer) {
-    match &bytes_of_edit(out.alloc(), edit) {
-        Ok(bytes) => out.bytes(bytes),
-        Err(_) => out.fail(RowFault::NoMemory),
-    }
 }
 
 fn add_table(table: &TableName, out: &mut Answer) {

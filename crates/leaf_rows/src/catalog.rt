@@ -8,7 +8,8 @@ use serde_json::Value;
 use share_catalog::{Bound, Catalog, Credential, Edit, EditRefusal, Granted, TableName};
 use std::alloc::{AllocError, Global};
 
-fn add_edit(edit: &Edit, out: &mut Answer) {
+/// Adds the record of an edit.
+pub(crate) fn add_edit(edit: &Edit, out: &mut Answer) {
     match &bytes_of_edit(out.alloc(), edit) {
         Ok(bytes) => out.bytes(bytes),
         Err(_) => out.fail(RowFault::NoMemory),

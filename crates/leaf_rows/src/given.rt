@@ -4,6 +4,7 @@ use edge_core::Name;
 use json_tree::{Edition, Text, Version};
 use row_files::{RowFault, RowFile, list_at, number_at, text_at};
 use serde_json::Value;
+use share_catalog::CatalogName;
 
 /// The members that a call is given, each by its name. One that is lacking, or of another kind, is noted in the answer, and read as
 /// nothing: so what makes an answer has one way to its end.
@@ -71,6 +72,15 @@ impl<'a> Given<'a> {
     /// The name of an object that the text of that name is.
     pub(crate) fn object_name(&self, name: &'static str, out: &mut Answer) -> Option<Name> {
         let named = Name::of(self.text(name, out));
+        if named.is_none() {
+            out.lacks(name);
+        }
+        named
+    }
+
+    /// The catalogue's name that the text of that name is.
+    pub(crate) fn catalog_name(&self, name: &'static str, out: &mut Answer) -> Option<CatalogName> {
+        let named = CatalogName::of(self.text(name, out));
         if named.is_none() {
             out.lacks(name);
         }

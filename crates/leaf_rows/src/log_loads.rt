@@ -1,7 +1,8 @@
 // Logs that are loaded from a store, and what a store has under a name.
 use crate::answer::Answer;
 use crate::given::Given;
-use edge_core::{MemStore, Name};
+use crate::holed::Holed;
+use edge_core::{MemStore, Name, Store};
 use log_store::{Fetched, LoadRefusal, Loaded, Probed, fetch, load, probe};
 use row_files::store_of;
 
@@ -41,16 +42,32 @@ fn store_in(given: &Given, out: &mut Answer) -> Option<MemStore> {
 }
 
 // Each of these makes a call of the store whose arguments are in its bounds.
-fn load_from(out: &mut Answer, store: &mut MemStore, location: &Name) {
+fn load_from<W: Store>(out: &mut Answer, store: &mut W, location: &Name) {
     if location.as_str().len() <= MOST_LOCATION {
         add_load(out, &load(out.alloc(), store, location));
     }
 }
 
+fn load_whole(given: &Given, out: &mut Answer, location: &Name) {
+    if let Some(mut store) = store_in(given, out) {
+        load_from(out, &mut store, location);
+    }
+}
+
+// Where a listing lacks the names in a text.
+fn load_holed(given: &Given, out: &mut Answer, location: &Name) {
+    let hidden = given.text("hides", out);
+    if let Some(store) = store_in(given, out) {
+        let mut store = Holed { store, hidden };
+        load_from(out, &mut store, location);
+    }
+}
+
 fn load_log(given: &Given, out: &mut Answer) {
-    let location = given.object_name("table", out);
-    if let (Some(location), Some(mut store)) = (location, store_in(given, out)) {
-        load_from(out, &mut store, &location);
+    match &given.object_name("table", out) {
+        Some(location) if given.has("hides") => load_holed(given, out, location),
+        Some(location) => load_whole(given, out, location),
+        None => {}
     }
 }
 

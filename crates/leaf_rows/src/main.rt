@@ -9,6 +9,7 @@ mod configs;
 mod doors;
 mod given;
 mod heads;
+mod holed;
 mod lines;
 mod log_lines;
 mod log_loads;

@@ -3,14 +3,6 @@ use crate::answer::Answer;
 use crate::given::Given;
 use share_catalog::{CatalogName, Location, TableName, is_catalog_name_text};
 
-fn name(given: &Given, member: &'static str, out: &mut Answer) -> Option<CatalogName> {
-    let name = CatalogName::of(given.text(member, out));
-    if name.is_none() {
-        out.lacks(member);
-    }
-    name
-}
-
 // Whether a name is its copy's, and another one.
 fn add_sameness(one: &CatalogName, other: &CatalogName, out: &mut Answer) {
     if let Some(copy) = out.kept(one.copy(out.alloc())) {
@@ -21,14 +13,20 @@ fn add_sameness(one: &CatalogName, other: &CatalogName, out: &mut Answer) {
 
 // The same, and the name's text.
 fn name_back(given: &Given, out: &mut Answer) {
-    if let (Some(one), Some(other)) = (name(given, "one", out), name(given, "other", out)) {
+    if let (Some(one), Some(other)) = (
+        given.catalog_name("one", out),
+        given.catalog_name("other", out),
+    ) {
         add_sameness(&one, &other, out);
         out.words(" ", one.into_text().as_str());
     }
 }
 
 fn names_compared(given: &Given, out: &mut Answer) {
-    if let (Some(one), Some(other)) = (name(given, "one", out), name(given, "other", out)) {
+    if let (Some(one), Some(other)) = (
+        given.catalog_name("one", out),
+        given.catalog_name("other", out),
+    ) {
         out.show(&one.compare(&other));
     }
 }

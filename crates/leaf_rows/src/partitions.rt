@@ -2,9 +2,9 @@
 use crate::answer::Answer;
 use crate::given::Given;
 use json_tree::{Text, Texts};
-use log_actions::{Action, AddFile, NoAction, action_of_line};
+use log_actions::{Action, AddFile, MetaData, NoAction, action_of_line};
 use part_values::{Columns, PartType, columns_of, value_of};
-use pred_tree::{BoundPred, Pred, bind, pred_of};
+use pred_tree::{BoundPred, Pred, Shown, bind, pred_of};
 use row_files::RowFault;
 use serde_json::Value;
 use std::alloc::{AllocError, Global};
@@ -128,12 +128,47 @@ fn predicate(given: &Given, out: &mut Answer) {
     weigh_read(given, &pred, &columns, out);
 }
 
+fn add_shown(shown: &Result<Shown, AllocError>, file: &AddFile, out: &mut Answer) {
+    match shown {
+        Ok(shown) => out.flag("", shown.shows(file)),
+        Err(_) => out.fail(RowFault::NoMemory),
+    }
+}
+
+fn add_shown_of(only: Option<&str>, meta: &MetaData, file: &AddFile, out: &mut Answer) {
+    let shown = Shown::of(out.alloc(), only, meta);
+    add_shown(&shown, file, out);
+}
+
+fn add_shown_read(
+    only: Option<&str>,
+    meta: &Result<Option<Action>, NoAction>,
+    file: &Result<Option<Action>, NoAction>,
+    out: &mut Answer,
+) {
+    match (meta, file) {
+        (Ok(Some(Action::MetaData(meta))), Ok(Some(Action::Add(file)))) => {
+            add_shown_of(only, meta, file, out);
+        }
+        _ => out.lacks("file"),
+    }
+}
+
+// Whether the file that a line adds is shown of a table with the metaData of another, by a text or by none.
+fn shown(given: &Given, out: &mut Answer) {
+    let meta = action_of_line(out.alloc(), &given.bytes("meta", out));
+    let file = action_of_line(out.alloc(), &given.bytes("file", out));
+    let only = given.with.get("only").and_then(Value::as_str);
+    add_shown_read(only, &meta, &file, out);
+}
+
 /// Answers a call, where it is one of these.
 pub(crate) fn answer(call: &str, given: &Given, out: &mut Answer) -> bool {
     match call {
         "value" => value(given, out),
         "columns" => columns(given, out),
         "predicate" => predicate(given, out),
+        "shown" => shown(given, out),
         _ => return false,
     }
     true

@@ -8,7 +8,7 @@ use page_token::{
 };
 use row_files::RowFault;
 use serde_json::Value;
-use share_catalog::{CatalogName, TableName};
+use share_catalog::TableName;
 use signed_link::{LinkParts, link, parts_of};
 use std::alloc::AllocError;
 
@@ -98,7 +98,11 @@ fn cursor(given: &Given, out: &mut Answer) -> Cursor {
     match given.word("of", out) {
         "files" => files(given, out),
         "changes" => feed(given, out),
-        _ => all_tables(given, out),
+        "all tables" => all_tables(given, out),
+        _ => {
+            out.lacks("of");
+            all_tables(given, out)
+        }
     }
 }
 
@@ -123,19 +127,11 @@ fn token_read(given: &Given, out: &mut Answer) {
     add_read(&key, &cursor, out);
 }
 
-fn name(given: &Given, member: &'static str, out: &mut Answer) -> Option<CatalogName> {
-    let name = CatalogName::of(given.text(member, out));
-    if name.is_none() {
-        out.lacks(member);
-    }
-    name
-}
-
 fn table(given: &Given, out: &mut Answer) -> Option<TableName> {
     Some(TableName {
-        share: name(given, "share", out)?,
-        schema: name(given, "schema", out)?,
-        table: name(given, "table", out)?,
+        share: given.catalog_name("share", out)?,
+        schema: given.catalog_name("schema", out)?,
+        table: given.catalog_name("table", out)?,
     })
 }
 
@@ -143,7 +139,7 @@ fn parts(given: &Given, out: &mut Answer) -> Option<LinkParts> {
     let expires = Millis::of(given.number("expires", out))?;
     Some(LinkParts {
         table: table(given, out)?,
-        recipient: name(given, "recipient", out)?,
+        recipient: given.catalog_name("recipient", out)?,
         path: given.json_text("path", out),
         binding: given.edition("binding", out),
         expires,
