@@ -8,8 +8,8 @@ use std::alloc::{AllocError, AllocFailed};
 #[derive(Clone, Copy, Debug, PartialEq, Eq)]
 pub enum FeedRefusal {
     /// The metaData that holds at the version doesn't turn the feed on: its
-    /// `delta.enableChangeDataFeed` isn't `true` (Delta Lake PROTOCOL.md, "Change Data Files"). It is
-    /// the least such version of the range.
+    /// `delta.enableChangeDataFeed` isn't `true`, in any case (Delta Lake PROTOCOL.md, "Change Data
+    /// Files"). It is the least such version of the range.
     NotEnabled { version: u64 },
     /// Memory ran out. It says nothing of the range.
     NoMemory,

@@ -6,7 +6,7 @@ use Rattle.log_actions.specs.declared.actions.Action.TheVariants as action
 use Rattle.log_actions.specs.declared.actions.AddFile.{AddFile}
 use Rattle.log_actions.specs.declared.actions.MetaData.{MetaData}
 use Rattle.log_replay.specs.Reconciliation.{actions_in, last_meta, live_files}
-use Rattle.log_replay.specs.Settings.{is_on}
+use Rattle.log_replay.specs.Settings.{turns_on}
 
 abbrev pub is_info : Action → Bool
 is_info (action.Protocol p) = false
@@ -24,7 +24,7 @@ begins_with_info (a ∷ actions) = is_info a && not (list_any is_info actions)
 
 abbrev pub sets_append_only : List ℕ × Option (List ℕ) → Bool
 sets_append_only (name, None) = false
-sets_append_only (name, Some value) = bytes_eq name (codes "delta.appendOnly") && is_on value
+sets_append_only (name, Some value) = bytes_eq name (codes "delta.appendOnly") && turns_on value
 
 -- whether files may be added alone
 abbrev pub is_append_only : Option MetaData → Bool

@@ -20,7 +20,7 @@ ReadStillHolds = (log : List (List Action)) (now : ℕ) (offer : Offer) (commit 
     → read_state log offer.read ≡ Some state → state_of log ≡ Ok head
     → (files_read offer.reads (Some head) ≡ files_read offer.reads (Some state)) × (head.protocol ≡ state.protocol) × (head.meta ≡ state.meta)
 
--- an action by which a commit is known again: each but a change file
+-- an action by which a commit is known again: each but a change file and a commitInfo
 abbrev pub is_marked : Action → Bool
 is_marked (action.Protocol p) = true
 is_marked (action.MetaData m) = true

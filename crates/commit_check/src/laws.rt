@@ -15,7 +15,7 @@ pub fn read_still_holds()
 {}
 
 /// A law: an offer that was committed is refused when it is made again with the same version read, whatever came since, where it has
-/// any action but change files. It does nothing when it is called.
+/// any action but change files and its commitInfo. It does nothing when it is called.
 pub fn retries_are_refused()
     ensures { RetriesAreRefused }
 {}

@@ -10,7 +10,7 @@ ghost use Rattle.commit_check.specs.Lawful as lawful;
 use crate::actions::removes_data;
 use json_tree::{Pair, Text};
 use log_actions::{Action, MetaData, Protocol};
-use log_replay::{Snapshot, is_on};
+use log_replay::{Snapshot, turns_on};
 
 fn is_known_feature(feature: &Text) -> bool
     ensures { result ≡ spec.is_known_feature feature.now }
@@ -82,7 +82,7 @@ fn sets_append_only(pair: &Pair) -> bool
     ensures { result ≡ lawful.sets_append_only (pair_of pair.now) }
 {
     match &pair.value {
-        Some(value) => pair.name.as_str() == "delta.appendOnly" && is_on(value.as_str()),
+        Some(value) => pair.name.as_str() == "delta.appendOnly" && turns_on(value.as_str()),
         None => false,
     }
 }

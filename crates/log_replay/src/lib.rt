@@ -17,7 +17,7 @@ mod times;
 pub use commits::{advance, replay, replay_ref};
 pub use files::Files;
 pub use refusal::{Cause, NoState, ReplayRefusal};
-pub use settings::is_on;
+pub use settings::turns_on;
 pub use snapshot::{Snapshot, SnapshotRef};
 pub use standing::{Support, meta_in, refusal_after};
 pub use times::{Bound, Mark, Unresolved, mark_of, marks_of, resolve};

@@ -1,5 +1,5 @@
 -- What a file's values say of a predicate is so of each of its rows.
-use Rattle.std.proofs.Common.{◌≡◌, ℕ, List, [], ◌∷◌, Bool, true, false, cond, ◌||◌, ◌⊎◌, inl, inr, Option, Some, None, refl}
+use Rattle.std.proofs.Common.{◌≡◌, ℕ, List, [], ◌∷◌, Bool, true, false, cond, ◌||◌, ◌⊎◌, inl, inr, Option, Some, None, refl, ap}
 use Rattle.std.proofs.lemmas.Slice.Eq.{bytes_eq-Decides}
 use Rattle.json_tree.specs.declared.pairs.Pairs.{Pairs}
 use Rattle.part_values.specs.Columns.{kind_of_column}
@@ -9,7 +9,7 @@ use Rattle.part_values.specs.declared.value.PartType.TheVariants as kind
 use Rattle.part_values.specs.Typed.{Typed, null, boolean, whole, text, day, unread, typed}
 use Rattle.pred_tree.specs.Kinds.{class, compared_type, is_same}
 use Rattle.pred_tree.specs.Laws.{PruningIsSound}
-use Rattle.pred_tree.specs.Rows.{AreRead, IsRowOf, Knows, Row, asks_null, held, one_asks_null, row_truth, row_truths, value_in}
+use Rattle.pred_tree.specs.Rows.{AreRead, IsRowOf, Knows, Row, asks_null, one_asks_null, row_truth, row_truths, value_in}
 use Rattle.pred_tree.specs.Tree.{Tree, all_of, any_of, negated, null_at, compared, Trees, no_trees, first_tree}
 use Rattle.pred_tree.specs.Truth.{all_true, any_true, both, either, if_ordered, is_null, null_truth, of_test, opposite, order, text_of_column, truth, truths, value_of_leaf}
 use Rattle.pred_tree.specs.declared.tree.Comparison.{Comparison}
@@ -87,13 +87,13 @@ blind_unread = record { left = λ o. refl; right = behind_unread }
 abbrev Sees : Typed → Typed → Type 0
 Sees of_file of_row = (of_row ≡ of_file) ⊎ IsBlind of_file
 
-sees_held : (v r : Typed) → r ≡ held v → Sees v r
-sees_held null r e = inr blind_null
-sees_held (boolean b) r e = inl e
-sees_held (whole n) r e = inl e
-sees_held (text t) r e = inl e
-sees_held (day d) r e = inl e
-sees_held unread r e = inr blind_unread
+sees_typed : (v r : Typed) → ((v ≡ unread → ⊥) → r ≡ v) → Sees v r
+sees_typed null r is = inr blind_null
+sees_typed (boolean b) r is = inl (is (λ e. cc e))
+sees_typed (whole n) r is = inl (is (λ e. cc e))
+sees_typed (text t) r is = inl (is (λ e. cc e))
+sees_typed (day d) r is = inl (is (λ e. cc e))
+sees_typed unread r is = inr blind_unread
 
 other_blind : (t : Option (List ℕ)) → IsBlind (typed t kind.Other)
 other_blind None = blind_null
@@ -105,7 +105,7 @@ sees_leaf columns values row (Literal value kind) is = inl refl
 sees_leaf columns values row (Column name leaf) is = by_column (kind_of_column name columns) refl
   where
     by_class : (column : PartType) → kind_of_column name columns ≡ Some column → (b : Bool) → Sees (typed (text_of_column name values) (cond b column kind.Other)) (row name)
-    by_class column e true = sees_held (typed (text_of_column name values) column) (row name) (is name column e)
+    by_class column e true = sees_typed (typed (text_of_column name values) column) (row name) (is name column e)
     by_class column e false = inr (other_blind (text_of_column name values))
 
     by_column : (o : Option PartType) → kind_of_column name columns ≡ o → Sees (typed (text_of_column name values) (compared_type leaf o)) (row name)
@@ -119,13 +119,12 @@ knows_compared c f g r s (inl e) (inr blind) = rw (blind.right f) tt
 
 -- ---- questions for null
 
-knows_null : (v r : Typed) → r ≡ held v → (v ≡ unread → ⊥) → Knows (of_test (is_null v)) (of_test (is_null r))
-knows_null null r e read = rw e refl
-knows_null (boolean b) r e read = rw e refl
-knows_null (whole n) r e read = rw e refl
-knows_null (text t) r e read = rw e refl
-knows_null (day d) r e read = rw e refl
-knows_null unread r e read = absurd (read refl)
+knows_test : (b c : Bool) → c ≡ b → Knows (of_test b) (of_test c)
+knows_test true c e = rw e refl
+knows_test false c e = rw e refl
+
+knows_null : (v r : Typed) → r ≡ v → Knows (of_test (is_null v)) (of_test (is_null r))
+knows_null v r e = knows_test (is_null v) (is_null r) (ap is_null e)
 
 or_first : (a b : Bool) → a ≡ true → (a || b) ≡ true
 or_first a b e = rw e refl
@@ -138,7 +137,7 @@ knows_null_at : (columns : Columns) (values : Pairs) (row : Row) (name : List �
     → (o : Option PartType) → kind_of_column name columns ≡ o → Knows (null_truth o (text_of_column name values)) (of_test (is_null (row name)))
 knows_null_at columns values row name is read None e = tt
 knows_null_at columns values row name is read (Some kind) e =
-    knows_null (typed (text_of_column name values) kind) (row name) (is name kind e) (read name kind ((bytes_eq-Decides name name).1 refl) e)
+    knows_null (typed (text_of_column name values) kind) (row name) (is name kind e (read name kind ((bytes_eq-Decides name name).1 refl) e))
 
 -- ---- predicates
 

@@ -79,7 +79,7 @@ IsNodeOf d t = (levels : ℕ) × (node_within levels d ≡ Some t)
 abbrev pub LevelsAreDepth : Type 0
 LevelsAreDepth = (levels : ℕ) (d : Data) (t : Tree) → (node_within levels d ≡ Some t) ↔ (IsNodeOf d t × (depth t ≤ levels))
 
--- what the values of a file's partition columns say is so of each of its rows: a file that a predicate leaves out has no row that satisfies it, and of a file that satisfies it by them alone each row does. A row has null where the file's text isn't read, so a predicate that asks whether such a column is null is left out here.
+-- what the values of a file's partition columns say is so of each of its rows: a file that a predicate leaves out has no row that satisfies it, and of a file that satisfies it by them alone each row does. Where a file's text isn't read a row may have any value there; so a predicate that asks whether such a column is null is left out here.
 abbrev pub PruningIsSound : Type 0
 PruningIsSound = (columns : Columns) (values : Pairs) (row : Row) (t : Tree) → IsRowOf columns values row → AreRead columns values t → Knows (truth columns values t) (row_truth row t)
 

@@ -4,7 +4,7 @@ use Rattle.json_tree.specs.declared.pairs.Pairs.{Pairs}
 use Rattle.part_values.specs.Columns.{kind_of_column}
 use Rattle.part_values.specs.declared.columns.Columns.{Columns}
 use Rattle.part_values.specs.declared.value.PartType.{PartType}
-use Rattle.part_values.specs.Typed.{Typed, null, boolean, whole, text, day, unread, typed}
+use Rattle.part_values.specs.Typed.{Typed, unread, typed}
 use Rattle.pred_tree.specs.Tree.{Tree, all_of, any_of, negated, null_at, compared, Trees, no_trees, first_tree}
 use Rattle.pred_tree.specs.Truth.{all_true, any_true, if_ordered, is_null, of_test, opposite, order, text_of_column}
 use Rattle.pred_tree.specs.declared.tree.Leaf.{Leaf}
@@ -16,18 +16,10 @@ use Rattle.pred_tree.specs.declared.truth.Truth.TheVariants.{True, False, Unknow
 abbrev pub Row : Type 0
 Row = List ℕ → Typed
 
--- what a row has where its file has such a value: a text that isn't read gives null, as a reader's cast does
-abbrev pub held : Typed → Typed
-held null = null
-held (boolean b) = boolean b
-held (whole n) = whole n
-held (text t) = text t
-held (day d) = day d
-held unread = null
-
--- the row has in each partition column the value that the file's text stands for
+-- the row has in each partition column the value that the file's text stands for, and any where the text isn't read
 abbrev pub IsRowOf : Columns → Pairs → Row → Type 0
-IsRowOf columns values row = (name : List ℕ) (kind : PartType) → kind_of_column name columns ≡ Some kind → row name ≡ held (typed (text_of_column name values) kind)
+IsRowOf columns values row = (name : List ℕ) (kind : PartType) → kind_of_column name columns ≡ Some kind
+    → (typed (text_of_column name values) kind ≡ unread → ⊥) → row name ≡ typed (text_of_column name values) kind
 
 abbrev pub value_in : Row → Leaf → Typed
 value_in row (Column name kind) = row name

@@ -38,8 +38,8 @@ pub fn levels_are_depth()
 {}
 
 /// A law: what a file's partition values say of a predicate is so of each of its rows. So a file that is left out has no row that
-/// satisfies the predicate, where each row has in each partition column the value that its text stands for, and null where the text isn't
-/// read, and the predicate doesn't ask whether such a one is null. It does nothing when it is called.
+/// satisfies the predicate, where each row has in each partition column whose text is read the value that the text stands for, and the
+/// predicate doesn't ask whether one is null whose text isn't read. It does nothing when it is called.
 pub fn pruning_is_sound()
     ensures { PruningIsSound }
 {}

@@ -15,7 +15,7 @@ enum ShownBy {
 }
 
 /// Which files of one table are shown: all where it is shared whole; else those of which the predicate of a text is true, by their
-/// values of the partition columns, and none where the text is no predicate. So what the values don't tell isn't shown. The columns were
+/// values of the partition columns, and none where the text is no predicate. So a file of which it is unknown isn't shown. The columns were
 /// looked up when it was made.
 #[derive(Drop)]
 pub struct Shown {
