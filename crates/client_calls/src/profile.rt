@@ -48,6 +48,7 @@ pub fn profile_at<W: Store>(
     ensures profile { IfSome (W.objects store.new) (λ objects. IfOk result (λ found. found ≡ profile_at name.now objects)) }
     ensures looked { Looked (W.objects store.old) (W.objects store.new) (W.alone store.old) (W.alone store.new) }
     ensures cause { Cause (W.faults store.old) (W.faults store.new) (failed_load result) }
+    ensures stored { W.stored store.new ≡ W.stored store.old }
 {
     let mut piece = vec![in alloc; 0; PIECE]?;
     match fetch(alloc, store, name, MOST_PROFILE, &mut piece) {

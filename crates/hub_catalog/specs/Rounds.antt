@@ -1,5 +1,5 @@
 -- What the steps of an edit do, one after another.
-use Rattle.std.specs.Prelude.{◌≡◌, ◌⊎◌, ℕ, ◌≤◌, ◌<◌, Bool, true, false, List, [], ◌∷◌, Option, Some, None, Result, Ok, Err, IfSome, IsSome, length}
+use Rattle.std.specs.Prelude.{◌≡◌, ◌⊎◌, ℕ, ◌+◌, ◌≤◌, ◌<◌, Bool, true, false, List, [], ◌∷◌, Option, Some, None, Result, Ok, Err, IfSome, IsSome, length}
 use Rattle.std.specs.FinMap as finmap
 use Rattle.edge_core.specs.Objects.{Grows, Lacks, Objects}
 use Rattle.log_store.specs.Loads.{Looked}
@@ -82,6 +82,13 @@ failed_tried tried.Exists = false
 failed_tried tried.StoreFault = true
 failed_tried tried.NoMemory = false
 
+-- how many puts the store has stored after a try
+abbrev pub acknowledged_tried : ℕ → Tried → ℕ
+acknowledged_tried before tried.Done = before + 1
+acknowledged_tried before tried.Exists = before
+acknowledged_tried before tried.StoreFault = before
+acknowledged_tried before tried.NoMemory = before
+
 abbrev pub TriedStore : Tried → Edit → ℕ → Option Objects → Option Objects → Bool → Bool → P → Type 0
 TriedStore tried.Done e n old new was is q = Stored old new was is n e
 TriedStore tried.Exists e n old new was is q = Looked old new was is × IfSome new (λ os. IsSome (finmap.get os (record_name_of n)))
@@ -115,6 +122,12 @@ abbrev pub failed_round : Round → Bool
 failed_round (round.Found n) = false
 failed_round round.Done = false
 failed_round (round.End x) = failed_edit (Err x)
+
+-- how many puts the store has stored after a round
+abbrev pub acknowledged_round : ℕ → Round → ℕ
+acknowledged_round before (round.Found n) = before
+acknowledged_round before round.Done = before + 1
+acknowledged_round before (round.End x) = before
 
 -- from where the caller had begun on: found edits, and then its own, or Abort
 abbrev pub RunsOn : Result ℕ EditEnd → Edit → Option Objects → Option Objects → P → P → Type 0

@@ -8,11 +8,11 @@ ghost use Rattle.share_catalog.specs.Catalogue.{refusal_of};
 ghost use Rattle.share_book.specs.History.{edits, open_on};
 ghost use Rattle.share_book.specs.declared.entry.LogStart.{LogStart};
 ghost use Rattle.share_book.specs.declared.entry.Act.TheVariants as act;
-ghost use Rattle.hub_calls.specs.Calls.{IsIdle};
+ghost use Rattle.hub_calls.specs.Calls.{IsIdle, acknowledged};
 ghost use Rattle.hub_catalog.specs.CatalogCalls.{HasBegun, Stops};
 ghost use Rattle.hub_catalog.specs.CatalogTurns.{LoadFits};
 ghost use Rattle.hub_catalog.specs.Edits.{Edits, Leaves, failed_edit};
-ghost use Rattle.hub_catalog.specs.Rounds.{IsMade, OwnRounds, RoundStore, Rounds, RunsOn, TriedStore, Tries, end_by, failed_round, failed_tried, refusal_by};
+ghost use Rattle.hub_catalog.specs.Rounds.{IsMade, OwnRounds, RoundStore, Rounds, RunsOn, TriedStore, Tries, acknowledged_round, acknowledged_tried, end_by, failed_round, failed_tried, refusal_by};
 ghost use Rattle.hub_catalog.specs.declared.edit.Round.TheVariants as round;
 
 use crate::caller::Caller;
@@ -146,6 +146,7 @@ impl<'a, R: Wait> Caller<'a, R> {
         ensures tried { (l : Option LogStart) → IsMade own.old next.now.edit.now l next.now.number → Tries result next.now.edit.now l pass.old pass.new }
         ensures store { TriedStore result next.now.edit.now next.now.number (W.objects store.old) (W.objects store.new) (W.alone store.old) (W.alone store.new) pass.new }
         ensures cause { Cause (W.faults store.old) (W.faults store.new) (failed_tried result) }
+        ensures stored { W.stored store.new ≡ acknowledged_tried (W.stored store.old) result }
     {
         match store.put_absent(&own.name, &own.bytes) {
             Put::Stored => {
@@ -179,6 +180,7 @@ impl<'a, R: Wait> Caller<'a, R> {
         ensures tried { Tries result next.now.edit.now load.old pass.old pass.new }
         ensures store { TriedStore result next.now.edit.now next.now.number (W.objects store.old) (W.objects store.new) (W.alone store.old) (W.alone store.new) pass.new }
         ensures cause { Cause (W.faults store.old) (W.faults store.new) (failed_tried result) }
+        ensures stored { W.stored store.new ≡ acknowledged_tried (W.stored store.old) result }
     {
         match prepare(self.alloc, next, load) {
             Ok(mut own) => self.put_made(pass, store, next, &mut own),
@@ -195,6 +197,7 @@ impl<'a, R: Wait> Caller<'a, R> {
         requires begun { HasBegun pass.old next.now.number }
         requires exists { IfSome (W.objects store.old) (λ os. IsSome (finmap.get os (record_name_of next.now.number))) }
         ensures same { IsIdle pass.old pass.new }
+        ensures stored { W.stored store.new ≡ acknowledged_round (W.stored store.old) result }
         ensures round { Rounds result next.now.edit.now next.now.number (W.objects store.old) (W.objects store.new) pass.old pass.new }
         ensures store { RoundStore result next.now.edit.now next.now.number (W.objects store.old) (W.objects store.new) (W.alone store.old) (W.alone store.new) pass.new }
         ensures cause { Cause (W.faults store.old) (W.faults store.new) (failed_round result) }
@@ -225,6 +228,7 @@ impl<'a, R: Wait> Caller<'a, R> {
         ensures round { OwnRounds result next.now.edit.now load.old next.now.number (W.objects store.old) (W.objects store.new) pass.old pass.new }
         ensures store { RoundStore result next.now.edit.now next.now.number (W.objects store.old) (W.objects store.new) (W.alone store.old) (W.alone store.new) pass.new }
         ensures cause { Cause (W.faults store.old) (W.faults store.new) (failed_round result) }
+        ensures stored { W.stored store.new ≡ acknowledged_round (W.stored store.old) result }
     {
         match self.put_own(pass, store, next, load) {
             Tried::Done => Round::Done,
@@ -243,6 +247,7 @@ impl<'a, R: Wait> Caller<'a, R> {
         ensures round { Rounds result next.now.edit.now next.now.number (W.objects store.old) (W.objects store.new) pass.old pass.new }
         ensures store { RoundStore result next.now.edit.now next.now.number (W.objects store.old) (W.objects store.new) (W.alone store.old) (W.alone store.new) pass.new }
         ensures cause { Cause (W.faults store.old) (W.faults store.new) (failed_round result) }
+        ensures stored { W.stored store.new ≡ acknowledged_round (W.stored store.old) result }
     {
         match self.allow(pass, store, next.edit) {
             Allowed::Fits(mut load) => self.own(pass, store, next, &mut load),
@@ -259,6 +264,7 @@ impl<'a, R: Wait> Caller<'a, R> {
         ensures round { Rounds result next.now.edit.now next.now.number (W.objects store.old) (W.objects store.new) pass.old pass.new }
         ensures store { RoundStore result next.now.edit.now next.now.number (W.objects store.old) (W.objects store.new) (W.alone store.old) (W.alone store.new) pass.new }
         ensures cause { Cause (W.faults store.old) (W.faults store.new) (failed_round result) }
+        ensures stored { W.stored store.new ≡ acknowledged_round (W.stored store.old) result }
     {
         match self.next_record(pass, store, next.number) {
             Next::Found(count) => Round::Found(count),
@@ -281,6 +287,7 @@ impl<'a, R: Wait> Caller<'a, R> {
         ensures run { RunsOn result edit.now (W.objects store.old) (W.objects store.new) pass.old pass.new }
         ensures store { Leaves result edit.now (W.objects store.old) (W.objects store.new) (W.alone store.old) (W.alone store.new) pass.new }
         ensures cause { Cause (W.faults store.old) (W.faults store.new) (failed_edit result) }
+        ensures stored { W.stored store.new ≡ acknowledged (W.stored store.old) result }
     {
         let mut number = first;
         for turn in 0..64u32 {
@@ -295,7 +302,8 @@ impl<'a, R: Wait> Caller<'a, R> {
     }
 
     /// Makes an edit of the catalogue as the next record of the store, and answers the record's number. Records that the store has
-    /// beyond those that are known are published before.
+    /// beyond those that are known are published before. The store's count of stored puts rises by one with `Ok`, and stays with each other
+    /// answer: what is acknowledged is this call's own put.
     pub fn edit<W: Store>(
         &self,
         pass: &mut HubPass,
@@ -307,6 +315,7 @@ impl<'a, R: Wait> Caller<'a, R> {
         ensures entries { Edits result edit.now (W.objects store.old) (W.objects store.new) pass.old pass.new }
         ensures store { Leaves result edit.now (W.objects store.old) (W.objects store.new) (W.alone store.old) (W.alone store.new) pass.new }
         ensures cause { Cause (W.faults store.old) (W.faults store.new) (failed_edit result) }
+        ensures stored { W.stored store.new ≡ acknowledged (W.stored store.old) result }
     {
         match self.begin(pass) {
             Some(first) => self.rounds(pass, store, edit, first),

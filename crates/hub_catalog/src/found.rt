@@ -67,6 +67,7 @@ impl<'a, R: Wait> Caller<'a, R> {
         ensures allowed { AllowsIn result edit.now (W.objects store.old) (W.objects store.new) pass.new.seen }
         ensures looked { Looked (W.objects store.old) (W.objects store.new) (W.alone store.old) (W.alone store.new) }
         ensures cause { Cause (W.faults store.old) (W.faults store.new) (failed_allowed result) }
+        ensures stored { W.stored store.new ≡ W.stored store.old }
     {
         let checked = self.check(pass, edit);
         allow(self.alloc, store, edit, checked)
@@ -110,6 +111,7 @@ impl<'a, R: Wait> Caller<'a, R> {
         ensures next { Nexts result number (W.objects store.old) (W.objects store.new) pass.old pass.new }
         ensures looked { Looked (W.objects store.old) (W.objects store.new) (W.alone store.old) (W.alone store.new) }
         ensures cause { Cause (W.faults store.old) (W.faults store.new) (failed_next result) }
+        ensures stored { W.stored store.new ≡ W.stored store.old }
     {
         match self.allow(pass, store, edit) {
             Allowed::Fits(mut load) => self.publish(pass, edit, &mut load),
@@ -131,6 +133,7 @@ impl<'a, R: Wait> Caller<'a, R> {
         ensures next { Nexts result number (W.objects store.old) (W.objects store.new) pass.old pass.new }
         ensures looked { Looked (W.objects store.old) (W.objects store.new) (W.alone store.old) (W.alone store.new) }
         ensures cause { Cause (W.faults store.old) (W.faults store.new) (failed_next result) }
+        ensures stored { W.stored store.new ≡ W.stored store.old }
     {
         match read_record(self.alloc, store, number) {
             Ok(Read::Edit(edit)) => self.found(pass, store, &edit, number),

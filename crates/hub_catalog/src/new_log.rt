@@ -51,6 +51,7 @@ fn new_log<W: Store>(
     ensures looked { Looked (W.objects store.old) (W.objects store.new) (W.alone store.old) (W.alone store.new) }
     ensures log { IsNewLog result location.now (W.objects store.old) (W.objects store.new) }
     ensures cause { Cause (W.faults store.old) (W.faults store.new) (failed_load result) }
+    ensures stored { W.stored store.new ≡ W.stored store.old }
 {
     match load(alloc, store, location.name()) {
         Ok(loaded) => match ready_from(alloc, location, loaded) {
@@ -71,6 +72,7 @@ pub(crate) fn allow<W: Store>(
     ensures looked { Looked (W.objects store.old) (W.objects store.new) (W.alone store.old) (W.alone store.new) }
     ensures allowed { (h : List Entry) → ChecksIn checked edit.now h → AllowsIn result edit.now (W.objects store.old) (W.objects store.new) h }
     ensures cause { Cause (W.faults store.old) (W.faults store.new) (failed_allowed result) }
+    ensures stored { W.stored store.new ≡ W.stored store.old }
 {
     match checked {
         Checked::Refused(refusal) => Allowed::Refused(refusal),

@@ -94,6 +94,7 @@ fn add_found<W: Store>(
     ensures added { AddsIn result number (W.objects store.old) (W.objects store.new) book.old.past.history book.new.past.history }
     ensures looked { Looked (W.objects store.old) (W.objects store.new) (W.alone store.old) (W.alone store.new) }
     ensures cause { Cause (W.faults store.old) (W.faults store.new) (failed_added result) }
+    ensures stored { W.stored store.new ≡ W.stored store.old }
 {
     let checked = check_in(book, edit);
     match allow(alloc, store, edit, checked) {
@@ -111,6 +112,7 @@ fn add_next<W: Store>(alloc: Global, store: &mut W, book: &mut Book, number: u64
     ensures added { AddsIn result number (W.objects store.old) (W.objects store.new) book.old.past.history book.new.past.history }
     ensures looked { Looked (W.objects store.old) (W.objects store.new) (W.alone store.old) (W.alone store.new) }
     ensures cause { Cause (W.faults store.old) (W.faults store.new) (failed_added result) }
+    ensures stored { W.stored store.new ≡ W.stored store.old }
 {
     match read_record(alloc, store, number) {
         Ok(Read::Edit(edit)) => add_found(alloc, store, book, &edit, number),
@@ -137,12 +139,13 @@ fn begun(alloc: Global) -> Result<Book, AllocError>
 const MOST_RECORDS: u64 = 1 << 63;
 
 /// The book of the records of a store, from 0 up to the first that is absent, each edit right after the log that was loaded for it, between
-/// caller 0's Begin and Abort. Nothing is stored.
+/// caller 0's Begin and Abort. Nothing is stored: the store's count of stored puts stays.
 pub fn read_book<W: Store>(alloc: Global, store: &mut W) -> Result<Book, OpenRefusal>
     ensures rests { IfOk result (λ b. rests b ≡ true) }
     ensures read { ReadsBook result (W.objects store.old) (W.objects store.new) }
     ensures looked { Looked (W.objects store.old) (W.objects store.new) (W.alone store.old) (W.alone store.new) }
     ensures cause { Cause (W.faults store.old) (W.faults store.new) (failed_open result) }
+    ensures stored { W.stored store.new ≡ W.stored store.old }
 {
     let Ok(mut book) = begun(alloc) else {
         return Err(OpenRefusal::NoMemory);

@@ -51,6 +51,7 @@ pub(crate) fn read_record<W: Store>(
     ensures looked { Looked (W.objects store.old) (W.objects store.new) (W.alone store.old) (W.alone store.new) }
     ensures record { IfSome (W.objects store.new) (λ os. IsRead (record_at os number) result) }
     ensures cause { Cause (W.faults store.old) (W.faults store.new) (failed_load result) }
+    ensures stored { W.stored store.new ≡ W.stored store.old }
 {
     let Ok(name) = record_name(alloc, number) else {
         return Err(LoadRefusal::NoMemory);

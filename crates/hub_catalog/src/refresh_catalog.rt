@@ -40,6 +40,7 @@ fn look_ahead<W: Store>(alloc: Global, store: &mut W, number: u64) -> Ahead
     ensures looked { Looked (W.objects store.old) (W.objects store.new) (W.alone store.old) (W.alone store.new) }
     ensures next { IsAhead result number (W.objects store.new) }
     ensures cause { Cause (W.faults store.old) (W.faults store.new) (failed_ahead result) }
+    ensures stored { W.stored store.new ≡ W.stored store.old }
 {
     let Ok(name) = record_name(alloc, number) else {
         return Ahead::Failed(LoadRefusal::NoMemory);
@@ -65,6 +66,7 @@ impl<'a, R: Wait> Caller<'a, R> {
         ensures run { RefreshesOn result (W.objects store.old) (W.objects store.new) pass.old pass.new }
         ensures looked { Looked (W.objects store.old) (W.objects store.new) (W.alone store.old) (W.alone store.new) }
         ensures cause { Cause (W.faults store.old) (W.faults store.new) (failed_refresh result) }
+        ensures stored { W.stored store.new ≡ W.stored store.old }
     {
         let mut number = first;
         for turn in 0..64u32 {
@@ -98,6 +100,7 @@ impl<'a, R: Wait> Caller<'a, R> {
         ensures same { IsIdle pass.old pass.new }
         ensures looked { Looked (W.objects store.old) (W.objects store.new) (W.alone store.old) (W.alone store.new) }
         ensures cause { Cause (W.faults store.old) (W.faults store.new) (failed_refresh result) }
+        ensures stored { W.stored store.new ≡ W.stored store.old }
     {
         match self.begin(pass) {
             Some(first) => self.refresh_on(pass, store, first),
@@ -106,7 +109,7 @@ impl<'a, R: Wait> Caller<'a, R> {
     }
 
     /// Takes over records of the catalogue that others have stored, at most 64 in a call, each with the log that it needs. Nothing is
-    /// added where the next record isn't there.
+    /// added where the next record isn't there. Nothing is stored: the store's count of stored puts stays.
     pub fn refresh_catalog<W: Store>(
         &self,
         pass: &mut HubPass,
@@ -117,6 +120,7 @@ impl<'a, R: Wait> Caller<'a, R> {
         ensures entries { Refreshes result (W.objects store.old) (W.objects store.new) pass.old pass.new }
         ensures looked { Looked (W.objects store.old) (W.objects store.new) (W.alone store.old) (W.alone store.new) }
         ensures cause { Cause (W.faults store.old) (W.faults store.new) (failed_refresh result) }
+        ensures stored { W.stored store.new ≡ W.stored store.old }
     {
         let edits = self.edit_count(pass);
         match look_ahead(self.alloc, store, edits) {

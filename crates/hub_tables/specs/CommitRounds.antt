@@ -1,5 +1,5 @@
 -- What the steps of a commit do, one after another.
-use Rattle.std.specs.Prelude.{◌≡◌, ℕ, ◌^◌, ◌≤◌, ◌<◌, Bool, true, false, List, [], ◌∷◌, ◌++◌, Option, Some, None, Result, Ok, Err, IfSome, IsSome, length}
+use Rattle.std.specs.Prelude.{◌≡◌, ℕ, ◌+◌, ◌^◌, ◌≤◌, ◌<◌, Bool, true, false, List, [], ◌∷◌, ◌++◌, Option, Some, None, Result, Ok, Err, IfSome, IsSome, length}
 use Rattle.std.specs.FinMap as finmap
 use Rattle.edge_core.specs.Objects.{Objects}
 use Rattle.log_actions.specs.declared.actions.Action.{Action}
@@ -22,7 +22,7 @@ use Rattle.hub_tables.specs.declared.table_rounds.LogEnd.{LogEnd}
 use Rattle.hub_tables.specs.declared.table_rounds.LogEnd.TheVariants as end
 use Rattle.hub_tables.specs.declared.table_rounds.LogHead.{LogHead}
 use Rattle.hub_tables.specs.declared.table_rounds.NextCommit.TheVariants as next
-use Rattle.hub_calls.specs.Calls.{P}
+use Rattle.hub_calls.specs.Calls.{P, acknowledged}
 use Rattle.hub_tables.specs.Additions.{AtMost, IsOneMore, Places}
 use Rattle.hub_tables.specs.Commits.{CommitEnds, CommitLeft, failed_commit}
 use Rattle.hub_tables.specs.FoundCommits.{AreFound}
@@ -66,6 +66,14 @@ failed_place place.Exists = false
 failed_place place.Limit = false
 failed_place place.StoreFault = true
 failed_place place.NoMemory = false
+
+-- how many puts the store has stored after it
+abbrev pub acknowledged_place : ℕ → PlaceEnd → ℕ
+acknowledged_place before place.Done = before + 1
+acknowledged_place before place.Exists = before
+acknowledged_place before place.Limit = before
+acknowledged_place before place.StoreFault = before
+acknowledged_place before place.NoMemory = before
 
 -- ---- rounds
 
@@ -117,3 +125,8 @@ RoundLeft (Some r) now o j old new was is q = CommitLeft r now o j old new was i
 abbrev pub failed_round : Option (Result ℕ CommitRefusal) → Bool
 failed_round None = false
 failed_round (Some r) = failed_commit r
+
+-- how many puts the store has stored after a round
+abbrev pub acknowledged_round : ℕ → Option (Result ℕ CommitRefusal) → ℕ
+acknowledged_round before None = before
+acknowledged_round before (Some r) = acknowledged before r

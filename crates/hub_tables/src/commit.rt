@@ -8,8 +8,8 @@ ghost use Rattle.commit_check.specs.Admission.{Answers, admitted};
 ghost use Rattle.share_book.specs.History.{table_on};
 ghost use Rattle.share_book.specs.Legal.{There};
 ghost use Rattle.share_book.specs.declared.entry.Act.TheVariants as act;
-ghost use Rattle.hub_calls.specs.Calls.{IsIdle};
-ghost use Rattle.hub_tables.specs.CommitRounds.{Agains, CommitRounds, CommitRuns, HasName, HoldsSome, IsFit, PlacedStore, PlacesOn, RoundLeft, failed_again, failed_place, failed_round, refused_by, refused_for};
+ghost use Rattle.hub_calls.specs.Calls.{IsIdle, acknowledged};
+ghost use Rattle.hub_tables.specs.CommitRounds.{Agains, CommitRounds, CommitRuns, HasName, HoldsSome, IsFit, PlacedStore, PlacesOn, RoundLeft, acknowledged_place, acknowledged_round, failed_again, failed_place, failed_round, refused_by, refused_for};
 ghost use Rattle.hub_tables.specs.Commits.{CommitBegan, CommitLeaves, CommitLeft, Commits, LacksNext, failed_commit};
 ghost use Rattle.hub_tables.specs.RefreshRounds.{OpensOn};
 ghost use Rattle.hub_tables.specs.TableCalls.{GoesOn, StopsOn};
@@ -165,6 +165,7 @@ impl<'a, R: Wait> Caller<'a, R> {
         ensures placed { PlacesOn result stored.now.log commit pass.old pass.new }
         ensures store { PlacedStore result (commit_name stored.now.location.now head.now.support.versions) (commit_text commit) (W.objects store.old) (W.objects store.new) (W.alone store.old) (W.alone store.new) }
         ensures cause { Cause (W.faults store.old) (W.faults store.new) (failed_place result) }
+        ensures stored { W.stored store.new ≡ acknowledged_place (W.stored store.old) result }
     {
         let len = text_len(&commit);
         if len > MOST_LOG_BYTES - head.bytes {
@@ -210,6 +211,7 @@ impl<'a, R: Wait> Caller<'a, R> {
         ensures next { Agains result stored.now.location.now stored.now.log head.old head.new (W.objects store.new) pass.old pass.new }
         ensures looked { Looked (W.objects store.old) (W.objects store.new) (W.alone store.old) (W.alone store.new) }
         ensures cause { Cause (W.faults store.old) (W.faults store.new) (failed_again result) }
+        ensures stored { W.stored store.new ≡ W.stored store.old }
     {
         match self.next_commit(pass, store, stored, head) {
             NextCommit::Found => None,
@@ -256,6 +258,7 @@ impl<'a, R: Wait> Caller<'a, R> {
         ensures round { CommitRounds result attempt.now.moment attempt.now.offer.now attempt.now.log head.old head.new (W.objects store.old) (W.objects store.new) pass.old pass.new }
         ensures store { RoundLeft result attempt.now.moment attempt.now.offer.now attempt.now.log (W.objects store.old) (W.objects store.new) (W.alone store.old) (W.alone store.new) pass.new }
         ensures cause { Cause (W.faults store.old) (W.faults store.new) (failed_round result) }
+        ensures stored { W.stored store.new ≡ acknowledged_round (W.stored store.old) result }
     {
         let stored = StoredLog {
             location: &attempt.offer.location,
@@ -291,6 +294,7 @@ impl<'a, R: Wait> Caller<'a, R> {
         ensures round { CommitRounds result attempt.now.moment attempt.now.offer.now attempt.now.log head.old head.new (W.objects store.old) (W.objects store.new) pass.old pass.new }
         ensures store { RoundLeft result attempt.now.moment attempt.now.offer.now attempt.now.log (W.objects store.old) (W.objects store.new) (W.alone store.old) (W.alone store.new) pass.new }
         ensures cause { Cause (W.faults store.old) (W.faults store.new) (failed_round result) }
+        ensures stored { W.stored store.new ≡ acknowledged_round (W.stored store.old) result }
     {
         let version = head.support.versions();
         let stored = StoredLog {
@@ -319,6 +323,7 @@ impl<'a, R: Wait> Caller<'a, R> {
         ensures runs { CommitRuns result attempt.now.moment attempt.now.offer.now (W.objects store.old) (W.objects store.new) pass.old pass.new attempt.now.log }
         ensures store { CommitLeft result attempt.now.moment attempt.now.offer.now attempt.now.log (W.objects store.old) (W.objects store.new) (W.alone store.old) (W.alone store.new) pass.new }
         ensures cause { Cause (W.faults store.old) (W.faults store.new) (failed_commit result) }
+        ensures stored { W.stored store.new ≡ acknowledged (W.stored store.old) result }
     {
         for found in 0..64u32 {
             match self.commit_round(pass, store, attempt, head) {
@@ -345,6 +350,7 @@ impl<'a, R: Wait> Caller<'a, R> {
         ensures runs { CommitRuns result attempt.now.moment attempt.now.offer.now (W.objects store.old) (W.objects store.new) pass.old pass.new attempt.now.log }
         ensures store { CommitLeft result attempt.now.moment attempt.now.offer.now attempt.now.log (W.objects store.old) (W.objects store.new) (W.alone store.old) (W.alone store.new) pass.new }
         ensures cause { Cause (W.faults store.old) (W.faults store.new) (failed_commit result) }
+        ensures stored { W.stored store.new ≡ acknowledged (W.stored store.old) result }
     {
         match state.block {
             Some(version) => {
@@ -375,6 +381,7 @@ impl<'a, R: Wait> Caller<'a, R> {
         ensures began { CommitBegan result attempt.now.moment attempt.now.offer.now (W.objects store.old) (W.objects store.new) pass.old pass.new attempt.now.log }
         ensures store { CommitLeft result attempt.now.moment attempt.now.offer.now attempt.now.log (W.objects store.old) (W.objects store.new) (W.alone store.old) (W.alone store.new) pass.new }
         ensures cause { Cause (W.faults store.old) (W.faults store.new) (failed_commit result) }
+        ensures stored { W.stored store.new ≡ acknowledged (W.stored store.old) result }
     {
         match self.begin_log(pass, attempt.log) {
             Some(state) => self.commit_open(pass, store, attempt, state),
@@ -383,7 +390,8 @@ impl<'a, R: Wait> Caller<'a, R> {
     }
 
     /// Adds the commit of an offer to a table's log, as its next version, and answers the version. Commits that the store has beyond
-    /// those that are known are published before.
+    /// those that are known are published before. The store's count of stored puts rises by one with `Ok`, and stays with each other answer:
+    /// what is acknowledged is this call's own put.
     pub fn commit<W: Store>(
         &self,
         pass: &mut HubPass,
@@ -396,6 +404,7 @@ impl<'a, R: Wait> Caller<'a, R> {
         ensures entries { Commits result now offer.now (W.objects store.old) (W.objects store.new) pass.old pass.new }
         ensures store { CommitLeaves result now offer.now (W.objects store.old) (W.objects store.new) (W.alone store.old) (W.alone store.new) pass.new }
         ensures cause { Cause (W.faults store.old) (W.faults store.new) (failed_commit result) }
+        ensures stored { W.stored store.new ≡ acknowledged (W.stored store.old) result }
     {
         if offer.location.as_str().len() > MOST_LOCATION {
             return Err(CommitRefusal::NotLoaded);

@@ -124,6 +124,7 @@ impl<'a, R: Wait> Caller<'a, R> {
         ensures runs { RefreshRuns result stored.now.location.now stored.now.log (W.objects store.old) (W.objects store.new) pass.old pass.new }
         ensures looked { Looked (W.objects store.old) (W.objects store.new) (W.alone store.old) (W.alone store.new) }
         ensures cause { Cause (W.faults store.old) (W.faults store.new) (failed_refresh result) }
+        ensures stored { W.stored store.new ≡ W.stored store.old }
     {
         for found in 0..64u32 {
             let kept = head.support.versions();
@@ -163,6 +164,7 @@ impl<'a, R: Wait> Caller<'a, R> {
         ensures runs { RefreshRuns result stored.now.location.now stored.now.log (W.objects store.old) (W.objects store.new) pass.old pass.new }
         ensures looked { Looked (W.objects store.old) (W.objects store.new) (W.alone store.old) (W.alone store.new) }
         ensures cause { Cause (W.faults store.old) (W.faults store.new) (failed_refresh result) }
+        ensures stored { W.stored store.new ≡ W.stored store.old }
     {
         match state.block {
             Some(_) => {
@@ -193,6 +195,7 @@ impl<'a, R: Wait> Caller<'a, R> {
         ensures ran { RefreshesOn result stored.now.location.now stored.now.log (W.objects store.old) (W.objects store.new) pass.old pass.new }
         ensures looked { Looked (W.objects store.old) (W.objects store.new) (W.alone store.old) (W.alone store.new) }
         ensures cause { Cause (W.faults store.old) (W.faults store.new) (failed_refresh result) }
+        ensures stored { W.stored store.new ≡ W.stored store.old }
     {
         match self.begin_log(pass, stored.log) {
             Some(state) => self.refresh_open(pass, store, stored, state),
@@ -201,7 +204,7 @@ impl<'a, R: Wait> Caller<'a, R> {
     }
 
     /// Publishes the commits that the store has beyond those of the log that was loaded from a location, at most 64 in a call. Nothing is
-    /// added where the next version isn't there.
+    /// added where the next version isn't there. Nothing is stored: the store's count of stored puts stays.
     pub fn refresh<W: Store>(
         &self,
         pass: &mut HubPass,
@@ -213,6 +216,7 @@ impl<'a, R: Wait> Caller<'a, R> {
         ensures entries { Refreshes result location.now (W.objects store.old) (W.objects store.new) pass.old pass.new }
         ensures store { Looked (W.objects store.old) (W.objects store.new) (W.alone store.old) (W.alone store.new) }
         ensures cause { Cause (W.faults store.old) (W.faults store.new) (failed_refresh result) }
+        ensures stored { W.stored store.new ≡ W.stored store.old }
     {
         if location.as_str().len() > MOST_LOCATION {
             return Err(RefreshRefusal::NotLoaded);

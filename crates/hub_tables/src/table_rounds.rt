@@ -109,6 +109,7 @@ pub(crate) fn has_version<W: Store>(
     ensures looked { Looked (W.objects store.old) (W.objects store.new) (W.alone store.old) (W.alone store.new) }
     ensures there { IfSome (W.objects store.new) (λ os. IsThere (text_at location.now os version) result) }
     ensures cause { Cause (W.faults store.old) (W.faults store.new) (failed_load result) }
+    ensures stored { W.stored store.new ≡ W.stored store.old }
 {
     if version >= 1 << 63 {
         return Err(LoadRefusal::NoMemory);
@@ -135,6 +136,7 @@ impl<'a, R: Wait> Caller<'a, R> {
         ensures probed { IfSome (W.objects store.new) (λ os. IsProbed (text_at location.now os version) result) }
         ensures counted { IfOk result IsCounted }
         ensures cause { Cause (W.faults store.old) (W.faults store.new) (failed_load result) }
+        ensures stored { W.stored store.new ≡ W.stored store.old }
     {
         if version >= 1 << 63 {
             return Err(LoadRefusal::NoMemory);
@@ -189,6 +191,7 @@ impl<'a, R: Wait> Caller<'a, R> {
         ensures next { Nexts result stored.now.location.now stored.now.log head.old head.new (W.objects store.new) pass.old pass.new }
         ensures looked { Looked (W.objects store.old) (W.objects store.new) (W.alone store.old) (W.alone store.new) }
         ensures cause { Cause (W.faults store.old) (W.faults store.new) (failed_next_commit result) }
+        ensures stored { W.stored store.new ≡ W.stored store.old }
     {
         match self.look_next(store, stored.location, head.support.versions()) {
             Ok(Probed::Found(commit, bytes)) => {

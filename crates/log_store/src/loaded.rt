@@ -70,8 +70,8 @@ pub enum BlockCause {
 pub struct Block {
     /// The version, which is how many are kept.
     pub version: u64,
-    /// The first cause that holds, in the order of `BlockCause`'s last four: a text that isn't a
-    /// commit's, too many bytes, a version that isn't read.
+    /// The first cause that holds: no commit of that version is stored; a text that isn't a commit's, too
+    /// many bytes, a version that isn't read.
     pub cause: BlockCause,
 }
 

@@ -26,6 +26,7 @@ fn listed_versions<W: Store>(
     ensures looked { Looked (W.objects store.old) (W.objects store.new) (W.alone store.old) (W.alone store.new) }
     ensures versions { IfOk result (λ versions. IfSome (W.objects store.new) (λ os. versions.items ≡ versions_in location.now os)) }
     ensures cause { Cause (W.faults store.old) (W.faults store.new) (failed_load result) }
+    ensures stored { W.stored store.new ≡ W.stored store.old }
 {
     let folder = folder_name(alloc, location)?;
     match store.list(alloc, &folder) {
@@ -50,6 +51,7 @@ fn read_listed<W: Store>(
     ensures log { IfSome (W.objects store.old) (λ os. IfOk result (λ block. loaded_of kept.new block ≡ log_in location.now os)) }
     ensures next { IfOk result (λ block. IfSome block (λ b. b.version ≡ length kept.new)) }
     ensures cause { Cause (W.faults store.old) (W.faults store.new) (failed_load result) }
+    ensures stored { W.stored store.new ≡ W.stored store.old }
 {
     let count = leading(versions);
     let block = read_on(alloc, store, location, kept, count as u64)?;
@@ -65,19 +67,22 @@ fn read_listed<W: Store>(
 /// cause, where it or a later one is named in the folder. Commits that others add later aren't read.
 /// A folder that names no version gives no commits and no block.
 ///
-/// A version is told as missing only where it is still absent after a later one was seen, and none
-/// is read twice. A log grows by one version after the other, so what a listing of a folder that
-/// others write to lacks is there by then: it is asked for by its name, and so is each after it, up
-/// to the greatest that was listed. What is greater isn't asked for, since others may write faster
+/// Of a store whose listings are of one moment (`Store::lists_at_once`) the log is that moment's. Of
+/// any other a version is told as missing only where it is still absent after a later one was seen,
+/// and none is read twice: a log grows by one version after the other, so what a listing of a folder
+/// that others write to lacks is there by then. It is asked for by its name, and so is each after it,
+/// up to the greatest that was listed. What is greater isn't asked for, since others may write faster
 /// than we read.
 ///
-/// `StoreFault` comes where a call of the store failed, and `NoMemory` for want of memory.
+/// Nothing is stored: the store's count of stored puts stays. `StoreFault` comes where a call of the store failed, and `NoMemory` for want of
+/// memory.
 pub fn load<W: Store>(alloc: Global, store: &mut W, location: &Name) -> Result<Loaded, LoadRefusal>
     requires { length location.now ≤ 256 }
     ensures looked { Looked (W.objects store.old) (W.objects store.new) (W.alone store.old) (W.alone store.new) }
     ensures log { Between (W.objects store.old) (W.objects store.new) (λ os. IfOk result (λ loaded. loaded ≡ log_in location.now os)) }
     ensures kept { IfOk result IsLoaded }
     ensures cause { Cause (W.faults store.old) (W.faults store.new) (failed_load result) }
+    ensures stored { W.stored store.new ≡ W.stored store.old }
 {
     let versions = listed_versions(alloc, store, location)?;
     let mut kept = Kept::new(alloc);

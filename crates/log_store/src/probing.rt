@@ -41,8 +41,8 @@ fn probed_in(alloc: Global, bytes: &[u8]) -> Result<Probed, LoadRefusal>
 
 /// What a store has as the version of a table's log (Delta Lake PROTOCOL.md, "Delta Log Entries"):
 /// nothing, a commit, or bytes that are none. The object is read whole, up to 16 MiB and one byte
-/// more. Nothing is stored. A fault comes only where the store's count of faults rose in this call;
-/// it says nothing of the version, nor does want of memory.
+/// more. Nothing is stored: the store's count of stored puts stays. A fault comes only where its count
+/// of faults rose in this call; it says nothing of the version, nor does want of memory.
 pub fn probe<W: Store>(
     alloc: Global,
     store: &mut W,
@@ -55,6 +55,7 @@ pub fn probe<W: Store>(
     ensures probed { IfSome (W.objects store.new) (λ os. IsProbed (text_at location.now os version) result) }
     ensures counted { IfOk result IsCounted }
     ensures cause { Cause (W.faults store.old) (W.faults store.new) (failed_load result) }
+    ensures stored { W.stored store.new ≡ W.stored store.old }
 {
     let mut piece = piece_room(alloc)?;
     let name = version_name(alloc, location, version)?;

@@ -41,7 +41,7 @@ pub(crate) fn piece_room(alloc: Global) -> Result<Vec<u8>, AllocError>
 
 /// An object of at most `limit` bytes, read in pieces of the length of `piece`; in which of the
 /// calls of the store it is absent or longer decides. A fault comes only where the store's count of
-/// faults rose in this call.
+/// faults rose in this call. Nothing is stored: its count of stored puts stays.
 pub fn fetch<W: Store>(
     alloc: Global,
     store: &mut W,
@@ -54,6 +54,7 @@ pub fn fetch<W: Store>(
     ensures looked { Looked (W.objects store.old) (W.objects store.new) (W.alone store.old) (W.alone store.new) }
     ensures object { IfSome (W.objects store.new) (λ os. IsFetched limit (finmap.get os name.now) result) }
     ensures cause { Cause (W.faults store.old) (W.faults store.new) (failed_load result) }
+    ensures stored { W.stored store.new ≡ W.stored store.old }
 {
     let mut bytes = Vec::new(alloc);
     while bytes.len() <= limit {
@@ -93,6 +94,7 @@ fn commit_of_version<W: Store>(
     ensures looked { Looked (W.objects store.old) (W.objects store.new) (W.alone store.old) (W.alone store.new) }
     ensures commit { IfSome (W.objects store.new) (λ os. IsCommitAt (text_at location.now os version) result) }
     ensures cause { Cause (W.faults store.old) (W.faults store.new) (failed_step result) }
+    ensures stored { W.stored store.new ≡ W.stored store.old }
 {
     let name = version_name(alloc, location, version)?;
     match fetch(alloc, store, &name, MOST_TEXT, piece)? {
@@ -120,6 +122,7 @@ fn keep_version<W: Store>(
     ensures same { OnErr result (kept.new ≡ kept.old) }
     ensures keeps { IfSome (W.objects store.new) (λ os. Keeps kept.old kept.new (text_at location.now os version) result) }
     ensures cause { Cause (W.faults store.old) (W.faults store.new) (failed_step result) }
+    ensures stored { W.stored store.new ≡ W.stored store.old }
 {
     let commit = commit_of_version(alloc, store, location, version, piece)?;
     kept.keep(alloc, Arc::new(alloc, commit)?)
@@ -142,6 +145,7 @@ pub(crate) fn read_on<W: Store>(
     ensures next { IfOk result (λ block. IfSome block (λ b. b.version ≡ length kept.new)) }
     ensures count { IfOk result (λ block. IfNone block (length kept.new ≡ max (length kept.old) end)) }
     ensures cause { Cause (W.faults store.old) (W.faults store.new) (failed_load result) }
+    ensures stored { W.stored store.new ≡ W.stored store.old }
 {
     let mut piece = piece_room(alloc)?;
     for version in kept.versions()..end {

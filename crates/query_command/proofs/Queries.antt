@@ -93,6 +93,7 @@ asks_runs location old new end asked rest = record {
   note_faults = ap (λ o. o.note_faults) rest;
   grows = same_objects old new (ap (λ o. o.objects) rest);
   same = on_true old.alone _ (ap (λ o. o.objects) rest);
+  stored = ap (λ o. o.stored) rest;
 }
 
 -- printing changes nothing but the output
@@ -123,4 +124,5 @@ printed_runs location old mid new text end found p =
       note_faults = ap (λ o. o.note_faults) rest ∙ found.note_faults;
       grows = subst (λ o. Grows old.objects o) objects found.grows;
       same = subst (λ o. OnTrue old.alone (o ≡ old.objects)) objects found.same;
+      stored = ap (λ o. o.stored) rest ∙ found.stored;
     }

@@ -47,3 +47,4 @@ pub record QueryRuns (location : List ℕ) (old new : Outside) (end : End) : Typ
   pub note_faults : new.note_faults ≡ old.note_faults
   pub grows : Grows old.objects new.objects
   pub same : OnTrue old.alone (new.objects ≡ old.objects)
+  pub stored : new.stored ≡ old.stored

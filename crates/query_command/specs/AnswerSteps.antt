@@ -12,6 +12,7 @@ pub record Found (location : List ℕ) (old new : Outside) (text : List ℕ) : T
   pub answers : IsAnswer location old new (Ok text)
   pub grows : Grows old.objects new.objects
   pub same : OnTrue old.alone (new.objects ≡ old.objects)
+  pub stored : new.stored ≡ old.stored
   pub held : new.held ≡ old.held
   pub write_faults : new.write_faults ≡ old.write_faults
   pub notes : new.noted ≡ old.noted

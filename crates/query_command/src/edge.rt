@@ -30,6 +30,7 @@ impl<S: Source, K: Sink, M: Sink, W: Store, C: Clock, G: Gate, L> Model
       objects = W.objects e.store;
       alone = W.alone e.store;
       store_faults = W.faults e.store;
+      stored = W.stored e.store;
       held = K.holds e.output;
       write_faults = K.faults e.output;
       noted = M.holds e.notes;

@@ -264,6 +264,7 @@ pub(crate) fn table_lines<W: Store, L>(
     ensures looked { Looked (W.objects store.old) (W.objects store.new)
         (W.alone store.old) (W.alone store.new) }
     ensures cause { Cause (W.faults store.old) (W.faults store.new) (failed_lines result) }
+    ensures stored { W.stored store.new ≡ W.stored store.old }
 {
     let log = load(alloc, store, location)?;
     log_lines(alloc, query, &log, steps)

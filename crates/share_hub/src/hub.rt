@@ -6,7 +6,8 @@ use std::alloc::Global;
 use std::marker::Model;
 use turn_cell::TurnCell;
 
-/// The server's shared state: one book, which callers have in turn. No turn is held over a call of a store.
+/// The server's shared state: one book, which callers have in turn. No turn is held over a call of a store. What a pass has seen after a
+/// call is legal, and by the hub's callers alone (`known`).
 #[derive(Drop)]
 pub struct Hub {
     pub(crate) cell: TurnCell<Book>,

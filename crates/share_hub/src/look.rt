@@ -3,7 +3,7 @@ ghost use Rattle.std.specs.Prelude.{◌≡◌, [], false, IfOk, IfSome, OnOk, le
 ghost use Rattle.share_book.specs.Bases.{CanReplay, FilesStand, MakesFound};
 ghost use Rattle.share_book.specs.Looks.{commits_of, glance_of, look_of, who_of};
 ghost use Rattle.share_book.specs.Views.{view_by};
-ghost use Rattle.hub_calls.specs.Calls.{Adds, IsIdle};
+ghost use Rattle.hub_calls.specs.Calls.{Adds, IsIdle, IsKnown};
 ghost use Rattle.share_hub.specs.Replays.{Replayed};
 
 use crate::hub::Hub;
@@ -42,6 +42,7 @@ impl Hub {
         ensures seen { IfOk result (λ p. p.look.seen ≡ glance_of (view_by pass.new.seen (who_of ask.now.who)) ask.now.want) }
         ensures makes { IfOk result (λ p. MakesFound (commits_of (view_by pass.new.seen (who_of ask.now.who)) ask.now.want) p.replay) }
         ensures fits { IfOk result (λ p. IfSome p.replay CanReplay) }
+        ensures known { IsKnown pass.new }
     {
         let mut turn = self.cell.take(rt, pass);
         let pinned = turn.value.pin(alloc, ask);
@@ -49,6 +50,7 @@ impl Hub {
             turn.value.touch(pinned);
         }
         self.cell.give(pass, turn);
+        pass.known();
         pinned
     }
 
@@ -69,6 +71,7 @@ impl Hub {
         requires cell { (pass.old.cell ≡ self.now) × (pass.old.holds ≡ false) }
         ensures same { IsIdle pass.old pass.new }
         ensures added { Adds pass.old pass.new [] }
+        ensures known { IsKnown pass.new }
         ensures at { IfOk result (λ l. l.at ≡ length pass.new.seen) }
         ensures seen { IfOk result (λ l. l.seen ≡ look_of (view_by pass.new.seen (who_of ask.now.who)) ask.now.want) }
         ensures counted { OnOk result (Replayed pass.old.seen pass.new.seen ask.now steps.old steps.new) }

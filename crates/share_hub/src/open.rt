@@ -16,8 +16,9 @@ impl Hub {
     ///
     /// The records are read from 0 up to the first that is absent, and the log of each location that one of them binds is
     /// loaded. The history begins with caller 0's Begin, the edits of the records in order, each right after the log that was
-    /// loaded for it, and caller 0's Abort. That a log has a version that isn't kept is no refusal. Nothing is stored. The hub tells for how
-    /// many callers it was made, and each pass knows that what it has seen is legal and theirs alone (`Pass::known`).
+    /// loaded for it, and caller 0's Abort. That a log has a version that isn't kept is no refusal. Nothing is stored: the store's
+    /// count of stored puts stays. The hub tells for how many callers it was made, and each pass knows that what it has seen is
+    /// legal and theirs alone (`Pass::known`).
     pub fn open<W: Store>(
         alloc: Global,
         store: &mut W,
@@ -28,6 +29,7 @@ impl Hub {
         ensures callers { IfOk result (λ made. made.0.callers ≡ callers) }
         ensures looked { Looked (W.objects store.old) (W.objects store.new) (W.alone store.old) (W.alone store.new) }
         ensures cause { Cause (W.faults store.old) (W.faults store.new) (failed_open result) }
+        ensures stored { W.stored store.new ≡ W.stored store.old }
     {
         match read_book(alloc, store) {
             Ok(book) => match TurnCell::new(alloc, book, callers) {

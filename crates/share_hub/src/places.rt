@@ -2,7 +2,7 @@
 ghost use Rattle.std.specs.Prelude.{◌≡◌, [], false, IfOk};
 ghost use mathlib.Core.List.{IsPrefix};
 ghost use Rattle.share_book.specs.Legal.{locations_of};
-ghost use Rattle.hub_calls.specs.Calls.{Adds, IsIdle};
+ghost use Rattle.hub_calls.specs.Calls.{Adds, IsIdle, IsKnown};
 
 use crate::hub::Hub;
 use edge_core::Name;
@@ -22,10 +22,12 @@ impl Hub {
         ensures same { IsIdle pass.old pass.new }
         ensures added { Adds pass.old pass.new [] }
         ensures locations { IfOk result (λ v. v.items ≡ locations_of pass.new.seen) }
+        ensures known { IsKnown pass.new }
     {
         let turn = self.cell.take(rt, pass);
         let locations = turn.value.locations(alloc);
         self.cell.give(pass, turn);
+        pass.known();
         locations
     }
 
@@ -38,7 +40,9 @@ impl Hub {
         ensures same { IsIdle a.old a.new }
         ensures added { Adds a.old a.new [] }
         ensures told { IsPrefix b.old.seen a.new.seen }
+        ensures known { IsKnown a.new }
     {
         self.cell.meet(a, b);
+        a.known();
     }
 }

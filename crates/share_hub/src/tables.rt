@@ -2,7 +2,7 @@
 ghost use Rattle.std.specs.Prelude.{◌≡◌, false};
 ghost use Rattle.edge_core.specs.Faults.{Cause};
 ghost use Rattle.log_store.specs.Loads.{Looked};
-ghost use Rattle.hub_calls.specs.Calls.{IsIdle};
+ghost use Rattle.hub_calls.specs.Calls.{IsIdle, IsKnown, acknowledged};
 ghost use Rattle.hub_tables.specs.Commits.{CommitLeaves, Commits, failed_commit};
 ghost use Rattle.hub_tables.specs.LogRefreshes.{Refreshes, failed_refresh};
 
@@ -23,7 +23,8 @@ impl Hub {
     /// with `Contended`. The offer is admitted after all of them, against what was committed since the version that it read.
     /// Memory for publishing is taken before the put, so a commit that was stored is published too. An object that was put
     /// meanwhile under the name of the commit is read and published, and the order begins again. No turn is held over a call of
-    /// the store.
+    /// the store. Its count of stored puts rises by one with `Ok`, and stays with each other answer: what is acknowledged is this call's own
+    /// put.
     pub fn commit<R: Wait, W: Store>(
         &self,
         rt: &R,
@@ -38,8 +39,12 @@ impl Hub {
         ensures entries { Commits result now offer.now (W.objects store.old) (W.objects store.new) pass.old pass.new }
         ensures store { CommitLeaves result now offer.now (W.objects store.old) (W.objects store.new) (W.alone store.old) (W.alone store.new) pass.new }
         ensures cause { Cause (W.faults store.old) (W.faults store.new) (failed_commit result) }
+        ensures stored { W.stored store.new ≡ acknowledged (W.stored store.old) result }
+        ensures known { IsKnown pass.new }
     {
-        self.tables(rt, alloc).commit(pass, store, now, offer)
+        let answer = self.tables(rt, alloc).commit(pass, store, now, offer);
+        pass.known();
+        answer
     }
 
     /// Publishes the commits that the store has beyond those of the log that was loaded from a location, at most 64 in a call
@@ -47,8 +52,8 @@ impl Hub {
     /// with which the table isn't read, or with which the log's printed texts pass 64 MiB.
     ///
     /// It looks for the next version before it begins, and adds no entry where the log is blocked or no object has that
-    /// version's name. Where another caller has begun on the log, it waits. Nothing is stored, and no turn is held over a call
-    /// of the store.
+    /// version's name. Where another caller has begun on the log, it waits. Nothing is stored, so the store's count of stored puts
+    /// stays, and no turn is held over a call of the store.
     pub fn refresh<R: Wait, W: Store>(
         &self,
         rt: &R,
@@ -62,7 +67,11 @@ impl Hub {
         ensures entries { Refreshes result location.now (W.objects store.old) (W.objects store.new) pass.old pass.new }
         ensures store { Looked (W.objects store.old) (W.objects store.new) (W.alone store.old) (W.alone store.new) }
         ensures cause { Cause (W.faults store.old) (W.faults store.new) (failed_refresh result) }
+        ensures stored { W.stored store.new ≡ W.stored store.old }
+        ensures known { IsKnown pass.new }
     {
-        self.tables(rt, alloc).refresh(pass, store, location)
+        let answer = self.tables(rt, alloc).refresh(pass, store, location);
+        pass.known();
+        answer
     }
 }

@@ -30,6 +30,7 @@ loop-number-preserved g c =
       found = (i.found.0 ++ a.0 ∷ [], length_push i.found.0 a.0 ∙ ap (λ n. n + 1) i.found.1, one_held _ _ i.found.0 a.0 i.found.2 a.1, steps_held c.loop-number.number _ _ _ i.found.0 a.0 i.found.1 i.found.3 i.looked.grows l.grows a.2);
       looked = looked_more _ _ _ _ _ _ i.looked l;
       later = (let x = i.later in let y = c.add_next.ensures.cause.later in omega arith);
+      stored = c.add_next.ensures.stored ∙ i.stored;
     }
 
 pub returns-in-Absent-clause-read : goal.returns-in-Absent-clause-read

@@ -13,4 +13,5 @@ invariant-loop-number g l = record {
   found : (found : List Step) × (length found ≡ l.number) × (l.book.past.history ≡ entry 0 0 Begin ∷ finds 0 found) × AreSteps (g.W.Store.objects l.fn.store) (g.W.Store.objects l.store) 0 found;
   looked : Looked (g.W.Store.objects l.fn.store) (g.W.Store.objects l.store) (g.W.Store.alone l.fn.store) (g.W.Store.alone l.store);
   later : g.W.Store.faults l.fn.store ≤ g.W.Store.faults l.store;
+  stored : g.W.Store.stored l.store ≡ g.W.Store.stored l.fn.store;
 }

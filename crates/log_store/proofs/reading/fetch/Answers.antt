@@ -1,4 +1,4 @@
-use Rattle.std.proofs.Common.{arith, ◌≡◌, length, ◌++◌, take}
+use Rattle.std.proofs.Common.{arith, ◌≡◌, length, ◌++◌, ◌∙◌, take}
 use Rattle.log_store.proofs.Growing.{looks_more}
 use Rattle.log_store.proofs.Fetching.{got_more}
 use Rattle.log_store.proofs.reading.fetch.Goals as goal
@@ -12,4 +12,5 @@ loop-store-preserved g c =
       looked = looks_more _ _ _ _ _ _ l.looked (c.in-Bytes.ensures.bytes).0 c.in-Bytes.ensures.stays;
       front = got_more _ _ _ _ _ c.get.new.out _ _ c.in-Bytes.n from is l.front c.in-Bytes.ensures.bytes;
       later = omega arith;
+      stored = c.in-Bytes.ensures.stored ∙ l.stored;
     }

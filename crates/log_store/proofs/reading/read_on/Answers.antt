@@ -31,6 +31,7 @@ loop-version-preserved g c =
       upto = omega (arith, lt);
       looked = looked;
       later = omega (arith, c.keep_version.ensures.cause.later);
+      stored = c.keep_version.ensures.stored ∙ l.stored;
       reading = reading_more _ c.args.location.now c.loop-version.version c.args.end c.loop-version.kept c.keep_version.new.kept c.keep_version.result lt c.requires.stored c.in-Ok.is l.reading
           (keeps_then _ _ c.args.location.now c.loop-version.version c.args.end c.loop-version.kept c.keep_version.new.kept c.keep_version.result lt looked.grows c.requires.stored c.keep_version.ensures.keeps);
     }

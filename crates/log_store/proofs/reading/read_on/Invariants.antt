@@ -11,5 +11,6 @@ invariant-loop-version g l = record {
   upto : l.version ≤ max (length l.fn.kept) l.end;
   looked : Looked (g.W.Store.objects l.fn.store) (g.W.Store.objects l.store) (g.W.Store.alone l.fn.store) (g.W.Store.alone l.store);
   later : g.W.Store.faults l.fn.store ≤ g.W.Store.faults l.store;
+  stored : g.W.Store.stored l.store ≡ g.W.Store.stored l.fn.store;
   reading : IfSome (g.W.Store.objects l.fn.store) (λ os. IsReading l.location os l.version l.kept);
 }

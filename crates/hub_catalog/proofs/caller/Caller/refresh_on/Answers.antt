@@ -20,6 +20,7 @@ loop-turn-preserved g c =
       begun = record { holder = r.1.holder; count = r.2 };
       looked = looked_more _ _ _ _ _ _ i.looked l;
       later = (let a = i.later in let b = c.next_record.ensures.cause.later in omega arith);
+      stored = c.next_record.ensures.stored ∙ i.stored;
     }
 
 pub returns-in-End-clause-run : goal.returns-in-End-clause-run

@@ -19,6 +19,7 @@ loop-turn-preserved g c =
       begun = record { holder = r.1.holder; count = r.2 };
       looked = looked_more _ _ _ _ _ _ i.looked c.in-Found.ensures.store;
       later = (let a = i.later in let b = c.round.ensures.cause.later in omega arith);
+      stored = c.in-Found.ensures.stored ∙ i.stored;
     }
 
 pub returns-in-Done-clause-store : goal.returns-in-Done-clause-store

@@ -26,6 +26,7 @@ loop-found-preserved g c =
       begun = r.2;
       looked = looked_more _ _ _ _ _ _ i.looked l;
       later = (let a = i.later in let b = c.commit_round.ensures.cause.later in omega arith);
+      stored = c.in-None.ensures.stored ∙ i.stored;
     }
 
 pub returns-in-Some-clause-store : goal.returns-in-Some-clause-store

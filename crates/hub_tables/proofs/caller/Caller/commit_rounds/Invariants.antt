@@ -16,4 +16,5 @@ invariant-loop-found g l = record {
   begun : HoldsHead l.pass l.attempt.log l.head;
   looked : Looked (g.W.Store.objects l.fn.store) (g.W.Store.objects l.store) (g.W.Store.alone l.fn.store) (g.W.Store.alone l.store);
   later : g.W.Store.faults l.fn.store ≤ g.W.Store.faults l.store;
+  stored : g.W.Store.stored l.store ≡ g.W.Store.stored l.fn.store;
 }

@@ -60,6 +60,7 @@ loop-found-preserved g c =
       begun = r.2;
       looked = looked_more _ _ _ _ _ _ i.looked c.next_commit.ensures.looked;
       later = (let a = i.later in let b = c.next_commit.ensures.cause.later in omega arith);
+      stored = c.next_commit.ensures.stored ∙ i.stored;
     }
 
 pub abort_log-requires-2-clause-there : goal.abort_log-requires-2-clause-there
