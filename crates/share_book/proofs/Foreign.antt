@@ -79,7 +79,7 @@ views_by h r e (Some x) is foreign =
     let said : IsForeignEdit h r x = subst (λ (o : Option Edit). IfSome o (IsForeignEdit h r)) is foreign.edit in
     ap (λ (es : List Edit). view_of es r) (loud edit_in h e x is) ∙ edits_leave_views (edits h) x r said.0 said.1
 
-credential_by : (h : List Entry) (r : List ℕ) (e : Entry) (o : Option Edit) → edit_in e ≡ o → IsForeign h r e → credential (edits (h ++ e ∷ [])) r ≡ credential (edits h) r
+pub credential_by : (h : List Entry) (r : List ℕ) (e : Entry) (o : Option Edit) → edit_in e ≡ o → IsForeign h r e → credential (edits (h ++ e ∷ [])) r ≡ credential (edits h) r
 credential_by h r e None is foreign = ap (λ (es : List Edit). credential es r) (quiet edit_in h e is)
 credential_by h r e (Some x) is foreign =
     let said : IsForeignEdit h r x = subst (λ (o : Option Edit). IfSome o (IsForeignEdit h r)) is foreign.edit in

@@ -1,15 +1,15 @@
 -- Laws of histories: what stays as one goes on, and what a recipient doesn't see.
-use Rattle.std.specs.Prelude.{◌≡◌, ◌≢◌, ℕ, ◌<◌, ◌≤◌, List, [], ◌∷◌, ◌++◌, true, false, Some, IfSome, Ok, length}
+use Rattle.std.specs.Prelude.{◌≡◌, ◌≢◌, ℕ, ◌<◌, ◌≤◌, List, [], ◌∷◌, ◌++◌, true, false, Some, None, IfSome, Ok, length}
 use Rattle.log_actions.specs.declared.actions.Action.{Action}
 use Rattle.log_replay.specs.State.{State, state_of}
-use Rattle.share_catalog.specs.Catalogue.{binding_edition, credential, grant_edition, granted}
+use Rattle.share_catalog.specs.Catalogue.{binding_edition, credential, grant_edition, granted, says_credential}
 use Rattle.share_catalog.specs.Laws.{names_recipient, names_share}
-use Rattle.share_catalog.specs.Views.{Spot, grant, named, shared}
+use Rattle.share_catalog.specs.Views.{Spot, grant, name_of, named, shared, token}
 use Rattle.share_catalog.specs.declared.edit.Edit.{Edit}
 use Rattle.share_catalog.specs.declared.table_name.TableName.{TableName}
 use Rattle.turn_cell.specs.Entries.{made_by}
 use Rattle.share_book.specs.History.{caller_of, edit_in, edits, open_on, start_in, starts, table_on}
-use Rattle.share_book.specs.Legal.{IsLegal}
+use Rattle.share_book.specs.Legal.{IsLegal, There}
 use Rattle.share_book.specs.Legal.{log_at as number_at}
 use Rattle.share_book.specs.Parts.{up_to}
 use Rattle.share_book.specs.Views.{log_at, view_by}
@@ -68,3 +68,19 @@ pub record IsForeign (history : List Entry) (r : List ℕ) (e : Entry) : Type 0 
 -- Such an entry leaves the recipient's view.
 abbrev pub ForeignEntriesLeaveViews : Type 0
 ForeignEntriesLeaveViews = (history : List Entry) (e : Entry) (r : List ℕ) → IsForeign history r e → view_by (history ++ e ∷ []) (named r) ≡ view_by history (named r)
+
+-- the token of the digest finds the recipient
+abbrev pub Finds : List Entry → List ℕ → List ℕ → Type 0
+Finds history digest r = name_of (edits history) (token digest) ≡ Some r
+
+-- an edit that gives nobody a credential of the digest
+abbrev pub GivesNobody : List ℕ → Edit → Type 0
+GivesNobody digest x = (r : List ℕ) → IfSome (says_credential r x) (λ c. c.digest ≢ digest)
+
+-- The same by a token. It finds the one recipient whose credential now has its digest, so that one that was rotated away finds nobody; it shows what that recipient is shown, and nothing else; a foreign entry takes it from nobody, and it finds
+-- nobody until it is given to somebody.
+pub record TokensShowViews : Type 0 where
+  pub holder : (history : List Entry) (digest r : List ℕ) → IsLegal history → (Finds history digest r → There (credential (edits history) r) (λ c. c.digest ≡ digest)) × (There (credential (edits history) r) (λ c. c.digest ≡ digest) → Finds history digest r)
+  pub shown : (history other : List Entry) (digest r : List ℕ) → IsLegal history → IsLegal other → Finds history digest r → ShowsTheSame history other r → view_by history (token digest) ≡ view_by other (token digest)
+  pub entries : (history : List Entry) (e : Entry) (digest r : List ℕ) → IsLegal (history ++ e ∷ []) → Finds history digest r → IsForeign history r e → view_by (history ++ e ∷ []) (token digest) ≡ view_by history (token digest)
+  pub nobody : (history : List Entry) (e : Entry) (digest : List ℕ) → IsLegal (history ++ e ∷ []) → view_by history (token digest) ≡ None → IfSome (edit_in e) (GivesNobody digest) → view_by (history ++ e ∷ []) (token digest) ≡ None

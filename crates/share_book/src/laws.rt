@@ -1,5 +1,5 @@
 // Laws of histories. Each function does nothing when it is called.
-ghost use Rattle.share_book.specs.Laws.{EditionsRise, ForeignEntriesLeaveViews, FrontsAreLegal, LogsGrow, OthersLeaveCatalogue, OthersLeaveLogs, VersionsHaveStates, ViewsAreShown};
+ghost use Rattle.share_book.specs.Laws.{EditionsRise, ForeignEntriesLeaveViews, FrontsAreLegal, LogsGrow, OthersLeaveCatalogue, OthersLeaveLogs, TokensShowViews, VersionsHaveStates, ViewsAreShown};
 ghost use Rattle.share_book.specs.Looks.{GlancesBecomeLooks};
 
 /// A law: as a history goes on, its logs only grow, no edition falls, and each beginning of a legal one is legal. It does nothing
@@ -23,11 +23,13 @@ pub fn others_leave_what_is_begun()
     ensures catalogue { OthersLeaveCatalogue }
 {}
 
-/// A law: a view holds no more than what it shows, and an entry that says nothing of it leaves it. It does nothing when it is
-/// called.
+/// A law: a view holds no more than what it shows, and an entry that says nothing of it leaves it, whether its recipient is found by
+/// name or by token. It does nothing when it is called.
 pub fn foreign_entries_leave_views()
     ensures shown { ViewsAreShown }
     ensures entries { ForeignEntriesLeaveViews }
+    // A token finds who holds it now, and one that was rotated away finds nobody.
+    ensures tokens { TokensShowViews }
 {}
 
 /// A law: what a turn gives, with the files that its commits make, is the look. It does nothing when it is called.
