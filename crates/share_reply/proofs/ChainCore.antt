@@ -53,27 +53,27 @@ end_says {X} cursor_at test most asked place xs expires = end_by cursor_at (next
 
 -- ---- one page, and those behind it
 
-pub one_page : {Q X : Type 0} (paging : Paging Q) (keys : ReplyKeys) (name : TableName) (line_at : ℕ → X → Line) (t : Turn Q) (ts : List (Turn Q))
+pub one_page : {Q X : Type 0} (paging : Paging Q) (keys : ReplyKeys) (name : TableName) (line_at : ℕ → X → Line) (history : List Entry) (t : Turn Q) (ts : List (Turn Q))
     (test : X → Bool) (most : Option ℕ) (place : ℕ) (xs : List X) (cursor_at : ℕ → Cursor) (p : Page) (next : Option Cursor)
     → answer_at paging keys name t ≡ page p → p.content ≡ map (line_at t.moment) (given test most place xs)
     → NextIs cursor_at (next_place test most place xs) next → IfSome next (IsSpelt keys)
-    → IsChainAfter paging keys name t.point (option_map (token_text keys.token) next) ts
-    → ((behind : ℕ) → IsSpelt keys (cursor_at behind) → IsChainAfter paging keys name t.point (Some (token_text keys.token (cursor_at behind))) ts → Gives paging keys name line_at ts (filter test (drop behind xs)))
+    → IsChainAfter paging keys name history (option_map (token_text keys.token) next) ts
+    → ((behind : ℕ) → IsSpelt keys (cursor_at behind) → IsChainAfter paging keys name history (Some (token_text keys.token (cursor_at behind))) ts → Gives paging keys name line_at ts (filter test (drop behind xs)))
     → Gives paging keys name line_at (t ∷ ts) (filter test (drop place xs))
-one_page paging keys name line_at t [] test most place xs cursor_at p None answered content next spelt chain later = (
+one_page paging keys name line_at history t [] test most place xs cursor_at p None answered content next spelt chain later = (
   given test most place xs,
   [],
   sym (last_page test most place xs next) ∙ sym (append-nil _),
   ap content_of answered ∙ content,
   refl,
 )
-one_page paging keys name line_at t (u ∷ us) test most place xs cursor_at p None answered content next spelt chain later = absurd chain
-one_page paging keys name line_at t ts test most place xs cursor_at p (Some c) answered content (behind, is, c_is) spelt chain later = (
+one_page paging keys name line_at history t (u ∷ us) test most place xs cursor_at p None answered content next spelt chain later = absurd chain
+one_page paging keys name line_at history t ts test most place xs cursor_at p (Some c) answered content (behind, is, c_is) spelt chain later = (
   given test most place xs,
   filter test (drop behind xs),
   more_pages test most place xs behind is,
   ap content_of answered ∙ content,
-  later behind (subst (IsSpelt keys) c_is spelt) (subst (λ (x : Cursor). IsChainAfter paging keys name t.point (Some (token_text keys.token x)) ts) c_is chain),
+  later behind (subst (IsSpelt keys) c_is spelt) (subst (λ (x : Cursor). IsChainAfter paging keys name history (Some (token_text keys.token x)) ts) c_is chain),
 )
 
 -- ---- the form of tokens
@@ -106,10 +106,10 @@ pub every_page : {Q : Type 0} (paging : Paging Q) (keys : ReplyKeys) (name : Tab
 every_page paging keys name t p answered spelt q again = subst (λ (x : Page). IfSome (next_in x) (IsSpelt keys)) (same_page paging keys name t p q answered again) spelt
 
 -- the turns behind a page, by its cursor
-pub rest_spelt : {Q : Type 0} (paging : Paging Q) (keys : ReplyKeys) (name : TableName) (ts : List (Turn Q)) (point : List Entry) (cursor_at : ℕ → Cursor) (next : Option ℕ) (o : Option Cursor)
-    → NextIs cursor_at next o → IfSome o (IsSpelt keys) → IsChainAfter paging keys name point (option_map (token_text keys.token) o) ts
-    → ((place : ℕ) → IsSpelt keys (cursor_at place) → IsChainAfter paging keys name point (Some (token_text keys.token (cursor_at place))) ts → AreSpelt paging keys name ts) → AreSpelt paging keys name ts
-rest_spelt paging keys name [] point cursor_at next None is spelt chain go = tt
-rest_spelt paging keys name (t ∷ ts) point cursor_at next None is spelt chain go = absurd chain
-rest_spelt paging keys name ts point cursor_at next (Some c) (place, at, c_is) spelt chain go =
-    go place (subst (IsSpelt keys) c_is spelt) (subst (λ (x : Cursor). IsChainAfter paging keys name point (Some (token_text keys.token x)) ts) c_is chain)
+pub rest_spelt : {Q : Type 0} (paging : Paging Q) (keys : ReplyKeys) (name : TableName) (ts : List (Turn Q)) (history : List Entry) (cursor_at : ℕ → Cursor) (next : Option ℕ) (o : Option Cursor)
+    → NextIs cursor_at next o → IfSome o (IsSpelt keys) → IsChainAfter paging keys name history (option_map (token_text keys.token) o) ts
+    → ((place : ℕ) → IsSpelt keys (cursor_at place) → IsChainAfter paging keys name history (Some (token_text keys.token (cursor_at place))) ts → AreSpelt paging keys name ts) → AreSpelt paging keys name ts
+rest_spelt paging keys name [] history cursor_at next None is spelt chain go = tt
+rest_spelt paging keys name (t ∷ ts) history cursor_at next None is spelt chain go = absurd chain
+rest_spelt paging keys name ts history cursor_at next (Some c) (place, at, c_is) spelt chain go =
+    go place (subst (IsSpelt keys) c_is spelt) (subst (λ (x : Cursor). IsChainAfter paging keys name history (Some (token_text keys.token x)) ts) c_is chain)

@@ -1,7 +1,8 @@
 -- The pages of a chain of changes are the changes of the range that the first one was of.
-use Rattle.std.proofs.Common.{◌≡◌, ℕ, ◌^◌, ◌<◌, ◌≤◌, List, [], ◌∷◌, Option, Some, None, Result, Ok, refl, sym, ap, ◌∙◌, subst, arith, length, drop, filter}
+use Rattle.std.proofs.Common.{◌≡◌, ℕ, ◌^◌, ◌<◌, ◌≤◌, ◌⊎◌, inl, inr, List, [], ◌∷◌, Option, Some, None, Result, Ok, refl, sym, ap, ◌∙◌, subst, arith, length, drop, filter}
 use Rattle.std.specs.Prelude.{is_some, IfSome}
 use Rattle.std.specs.Str.{IsUtf8}
+use mathlib.Core.List.{IsPrefix}
 use Rattle.change_feed.specs.Changes.{ChangedFile}
 use Rattle.change_feed.specs.Feed.{feed_of}
 use Rattle.change_feed.proofs.LawLemmas.{later_commits_leave}
@@ -29,7 +30,7 @@ use Rattle.share_reply.specs.declared.keys.ReplyKeys.{ReplyKeys}
 use Rattle.share_reply.proofs.AtTable.{AtTable, at_table}
 use Rattle.share_reply.proofs.ChainCore.{AreSpelt, IsSpelt, NextIs, end_says, every_page, next_within, one_page, read_again, rest_spelt, short_of}
 use Rattle.share_reply.proofs.FeedPaged.{FirstFeed, LaterFeed, Ranged, first, later as later_page}
-use Rattle.share_reply.proofs.SeenTable.{IsBound, is_bound, same_log}
+use Rattle.share_reply.proofs.SeenTable.{Grown, IsBound, either_log, is_bound}
 
 says_next : (keys : ReplyKeys) (a : TableAccess) (now : ℕ) (q : ChangesQuery) (start : FeedStart) (meta : MetaData) (changes : List ChangedFile)
     → NextIs (feed_cursor a start) (next_place lists_all q.max start.place changes) (next_in (feed_page keys a now q start meta changes))
@@ -68,11 +69,18 @@ same_changes r r' xs ys e f g = cc
 page_same : (keys : ReplyKeys) (a a' : TableAccess) (now : ℕ) (q : ChangesQuery) (start : FeedStart) (meta : MetaData) (xs ys : List ChangedFile) → a ≡ a' → xs ≡ ys → feed_page keys a now q start meta xs ≡ feed_page keys a' now q start meta ys
 page_same keys a a' now q start meta xs ys e g = λ i. feed_page keys (e i) now q start meta (g i)
 
-later : (keys : ReplyKeys) (name : TableName) (ts : List (Turn ChangesQuery)) (before : List Entry) (c : FeedCursor) (changes : List ChangedFile) → Held before name c changes
-    → IsSpelt keys (cursor.Feed c) → AreSpelt by_changes keys name ts → IsChainAfter by_changes keys name before (Some (token_text keys.token (cursor.Feed c))) ts
+grown_feeds : (log log' : Log) (from to : ℕ) → Grown log log' → to < length log.commits → feed_of log'.commits from to ≡ feed_of log.commits from to
+grown_feeds log log' from to (more, grown) kept = ap (λ (cs : List (List Action)). feed_of cs from to) grown ∙ later_commits_leave log.commits more from to kept
+
+either_feeds : (log log' : Log) (from to : ℕ) → Grown log log' ⊎ Grown log' log → to < length log.commits → to < length log'.commits → feed_of log'.commits from to ≡ feed_of log.commits from to
+either_feeds log log' from to (inl g) kept kept' = grown_feeds log log' from to g kept
+either_feeds log log' from to (inr g) kept kept' = sym (grown_feeds log' log from to g kept')
+
+later : (keys : ReplyKeys) (name : TableName) (ts : List (Turn ChangesQuery)) (history before : List Entry) (c : FeedCursor) (changes : List ChangedFile) → IsPrefix before history → Held before name c changes
+    → IsSpelt keys (cursor.Feed c) → AreSpelt by_changes keys name ts → IsChainAfter by_changes keys name history (Some (token_text keys.token (cursor.Feed c))) ts
     → Gives by_changes keys name (linked_change keys c.access) ts (filter lists_all (drop c.place changes))
-later keys name [] before c changes held spelt all chain = absurd chain
-later keys name (t ∷ ts) before c changes held spelt (spelt_here, spelt_later) (goes, has, (p, answered, chain)) =
+later keys name [] history before c changes stands held spelt all chain = absurd chain
+later keys name (t ∷ ts) history before c changes stands held spelt (spelt_here, spelt_later) (goes, has, (p, answered, chain)) =
     let T : TurnAt keys name t p = turn_at keys name t p answered in
     let a : TableAccess = access T.view.catalog.recipient name T.spot in
     let log : Log = log_in T.view name in
@@ -80,18 +88,17 @@ later keys name (t ∷ ts) before c changes held spelt (spelt_here, spelt_later)
     let here : IsBound t.point name T.spot log = bound_at keys name t p T in
     let binding : T.spot.binding ≡ c.access.binding = ap (λ (x : TableAccess). x.binding) P.same in
     let S : Ranged keys a t.moment t.query (start_at c) p log c.from c.to = P.ranged in
-    let (more, grown) = same_log before t.point name held.spot T.spot held.log log held.is_bound here goes (binding ∙ sym held.binding) in
     let feed_stays : feed_of log.commits c.from c.to ≡ feed_of held.log.commits c.from c.to =
-    ap (λ (cs : List (List Action)). feed_of cs c.from c.to) grown ∙ later_commits_leave held.log.commits more c.from c.to held.kept in
+    either_feeds held.log log c.from c.to (either_log history before t.point name held.spot T.spot held.log log held.is_bound here stands goes (binding ∙ sym held.binding)) held.kept S.kept in
     let changes_here : S.changes ≡ changes = same_changes (feed_of held.log.commits c.from c.to) (feed_of log.commits c.from c.to) changes S.changes held.is_feed S.is_feed feed_stays in
     let page_is : p ≡ feed_page keys c.access t.moment t.query (start_at c) S.meta changes = S.page_is ∙ page_same keys a c.access t.moment t.query (start_at c) S.meta S.changes changes P.same changes_here in
     let answered_here : answer_at by_changes keys name t ≡ page (feed_page keys c.access t.moment t.query (start_at c) S.meta changes) = answered ∙ ap page page_is in
-    one_page by_changes keys name (linked_change keys c.access) t ts lists_all t.query.max c.place changes (feed_cursor c.access (start_at c)) (feed_page keys c.access t.moment t.query (start_at c) S.meta changes)
+    one_page by_changes keys name (linked_change keys c.access) history t ts lists_all t.query.max c.place changes (feed_cursor c.access (start_at c)) (feed_page keys c.access t.moment t.query (start_at c) S.meta changes)
     (next_in (feed_page keys c.access t.moment t.query (start_at c) S.meta changes)) answered_here refl
     (says_next keys c.access t.moment t.query (start_at c) S.meta changes) (spelt_here _ answered_here)
-    (subst (λ (x : Page). IsChainAfter by_changes keys name t.point (next_token keys x) ts) page_is chain)
+    (subst (λ (x : Page). IsChainAfter by_changes keys name history (next_token keys x) ts) page_is chain)
     (λ place spelt_next chain_next.
-    later keys name ts t.point (record { access = c.access; asked_from = c.asked_from; asked_to = c.asked_to; from = c.from; to = c.to; place = place }) changes
+    later keys name ts history t.point (record { access = c.access; asked_from = c.asked_from; asked_to = c.asked_to; from = c.from; to = c.to; place = place }) changes goes
     (record { spot = T.spot; log = log; is_bound = here; binding = binding; kept = S.kept; is_feed = feed_stays ∙ held.is_feed })
     spelt_next spelt_later chain_next)
 
@@ -107,8 +114,8 @@ Whole keys name t ts = (spot : Spot) × (log : Log) × (a : TableAccess) × Sees
 abbrev start_of : ChangesQuery → ℕ → ℕ → FeedStart
 start_of q from to = record { asked_from = asked_at q.from; asked_to = asked_at q.to; from = from; to = to; place = 0 }
 
-whole_if_spelt : (keys : ReplyKeys) (name : TableName) (t : Turn ChangesQuery) (ts : List (Turn ChangesQuery)) → IsChain by_changes keys name t ts → AreSpelt by_changes keys name (t ∷ ts) → Whole keys name t ts
-whole_if_spelt keys name t ts (none, (p, answered, chain)) (spelt_here, spelt_later) =
+whole_if_spelt : (keys : ReplyKeys) (name : TableName) (history : List Entry) (t : Turn ChangesQuery) (ts : List (Turn ChangesQuery)) → IsChain by_changes keys name history t ts → AreSpelt by_changes keys name (t ∷ ts) → Whole keys name t ts
+whole_if_spelt keys name history t ts (stands, none, (p, answered, chain)) (spelt_here, spelt_later) =
     let T : TurnAt keys name t p = turn_at keys name t p answered in
     let a : TableAccess = access T.view.catalog.recipient name T.spot in
     let log : Log = log_in T.view name in
@@ -117,12 +124,12 @@ whole_if_spelt keys name t ts (none, (p, answered, chain)) (spelt_here, spelt_la
     let S : Ranged keys a t.moment t.query start p log F.from F.to = F.ranged in
     let answered_here : answer_at by_changes keys name t ≡ page (feed_page keys a t.moment t.query start S.meta S.changes) = answered ∙ ap page S.page_is in
     let gives : Gives by_changes keys name (linked_change keys a) (t ∷ ts) (filter lists_all S.changes) =
-    one_page by_changes keys name (linked_change keys a) t ts lists_all t.query.max 0 S.changes (feed_cursor a start) (feed_page keys a t.moment t.query start S.meta S.changes)
+    one_page by_changes keys name (linked_change keys a) history t ts lists_all t.query.max 0 S.changes (feed_cursor a start) (feed_page keys a t.moment t.query start S.meta S.changes)
     (next_in (feed_page keys a t.moment t.query start S.meta S.changes)) answered_here refl
     (says_next keys a t.moment t.query start S.meta S.changes) (spelt_here _ answered_here)
-    (subst (λ (x : Page). IsChainAfter by_changes keys name t.point (next_token keys x) ts) S.page_is chain)
+    (subst (λ (x : Page). IsChainAfter by_changes keys name history (next_token keys x) ts) S.page_is chain)
     (λ place spelt_next chain_next.
-    later keys name ts t.point (record { access = a; asked_from = start.asked_from; asked_to = start.asked_to; from = start.from; to = start.to; place = place }) S.changes
+    later keys name ts history t.point (record { access = a; asked_from = start.asked_from; asked_to = start.asked_to; from = start.from; to = start.to; place = place }) S.changes stands
     (record { spot = T.spot; log = log; is_bound = bound_at keys name t p T; binding = refl; kept = S.kept; is_feed = S.is_feed })
     spelt_next spelt_later chain_next) in (
       T.spot,
@@ -171,9 +178,9 @@ next_spelt : (keys : ReplyKeys) (name : TableName) (t : Turn ChangesQuery) (p : 
 next_spelt keys name t p spot log a start from to sees answered I form S =
     by_cursor keys name t p spot log a start S.changes sees answered I form S.within (I.changes spot log a from to S.changes sees S.is_feed) (next_in p) refl (ranged_next keys a t p start log from to S)
 
-later_spelt : (keys : ReplyKeys) (name : TableName) (ts : List (Turn ChangesQuery)) (before : List Entry) (c : FeedCursor) → IsSpelt keys (cursor.Feed c) → IsChainAfter by_changes keys name before (Some (token_text keys.token (cursor.Feed c))) ts → AreTypedFeeds keys name ts → AreSpelt by_changes keys name ts
-later_spelt keys name [] before c spelt chain typed = tt
-later_spelt keys name (t ∷ ts) before c (value, range, short) (goes, has, (p, answered, chain)) (I, typed) =
+later_spelt : (keys : ReplyKeys) (name : TableName) (ts : List (Turn ChangesQuery)) (history : List Entry) (c : FeedCursor) → IsSpelt keys (cursor.Feed c) → IsChainAfter by_changes keys name history (Some (token_text keys.token (cursor.Feed c))) ts → AreTypedFeeds keys name ts → AreSpelt by_changes keys name ts
+later_spelt keys name [] history c spelt chain typed = tt
+later_spelt keys name (t ∷ ts) history c (value, range, short) (goes, has, (p, answered, chain)) (I, typed) =
     let T : TurnAt keys name t p = turn_at keys name t p answered in
     let a : TableAccess = access T.view.catalog.recipient name T.spot in
     let log : Log = log_in T.view name in
@@ -181,12 +188,12 @@ later_spelt keys name (t ∷ ts) before c (value, range, short) (goes, has, (p, 
     let form : IsStart (start_at c) = record { from_value = value.1; to_value = value.2; from_range = range.1; to_range = range.2; from = range.3; to = range.4 } in
     let next : IfSome (next_in p) (IsSpelt keys) = next_spelt keys name t p T.spot log a (start_at c) c.from c.to (sees_at keys name t p T) answered I form P.ranged in (
       every_page by_changes keys name t p answered next,
-      rest_spelt by_changes keys name ts t.point (feed_cursor a (start_at c)) (next_place lists_all t.query.max c.place P.ranged.changes) (next_in p) (ranged_next keys a t p (start_at c) log c.from c.to P.ranged) next chain
-          (λ place spelt_next chain_next. later_spelt keys name ts t.point (record { access = a; asked_from = c.asked_from; asked_to = c.asked_to; from = c.from; to = c.to; place = place }) spelt_next chain_next typed),
+      rest_spelt by_changes keys name ts history (feed_cursor a (start_at c)) (next_place lists_all t.query.max c.place P.ranged.changes) (next_in p) (ranged_next keys a t p (start_at c) log c.from c.to P.ranged) next chain
+          (λ place spelt_next chain_next. later_spelt keys name ts history (record { access = a; asked_from = c.asked_from; asked_to = c.asked_to; from = c.from; to = c.to; place = place }) spelt_next chain_next typed),
     )
 
-chains_are_spelt : (keys : ReplyKeys) (name : TableName) (t : Turn ChangesQuery) (ts : List (Turn ChangesQuery)) → IsChain by_changes keys name t ts → AreTypedFeeds keys name (t ∷ ts) → AreSpelt by_changes keys name (t ∷ ts)
-chains_are_spelt keys name t ts (none, (p, answered, chain)) (I, typed) =
+chains_are_spelt : (keys : ReplyKeys) (name : TableName) (history : List Entry) (t : Turn ChangesQuery) (ts : List (Turn ChangesQuery)) → IsChain by_changes keys name history t ts → AreTypedFeeds keys name (t ∷ ts) → AreSpelt by_changes keys name (t ∷ ts)
+chains_are_spelt keys name history t ts (stands, none, (p, answered, chain)) (I, typed) =
     let T : TurnAt keys name t p = turn_at keys name t p answered in
     let a : TableAccess = access T.view.catalog.recipient name T.spot in
     let log : Log = log_in T.view name in
@@ -198,9 +205,9 @@ chains_are_spelt keys name t ts (none, (p, answered, chain)) (I, typed) =
     let form : IsStart start = record { from_value = I.from; to_value = I.to; from_range = I.from_range; to_range = I.to_range; from = omega (arith, long, from_kept); to = omega (arith, long, kept) } in
     let next : IfSome (next_in p) (IsSpelt keys) = next_spelt keys name t p T.spot log a start F.from F.to (sees_at keys name t p T) answered I form F.ranged in (
       every_page by_changes keys name t p answered next,
-      rest_spelt by_changes keys name ts t.point (feed_cursor a start) (next_place lists_all t.query.max 0 F.ranged.changes) (next_in p) (ranged_next keys a t p start log F.from F.to F.ranged) next chain
-          (λ place spelt_next chain_next. later_spelt keys name ts t.point (record { access = a; asked_from = start.asked_from; asked_to = start.asked_to; from = start.from; to = start.to; place = place }) spelt_next chain_next typed),
+      rest_spelt by_changes keys name ts history (feed_cursor a start) (next_place lists_all t.query.max 0 F.ranged.changes) (next_in p) (ranged_next keys a t p start log F.from F.to F.ranged) next chain
+          (λ place spelt_next chain_next. later_spelt keys name ts history (record { access = a; asked_from = start.asked_from; asked_to = start.asked_to; from = start.from; to = start.to; place = place }) spelt_next chain_next typed),
     )
 
 pub feed_chains_are_whole : FeedChainsAreWhole
-feed_chains_are_whole keys name t ts chain typed = whole_if_spelt keys name t ts chain (chains_are_spelt keys name t ts chain typed)
+feed_chains_are_whole keys name history t ts chain typed = whole_if_spelt keys name history t ts chain (chains_are_spelt keys name history t ts chain typed)

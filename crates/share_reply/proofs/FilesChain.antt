@@ -2,6 +2,7 @@
 use Rattle.std.proofs.Common.{◌≡◌, ℕ, ◌^◌, ◌<◌, ◌≤◌, List, [], ◌∷◌, true, false, cond, Option, Some, None, Ok, refl, sym, ap, ◌∙◌, subst, arith, length, drop, filter}
 use Rattle.std.specs.Prelude.{is_some, IfSome}
 use Rattle.std.specs.Str.{IsUtf8}
+use mathlib.Core.List.{IsPrefix}
 use Rattle.log_actions.specs.declared.actions.Action.{Action}
 use Rattle.log_replay.specs.State.{State, state_of}
 use Rattle.page_token.specs.Payload.{IsAskedInRange, IsAskedValue}
@@ -29,7 +30,7 @@ use Rattle.share_reply.specs.declared.keys.ReplyKeys.{ReplyKeys}
 use Rattle.share_reply.proofs.AtTable.{AtTable, at_table}
 use Rattle.share_reply.proofs.FilesPaged.{First, Later, Stated, first, later as later_page}
 use Rattle.share_reply.proofs.ChainCore.{AreSpelt, IsSpelt, NextIs, end_says, every_page, next_within, one_page, read_again, rest_spelt, short_of}
-use Rattle.share_reply.proofs.SeenTable.{IsBound, is_bound, same_versions}
+use Rattle.share_reply.proofs.SeenTable.{IsBound, either_log, either_versions, is_bound}
 
 says_next : (keys : ReplyKeys) (a : TableAccess) (now : ℕ) (q : QueryBody) (start : FilesStart) (state : State) → NextIs (files_cursor a start) (next_place (lists start.hint state) q.max start.place state.files) (next_in (files_page keys a now q start state))
 says_next keys a now q start state = end_says (files_cursor a start) (lists start.hint state) q.max (is_some q.token) start.place state.files _
@@ -72,11 +73,11 @@ same_state front front' s s' is is' e = let f : state_of front' ≡ state_of fro
 page_same : (keys : ReplyKeys) (a a' : TableAccess) (now : ℕ) (q : QueryBody) (start : FilesStart) (state state' : State) → a ≡ a' → state ≡ state' → files_page keys a now q start state ≡ files_page keys a' now q start state'
 page_same keys a a' now q start state state' e g = λ i. files_page keys (e i) now q start (g i)
 
-later : (keys : ReplyKeys) (name : TableName) (ts : List (Turn QueryBody)) (before : List Entry) (c : FilesCursor) (front : List (List Action)) (state : State) → Held before name c front → state_of front ≡ Ok state
-    → IsSpelt keys (cursor.Files c) → AreSpelt by_files keys name ts → IsChainAfter by_files keys name before (Some (token_text keys.token (cursor.Files c))) ts
+later : (keys : ReplyKeys) (name : TableName) (ts : List (Turn QueryBody)) (history before : List Entry) (c : FilesCursor) (front : List (List Action)) (state : State) → IsPrefix before history → Held before name c front → state_of front ≡ Ok state
+    → IsSpelt keys (cursor.Files c) → AreSpelt by_files keys name ts → IsChainAfter by_files keys name history (Some (token_text keys.token (cursor.Files c))) ts
     → Gives by_files keys name (linked_file keys c.access) ts (filter (lists c.hint state) (drop c.place state.files))
-later keys name [] before c front state held is spelt all chain = absurd chain
-later keys name (t ∷ ts) before c front state held is spelt (spelt_here, spelt_later) (goes, has, (p, answered, chain)) =
+later keys name [] history before c front state stands held is spelt all chain = absurd chain
+later keys name (t ∷ ts) history before c front state stands held is spelt (spelt_here, spelt_later) (goes, has, (p, answered, chain)) =
     let T : TurnAt keys name t p = turn_at keys name t p answered in
     let a : TableAccess = access T.view.catalog.recipient name T.spot in
     let log : Log = log_in T.view name in
@@ -84,18 +85,18 @@ later keys name (t ∷ ts) before c front state held is spelt (spelt_here, spelt
     let here : IsBound t.point name T.spot log = bound_at keys name t p T in
     let binding : T.spot.binding ≡ c.access.binding = ap (λ (x : TableAccess). x.binding) P.same in
     let front_here : up_to log c.version ≡ front =
-    same_versions before t.point name held.spot T.spot held.log log c.version held.is_bound here goes (binding ∙ sym held.binding) held.kept ∙ held.front_is in
+    either_versions held.log log c.version (either_log history before t.point name held.spot T.spot held.log log held.is_bound here stands goes (binding ∙ sym held.binding)) held.kept P.kept ∙ held.front_is in
     let S : Stated keys a t.moment t.query (start_at c) p (state_of (up_to log c.version)) = P.stated in
     let state_here : S.state ≡ state = same_state front (up_to log c.version) state S.state is S.is_state front_here in
     let answered_here : answer_at by_files keys name t ≡ page (files_page keys c.access t.moment t.query (start_at c) state) =
     answered ∙ ap page (S.page_is ∙ page_same keys a c.access t.moment t.query (start_at c) S.state state P.same state_here) in
     let page_is : p ≡ files_page keys c.access t.moment t.query (start_at c) state = S.page_is ∙ page_same keys a c.access t.moment t.query (start_at c) S.state state P.same state_here in
-    one_page by_files keys name (linked_file keys c.access) t ts (lists c.hint state) t.query.max c.place state.files (files_cursor c.access (start_at c)) (files_page keys c.access t.moment t.query (start_at c) state)
+    one_page by_files keys name (linked_file keys c.access) history t ts (lists c.hint state) t.query.max c.place state.files (files_cursor c.access (start_at c)) (files_page keys c.access t.moment t.query (start_at c) state)
     (next_in (files_page keys c.access t.moment t.query (start_at c) state)) answered_here refl
     (says_next keys c.access t.moment t.query (start_at c) state) (spelt_here _ answered_here)
-    (subst (λ (x : Page). IsChainAfter by_files keys name t.point (next_token keys x) ts) page_is chain)
+    (subst (λ (x : Page). IsChainAfter by_files keys name history (next_token keys x) ts) page_is chain)
     (λ place spelt_next chain_next.
-    later keys name ts t.point (record { access = c.access; asked = c.asked; version = c.version; hint = c.hint; place = place }) front state
+    later keys name ts history t.point (record { access = c.access; asked = c.asked; version = c.version; hint = c.hint; place = place }) front state goes
     (record { spot = T.spot; log = log; is_bound = here; binding = binding; kept = P.kept; front_is = front_here })
     is spelt_next spelt_later chain_next)
 
@@ -104,8 +105,8 @@ later keys name (t ∷ ts) before c front state held is spelt (spelt_here, spelt
 abbrev Whole : ReplyKeys → TableName → Turn QueryBody → List (Turn QueryBody) → Type 0
 Whole keys name t ts = (spot : Spot) × (log : Log) × (a : TableAccess) × Sees t name spot log a × ((state : State) × Pins t.query log state × Gives by_files keys name (linked_file keys a) (t ∷ ts) (listed_files (used_hint t.query.hint) state))
 
-whole_if_spelt : (keys : ReplyKeys) (name : TableName) (t : Turn QueryBody) (ts : List (Turn QueryBody)) → IsChain by_files keys name t ts → AreSpelt by_files keys name (t ∷ ts) → Whole keys name t ts
-whole_if_spelt keys name t ts (none, (p, answered, chain)) (spelt_here, spelt_later) =
+whole_if_spelt : (keys : ReplyKeys) (name : TableName) (history : List Entry) (t : Turn QueryBody) (ts : List (Turn QueryBody)) → IsChain by_files keys name history t ts → AreSpelt by_files keys name (t ∷ ts) → Whole keys name t ts
+whole_if_spelt keys name history t ts (stands, none, (p, answered, chain)) (spelt_here, spelt_later) =
     let T : TurnAt keys name t p = turn_at keys name t p answered in
     let a : TableAccess = access T.view.catalog.recipient name T.spot in
     let log : Log = log_in T.view name in
@@ -114,12 +115,12 @@ whole_if_spelt keys name t ts (none, (p, answered, chain)) (spelt_here, spelt_la
     let S : Stated keys a t.moment t.query start p (state_of (up_to log F.version)) = F.stated in
     let answered_here : answer_at by_files keys name t ≡ page (files_page keys a t.moment t.query start S.state) = answered ∙ ap page S.page_is in
     let gives : Gives by_files keys name (linked_file keys a) (t ∷ ts) (filter (lists start.hint S.state) S.state.files) =
-    one_page by_files keys name (linked_file keys a) t ts (lists start.hint S.state) t.query.max 0 S.state.files (files_cursor a start) (files_page keys a t.moment t.query start S.state)
+    one_page by_files keys name (linked_file keys a) history t ts (lists start.hint S.state) t.query.max 0 S.state.files (files_cursor a start) (files_page keys a t.moment t.query start S.state)
     (next_in (files_page keys a t.moment t.query start S.state)) answered_here refl
     (says_next keys a t.moment t.query start S.state) (spelt_here _ answered_here)
-    (subst (λ (x : Page). IsChainAfter by_files keys name t.point (next_token keys x) ts) S.page_is chain)
+    (subst (λ (x : Page). IsChainAfter by_files keys name history (next_token keys x) ts) S.page_is chain)
     (λ place spelt_next chain_next.
-    later keys name ts t.point (record { access = a; asked = start.asked; version = start.version; hint = start.hint; place = place }) (up_to log F.version) S.state
+    later keys name ts history t.point (record { access = a; asked = start.asked; version = start.version; hint = start.hint; place = place }) (up_to log F.version) S.state stands
     (record { spot = T.spot; log = log; is_bound = bound_at keys name t p T; binding = refl; kept = F.kept; front_is = refl })
     S.is_state spelt_next spelt_later chain_next) in
     (T.spot, log, a, sees_at keys name t p T, (S.state, record { version = F.version; is_version = F.is_version; is_state = S.is_state }, gives))
@@ -166,9 +167,9 @@ next_spelt : (keys : ReplyKeys) (name : TableName) (t : Turn QueryBody) (p : Pag
 next_spelt keys name t p spot log a start v sees answered I form S =
     by_cursor keys name t p spot log a start S.state sees answered I form S.within (I.files spot log a v S.state sees S.is_state) (next_in p) refl (stated_next keys a t p start log v S)
 
-later_spelt : (keys : ReplyKeys) (name : TableName) (ts : List (Turn QueryBody)) (before : List Entry) (c : FilesCursor) → IsSpelt keys (cursor.Files c) → IsChainAfter by_files keys name before (Some (token_text keys.token (cursor.Files c))) ts → AreTypedQueries keys name ts → AreSpelt by_files keys name ts
-later_spelt keys name [] before c spelt chain typed = tt
-later_spelt keys name (t ∷ ts) before c (value, range, short) (goes, has, (p, answered, chain)) (I, typed) =
+later_spelt : (keys : ReplyKeys) (name : TableName) (ts : List (Turn QueryBody)) (history : List Entry) (c : FilesCursor) → IsSpelt keys (cursor.Files c) → IsChainAfter by_files keys name history (Some (token_text keys.token (cursor.Files c))) ts → AreTypedQueries keys name ts → AreSpelt by_files keys name ts
+later_spelt keys name [] history c spelt chain typed = tt
+later_spelt keys name (t ∷ ts) history c (value, range, short) (goes, has, (p, answered, chain)) (I, typed) =
     let T : TurnAt keys name t p = turn_at keys name t p answered in
     let a : TableAccess = access T.view.catalog.recipient name T.spot in
     let log : Log = log_in T.view name in
@@ -176,12 +177,12 @@ later_spelt keys name (t ∷ ts) before c (value, range, short) (goes, has, (p, 
     let form : IsStart (start_at c) = record { value = value.1; range = range.1; hint = value.2; version = range.2 } in
     let next : IfSome (next_in p) (IsSpelt keys) = next_spelt keys name t p T.spot log a (start_at c) c.version (sees_at keys name t p T) answered I form P.stated in (
       every_page by_files keys name t p answered next,
-      rest_spelt by_files keys name ts t.point (files_cursor a (start_at c)) (next_place (lists c.hint P.stated.state) t.query.max c.place P.stated.state.files) (next_in p) (stated_next keys a t p (start_at c) log c.version P.stated) next chain
-          (λ place spelt_next chain_next. later_spelt keys name ts t.point (record { access = a; asked = c.asked; version = c.version; hint = c.hint; place = place }) spelt_next chain_next typed),
+      rest_spelt by_files keys name ts history (files_cursor a (start_at c)) (next_place (lists c.hint P.stated.state) t.query.max c.place P.stated.state.files) (next_in p) (stated_next keys a t p (start_at c) log c.version P.stated) next chain
+          (λ place spelt_next chain_next. later_spelt keys name ts history (record { access = a; asked = c.asked; version = c.version; hint = c.hint; place = place }) spelt_next chain_next typed),
     )
 
-chains_are_spelt : (keys : ReplyKeys) (name : TableName) (t : Turn QueryBody) (ts : List (Turn QueryBody)) → IsChain by_files keys name t ts → AreTypedQueries keys name (t ∷ ts) → AreSpelt by_files keys name (t ∷ ts)
-chains_are_spelt keys name t ts (none, (p, answered, chain)) (I, typed) =
+chains_are_spelt : (keys : ReplyKeys) (name : TableName) (history : List Entry) (t : Turn QueryBody) (ts : List (Turn QueryBody)) → IsChain by_files keys name history t ts → AreTypedQueries keys name (t ∷ ts) → AreSpelt by_files keys name (t ∷ ts)
+chains_are_spelt keys name history t ts (stands, none, (p, answered, chain)) (I, typed) =
     let T : TurnAt keys name t p = turn_at keys name t p answered in
     let a : TableAccess = access T.view.catalog.recipient name T.spot in
     let log : Log = log_in T.view name in
@@ -193,9 +194,9 @@ chains_are_spelt keys name t ts (none, (p, answered, chain)) (I, typed) =
     let form : IsStart start = record { value = I.asked; range = I.asked_range; hint = used_utf8 t.query.hint I.hint; version = below } in
     let next : IfSome (next_in p) (IsSpelt keys) = next_spelt keys name t p T.spot log a start F.version (sees_at keys name t p T) answered I form F.stated in (
       every_page by_files keys name t p answered next,
-      rest_spelt by_files keys name ts t.point (files_cursor a start) (next_place (lists start.hint F.stated.state) t.query.max 0 F.stated.state.files) (next_in p) (stated_next keys a t p start log F.version F.stated) next chain
-          (λ place spelt_next chain_next. later_spelt keys name ts t.point (record { access = a; asked = start.asked; version = start.version; hint = start.hint; place = place }) spelt_next chain_next typed),
+      rest_spelt by_files keys name ts history (files_cursor a start) (next_place (lists start.hint F.stated.state) t.query.max 0 F.stated.state.files) (next_in p) (stated_next keys a t p start log F.version F.stated) next chain
+          (λ place spelt_next chain_next. later_spelt keys name ts history (record { access = a; asked = start.asked; version = start.version; hint = start.hint; place = place }) spelt_next chain_next typed),
     )
 
 pub chains_are_whole : ChainsAreWhole
-chains_are_whole keys name t ts chain typed = whole_if_spelt keys name t ts chain (chains_are_spelt keys name t ts chain typed)
+chains_are_whole keys name history t ts chain typed = whole_if_spelt keys name history t ts chain (chains_are_spelt keys name history t ts chain typed)

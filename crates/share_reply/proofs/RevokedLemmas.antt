@@ -1,4 +1,4 @@
--- What was given under a grant that is over is good no more.
+-- What was given under a grant or a binding that is over is good no more.
 use Rattle.std.proofs.Common.{◌≡◌, ℕ, zero, suc, ◌+◌, ◌<◌, List, [], ◌∷◌, ◌++◌, Bool, true, false, cond, ◌&&◌, Option, Some, None, Result, Ok, Err, inl, inr, refl, sym, ap, ◌∙◌, arith}
 use Rattle.std.specs.Prelude.{◌⊎◌, ◌==◌, count_by, filter_map, not, nat_le, option_and_then, unwrap_or}
 use Rattle.std.specs.FinMap as maps
@@ -8,7 +8,7 @@ use Rattle.std.proofs.lemmas.List.Elements.{filter_map-append}
 use Rattle.std.proofs.lemmas.List.Sums.{sum_by-append}
 use Rattle.case_table.specs.declared.refuse.Refusal.{Refusal}
 use Rattle.page_token.specs.declared.cursor.TableAccess.{TableAccess}
-use Rattle.share_catalog.specs.Catalogue.{grant_edition, granted, grants_pair, last_word, said, says_grant}
+use Rattle.share_catalog.specs.Catalogue.{binding_edition, bound, grant_edition, granted, grants_pair, last_word, said, says_grant}
 use Rattle.share_catalog.specs.TableNames.{parts_of}
 use Rattle.share_catalog.specs.Views.{Spot, named, token}
 use Rattle.share_catalog.specs.declared.edit.Edit.{Edit}
@@ -17,7 +17,7 @@ use Rattle.share_catalog.specs.declared.table_name.TableName.{TableName}
 use Rattle.share_book.specs.History.{edit_in, edits}
 use Rattle.share_book.specs.Looks.{log_in, look_of, table_found}
 use Rattle.share_book.specs.Parts.{found_of}
-use Rattle.share_book.specs.Views.{View, view_by}
+use Rattle.share_book.specs.Views.{Log, View, view_by}
 use Rattle.share_book.specs.declared.entry.Entry.{Entry}
 use Rattle.share_book.specs.declared.look.Part.TheVariants as part
 use Rattle.share_book.specs.declared.look.Want.TheVariants as want
@@ -28,17 +28,18 @@ use Rattle.share_reply.specs.Answer.{Answer, object, of_object}
 use Rattle.share_reply.specs.Asking.{ask_by}
 use Rattle.share_reply.specs.Chains.{Turn}
 use Rattle.share_reply.specs.Feeds.{ChangesQuery}
-use Rattle.share_reply.specs.Laws.{IsRevoked, RevokedGrantsGiveNothing}
+use Rattle.share_reply.specs.Laws.{GivesNothing, IsRevoked, IsUnbound, RevokedGrantsGiveNothing, UnboundTablesGiveNothing, access_of}
 use Rattle.share_reply.specs.Links.{linked_object, object_at, object_in, object_or}
 use Rattle.share_reply.specs.Refusing.{Refused, where_all}
 use Rattle.share_reply.specs.Replies.{seen_in, view_asked}
 use Rattle.query_body.specs.declared.query.QueryBody.{QueryBody}
+use Rattle.share_reply.proofs.BindingLemmas.{bound_again}
 use Rattle.share_reply.proofs.FeedChain as feed_chain
 use Rattle.share_reply.proofs.FeedPaged as feed_paged
 use Rattle.share_reply.proofs.FilesChain as files_chain
 use Rattle.share_reply.proofs.FilesPaged as files_paged
 use Rattle.share_reply.proofs.FilesPaged.{passed}
-use Rattle.share_reply.proofs.SeenTable.{IsGranted, is_granted, named_granted}
+use Rattle.share_reply.proofs.SeenTable.{IsBound, IsGranted, is_bound, is_granted, named_granted}
 
 -- ---- a grant that comes back has a later edition
 
@@ -99,16 +100,52 @@ not_again before later r s edition (off, low) on is =
     let here : edition ≡ grant_edition (edits before ++ edits later) r s = is ∙ ap (λ (es : List Edit). grant_edition es r s) joined in
     omega (arith, greater, low, here)
 
--- ---- tokens
+-- ---- who is given something sees its table
 
-stale : (before later : List Entry) (r : List ℕ) (name : TableName) (spot : Spot) (given : TableAccess) → IsRevoked before given.recipient given.share given.grant → access r name spot ≡ given → IsGranted (before ++ later) r name spot → ⊥
-stale before later r name spot given over same (on, is) =
-    let recipient : r ≡ given.recipient = ap (λ (a : TableAccess). a.recipient) same in
-    let share : name.share ≡ given.share = ap (λ (a : TableAccess). a.share) same in
-    let grant : spot.grant ≡ given.grant = ap (λ (a : TableAccess). a.grant) same in
-    let on_here : granted (edits (before ++ later)) given.recipient given.share ≡ true = (λ i. granted (edits (before ++ later)) (sym recipient i) (sym share i)) ∙ on in
-    let is_here : given.grant ≡ grant_edition (edits (before ++ later)) given.recipient given.share = sym grant ∙ is ∙ (λ i. grant_edition (edits (before ++ later)) (recipient i) (share i)) in
-    not_again before later given.recipient given.share given.grant over on_here is_here
+-- of whom a view is given, of which table, and the editions now: those that were given
+record IsGiven (history : List Entry) (given : TableAccess) : Type 0 where
+  recipient : List ℕ
+  name : TableName
+  spot : Spot
+  log : Log
+  same : access recipient name spot ≡ given
+  granted : IsGranted history recipient name spot
+  bound : IsBound history name spot log
+
+revoked : (before later : List Entry) (given : TableAccess) → IsRevoked before given.recipient given.share given.grant → IsGiven (before ++ later) given → ⊥
+revoked before later given over g =
+    let recipient : g.recipient ≡ given.recipient = ap (λ (a : TableAccess). a.recipient) g.same in
+    let share : g.name.share ≡ given.share = ap (λ (a : TableAccess). a.share) g.same in
+    let grant : g.spot.grant ≡ given.grant = ap (λ (a : TableAccess). a.grant) g.same in
+    let on : granted (edits (before ++ later)) given.recipient given.share ≡ true = (λ i. granted (edits (before ++ later)) (sym recipient i) (sym share i)) ∙ g.granted.0 in
+    let is : given.grant ≡ grant_edition (edits (before ++ later)) given.recipient given.share = sym grant ∙ g.granted.1 ∙ (λ i. grant_edition (edits (before ++ later)) (recipient i) (share i)) in
+    not_again before later given.recipient given.share given.grant over on is
+
+abbrev table_of : TableAccess → TableName
+table_of a = record { share = a.share; schema = a.schema; table = a.table }
+
+unbound : (before later : List Entry) (given : TableAccess) → IsUnbound before (table_of given) given.binding → IsGiven (before ++ later) given → ⊥
+unbound before later given (off, low) g =
+    let name : g.name ≡ table_of given = ap table_of g.same in
+    let binding : g.spot.binding ≡ given.binding = ap (λ (a : TableAccess). a.binding) g.same in
+    let joined : edits (before ++ later) ≡ edits before ++ edits later = filter_map-append edit_in before later in
+    let on : bound (edits before ++ edits later) (table_of given) ≡ Some g.bound.binding = (λ i. bound (sym joined i) (sym name i)) ∙ g.bound.is_bound in
+    let greater : binding_edition (edits before) (table_of given) < binding_edition (edits before ++ edits later) (table_of given) = bound_again (edits before) (edits later) (table_of given) g.bound.binding off on in
+    let here : given.binding ≡ binding_edition (edits before ++ edits later) (table_of given) = sym binding ∙ g.bound.edition ∙ (λ i. binding_edition (joined i) (name i)) in
+    omega (arith, greater, low, here)
+
+-- of whom a token finds
+given_by : (history : List Entry) (digest : List ℕ) (view : View) (name : TableName) (spot : Spot) (given : TableAccess) → access view.catalog.recipient name spot ≡ given → view_by history (token digest) ≡ Some view
+    → maps.get view.catalog.tables (parts_of name) ≡ Some spot → IsGiven history given
+given_by history digest view name spot given same is_view is = record {
+  recipient = view.catalog.recipient;
+  name = name;
+  spot = spot;
+  log = log_in view name;
+  same = same;
+  granted = is_granted history (token digest) view name spot is_view is;
+  bound = is_bound history (token digest) view name spot is_view is;
+}
 
 -- ---- links
 
@@ -122,42 +159,59 @@ object_past s span true refusal (Ok y) x e = cc
 object_past s span true refusal (Err y) x e = absurd cc
 object_past s span false refusal r x e = absurd cc
 
-both_same : (spot : Spot) (parts : LinkParts) (x : List ℕ) → object_at parts spot ≡ Ok x → spot.grant ≡ parts.grant
+both_same : (spot : Spot) (parts : LinkParts) (x : List ℕ) → object_at parts spot ≡ Ok x → access parts.recipient parts.table spot ≡ access_of parts
 both_same spot parts x e =
     let (both, rest) = passed (spot.grant == parts.grant && spot.binding == parts.binding) _ [] (object_or _) x e in
     let (grant, binding) = split (spot.grant == parts.grant) (spot.binding == parts.binding) both in
-    grind (arith, nat_tests, grant)
+    let grant_is : spot.grant ≡ parts.grant = grind (arith, nat_tests, grant) in
+    let binding_is : spot.binding ≡ parts.binding = grind (arith, nat_tests, binding) in
+    λ i. record { recipient = parts.recipient; share = parts.table.share; schema = parts.table.schema; table = parts.table.table; grant = grant_is i; binding = binding_is i }
 
-spot_case : (before later : List Entry) (parts : LinkParts) (view : View) (x : List ℕ) (o : Option Spot) → IsRevoked before parts.recipient parts.table.share parts.grant → view_by (before ++ later) (named parts.recipient) ≡ Some view
-    → maps.get view.catalog.tables (parts_of parts.table) ≡ o → object_in parts (table_found found_of (log_in view parts.table) part.Place o) ≡ Ok x → ⊥
-spot_case before later parts view x None over is_view is e = absurd cc
-spot_case before later parts view x (Some spot) over is_view is e =
-    let (on, edition) = named_granted (before ++ later) parts.recipient view parts.table spot is_view is in
-    not_again before later parts.recipient parts.table.share parts.grant over on (sym (both_same spot parts x e) ∙ edition)
+spot_case : (history : List Entry) (parts : LinkParts) (view : View) (x : List ℕ) (o : Option Spot) → view_by history (named parts.recipient) ≡ Some view → maps.get view.catalog.tables (parts_of parts.table) ≡ o
+    → object_in parts (table_found found_of (log_in view parts.table) part.Place o) ≡ Ok x → IsGiven history (access_of parts)
+spot_case history parts view x None is_view is e = absurd cc
+spot_case history parts view x (Some spot) is_view is e = record {
+  recipient = parts.recipient;
+  name = parts.table;
+  spot = spot;
+  log = log_in view parts.table;
+  same = both_same spot parts x e;
+  granted = named_granted history parts.recipient view parts.table spot is_view is;
+  bound = is_bound history (named parts.recipient) view parts.table spot is_view is;
+}
 
-view_case : (before later : List Entry) (parts : LinkParts) (now : ℕ) (s span : Option Span) (x : List ℕ) (o : Option View) → IsRevoked before parts.recipient parts.table.share parts.grant → view_by (before ++ later) (named parts.recipient) ≡ o
-    → of_object s (linked_object (look_of o (want.Table parts.table part.Place)) now (Some parts)) ≡ object x span → ⊥
-view_case before later parts now s span x None over is e = let r = object_past s span (not (nat_le parts.expires now)) _ _ x e in absurd (cc r)
-view_case before later parts now s span x (Some view) over is e =
-    spot_case before later parts view x (maps.get view.catalog.tables (parts_of parts.table)) over is refl (object_past s span (not (nat_le parts.expires now)) _ _ x e)
+view_case : (history : List Entry) (parts : LinkParts) (now : ℕ) (s span : Option Span) (x : List ℕ) (o : Option View) → view_by history (named parts.recipient) ≡ o
+    → of_object s (linked_object (look_of o (want.Table parts.table part.Place)) now (Some parts)) ≡ object x span → IsGiven history (access_of parts)
+view_case history parts now s span x None is e = let r = object_past s span (not (nat_le parts.expires now)) _ _ x e in absurd (cc r)
+view_case history parts now s span x (Some view) is e =
+    spot_case history parts view x (maps.get view.catalog.tables (parts_of parts.table)) is refl (object_past s span (not (nat_le parts.expires now)) _ _ x e)
 
 abbrev linked : List Entry → ℕ → Option Span → Option LinkParts → Answer
 linked history now s o = of_object s (linked_object (option_and_then (seen_in (option_and_then (view_asked history) (ask_by o))) (ask_by o)) now o)
 
-pub revoked_grants_give_nothing : RevokedGrantsGiveNothing
-revoked_grants_give_nothing = record {
-  files = λ keys before later now digest text name q c has read over p e.
+-- ---- what is over gives nothing
+
+gives_nothing : (over : List Entry → TableAccess → Type 0) → ((before later : List Entry) (given : TableAccess) → over before given → IsGiven (before ++ later) given → ⊥) → GivesNothing over
+gives_nothing over never = record {
+  files = λ keys before later now digest text name q c has read ended p e.
       let t : Turn QueryBody = record { point = before ++ later; digest = digest; moment = now; query = q } in
       let T : files_chain.TurnAt keys name t p = files_chain.turn_at keys name t p e in
       let P : files_paged.Later keys (access T.view.catalog.recipient name T.spot) now q c (log_in T.view name) p =
       files_paged.later keys (access T.view.catalog.recipient name T.spot) now q c text T.spot.history (log_in T.view name) p read has T.page_is in
-      stale before later T.view.catalog.recipient name T.spot c.access over P.same (is_granted (before ++ later) (token digest) T.view name T.spot T.is_view T.is_spot);
-  changes = λ keys before later now digest text name q c has read over p e.
+      never before later c.access ended (given_by (before ++ later) digest T.view name T.spot c.access P.same T.is_view T.is_spot);
+  changes = λ keys before later now digest text name q c has read ended p e.
       let t : Turn ChangesQuery = record { point = before ++ later; digest = digest; moment = now; query = q } in
       let T : feed_chain.TurnAt keys name t p = feed_chain.turn_at keys name t p e in
       let P : feed_paged.LaterFeed keys (access T.view.catalog.recipient name T.spot) now q c (log_in T.view name) p =
       feed_paged.later keys (access T.view.catalog.recipient name T.spot) now q c text T.spot.history (log_in T.view name) p read has T.page_is in
-      stale before later T.view.catalog.recipient name T.spot c.access over P.same (is_granted (before ++ later) (token digest) T.view name T.spot T.is_view T.is_spot);
-  links = λ keys before later now by parts read over x span e.
-      view_case before later parts now by.span span x (view_by (before ++ later) (named parts.recipient)) over refl (sym (ap (linked (before ++ later) now by.span) read) ∙ e);
+      never before later c.access ended (given_by (before ++ later) digest T.view name T.spot c.access P.same T.is_view T.is_spot);
+  links = λ keys before later now by parts read ended x span e.
+      never before later (access_of parts) ended
+      (view_case (before ++ later) parts now by.span span x (view_by (before ++ later) (named parts.recipient)) refl (sym (ap (linked (before ++ later) now by.span) read) ∙ e));
 }
+
+pub revoked_grants_give_nothing : RevokedGrantsGiveNothing
+revoked_grants_give_nothing = gives_nothing (λ history a. IsRevoked history a.recipient a.share a.grant) revoked
+
+pub unbound_tables_give_nothing : UnboundTablesGiveNothing
+unbound_tables_give_nothing = gives_nothing (λ history a. IsUnbound history (table_of a) a.binding) unbound

@@ -1,7 +1,8 @@
 -- What a view shows of a table, by the history that it is of.
-use Rattle.std.proofs.Common.{◌≡◌, ℕ, ◌+◌, ◌<◌, List, ◌++◌, Bool, true, false, Option, Some, None, option_map, refl, sym, ap, ◌∙◌, subst, length, arith, take}
+use Rattle.std.proofs.Common.{◌≡◌, ℕ, ◌+◌, ◌<◌, ◌⊎◌, inl, inr, ⊎_elim, List, [], ◌∷◌, ◌++◌, Bool, true, false, Option, Some, None, option_map, refl, sym, ap, ◌∙◌, subst, length, arith, take}
 use Rattle.std.specs.Prelude.{option_and_then, unwrap_or}
 use Rattle.std.specs.FinMap as maps
+use mathlib.Core.List.{IsPrefix}
 use Rattle.std.proofs.lemmas.List.{take-append-le}
 use Rattle.std.proofs.lemmas.List.Elements.{filter_map-append}
 use Rattle.log_actions.specs.declared.actions.Action.{Action}
@@ -21,7 +22,6 @@ use Rattle.share_book.specs.Views.{Log, View, log_at, log_of_spot, logs_of, seen
 use Rattle.share_book.specs.declared.entry.Entry.{Entry}
 use Rattle.share_book.proofs.Growth.{logs_grow}
 use Rattle.share_book.proofs.Looking.{logs_are_shown}
-use Rattle.share_reply.specs.Chains.{Continues}
 use Rattle.share_reply.proofs.BindingLemmas.{same_binding}
 
 -- a table stands in a view as it is bound
@@ -108,12 +108,16 @@ named_granted h r view name spot v is = (credential_granted h r (credential (edi
 
 -- ---- its log
 
+-- a history that goes on
+abbrev Continues : List Entry → List Entry → Type 0
+Continues before after = (more : List Entry) × (after ≡ before ++ more)
+
 -- a log that has more commits at its end
 abbrev pub Grown : Log → Log → Type 0
 Grown log grown = (more : List (List Action)) × (grown.commits ≡ log.commits ++ more)
 
 -- Where a table is seen under the edition of its binding that it had, its log is the same, and has grown.
-pub same_log : (before now : List Entry) (name : TableName) (spot spot' : Spot) (log log' : Log) → IsBound before name spot log → IsBound now name spot' log' → Continues before now → spot'.binding ≡ spot.binding → Grown log log'
+same_log : (before now : List Entry) (name : TableName) (spot spot' : Spot) (log log' : Log) → IsBound before name spot log → IsBound now name spot' log' → Continues before now → spot'.binding ≡ spot.binding → Grown log log'
 same_log before now name spot spot' log log' s s' (later, goes) same =
     let joined : edits now ≡ edits before ++ edits later = ap edits goes ∙ filter_map-append edit_in before later in
     let editions : binding_edition (edits before ++ edits later) name ≡ binding_edition (edits before) name = ap (λ (es : List Edit). binding_edition es name) (sym joined) ∙ sym s'.edition ∙ same ∙ s.edition in
@@ -127,9 +131,36 @@ same_log before now name spot spot' log log' s s' (later, goes) same =
           ∙ ap (λ (l : Log). l.commits ++ more) (sym s.is_log),
     )
 
--- so the versions that it had are as they were
-pub same_versions : (before now : List Entry) (name : TableName) (spot spot' : Spot) (log log' : Log) (version : ℕ) → IsBound before name spot log → IsBound now name spot' log' → Continues before now
-    → spot'.binding ≡ spot.binding → version < length log.commits → up_to log' version ≡ up_to log version
-same_versions before now name spot spot' log log' version s s' goes same kept =
-    let (more, grown) = same_log before now name spot spot' log log' s s' goes same in
-    ap (take (version + 1)) grown ∙ take-append-le (version + 1) log.commits more (omega (arith, kept))
+-- ---- two points of one history, in any order
+
+-- two beginnings of one list: one begins the other
+either_begins : {A : Type 0} (xs ys zs : List A) → IsPrefix xs zs → IsPrefix ys zs → IsPrefix xs ys ⊎ IsPrefix ys xs
+either_begins [] ys zs p q = inl (ys, refl)
+either_begins (x ∷ xs) [] zs p q = inr (x ∷ xs, refl)
+either_begins (x ∷ xs) (y ∷ ys) [] p q = absurd (cc (p.1))
+either_begins (x ∷ xs) (y ∷ ys) (z ∷ zs) p q =
+    let heads : x ≡ y = cc (p.1, q.1) in
+    ⊎_elim
+    (λ r. inl (r.0, cc (heads, r.1)))
+    (λ r. inr (r.0, cc (heads, r.1)))
+    (either_begins xs ys zs (p.0, cc (p.1)) (q.0, cc (q.1)))
+
+goes_on : (before now : List Entry) → IsPrefix before now → Continues before now
+goes_on before now p = (p.0, sym p.1)
+
+-- Where a table is seen under one edition of its binding at two points, of two logs the one has grown to be the other.
+pub either_log : (history before now : List Entry) (name : TableName) (spot spot' : Spot) (log log' : Log) → IsBound before name spot log → IsBound now name spot' log' → IsPrefix before history → IsPrefix now history → spot'.binding ≡ spot.binding
+    → Grown log log' ⊎ Grown log' log
+either_log history before now name spot spot' log log' s s' at at' same =
+    ⊎_elim
+    (λ r. inl (same_log before now name spot spot' log log' s s' (goes_on before now r) same))
+    (λ r. inr (same_log now before name spot' spot log' log s' s (goes_on now before r) (sym same)))
+    (either_begins before now history at at')
+
+grown_versions : (log log' : Log) (version : ℕ) → Grown log log' → version < length log.commits → up_to log' version ≡ up_to log version
+grown_versions log log' version (more, grown) kept = ap (take (version + 1)) grown ∙ take-append-le (version + 1) log.commits more (omega (arith, kept))
+
+-- so a version that both have is one
+pub either_versions : (log log' : Log) (version : ℕ) → Grown log log' ⊎ Grown log' log → version < length log.commits → version < length log'.commits → up_to log' version ≡ up_to log version
+either_versions log log' version (inl g) kept kept' = grown_versions log log' version g kept
+either_versions log log' version (inr g) kept kept' = sym (grown_versions log' log version g kept')

@@ -1,6 +1,7 @@
 -- Chains of pages: a recipient asks for a table's files, or for its changes, page by page, while others commit, grant and bind between its pages. What the pages give together is what the version that the first one was of, or the range, has: each once, in order.
 use Rattle.std.specs.Prelude.{◌≡◌, ℕ, ◌^◌, ◌<◌, ⊤, List, [], ◌∷◌, ◌++◌, Option, Some, None, IfSome, Ok, length, map, option_and_then, option_map}
 use Rattle.std.specs.FinMap as maps
+use mathlib.Core.List.{IsPrefix}
 use Rattle.std.specs.Str.{IsUtf8}
 use Rattle.case_table.specs.declared.routing.Route.{Route}
 use Rattle.case_table.specs.declared.routing.Route.TheVariants as route
@@ -32,10 +33,6 @@ use Rattle.share_reply.specs.Feeds.{ChangesQuery, change_line}
 use Rattle.share_reply.specs.Files.{file_line, listed_files, used_hint}
 use Rattle.share_reply.specs.Replies.{answered_at}
 use Rattle.share_reply.specs.declared.keys.ReplyKeys.{ReplyKeys}
-
--- a history that goes on
-abbrev pub Continues : List Entry → List Entry → Type 0
-Continues before after = (more : List Entry) × (after ≡ before ++ more)
 
 -- what is asked for page by page
 pub record Paging (Q : Type 0) : Type 0 where
@@ -70,18 +67,18 @@ next_in p = option_and_then (λ e. e.next) p.end
 abbrev pub next_token : ReplyKeys → Page → Option (List ℕ)
 next_token keys p = option_map (token_text keys.token) (next_in p)
 
--- Each turn's point continues the one before, its token is the one that the page before gave, all answers are pages, and the last page gives no token. That it is one recipient's chain of one table follows: the token says both.
+-- Each turn is answered at a point of the one history, in any order, since its request may come to another worker; its token is the one that the page before gave, all answers are pages, and the last page gives no token. That it is one recipient's chain of one table follows: the token says both.
 abbrev pub IsChainAfter : {Q : Type 0} → Paging Q → ReplyKeys → TableName → List Entry → Option (List ℕ) → List (Turn Q) → Type 0
-IsChainAfter paging keys name before None [] = ⊤
-IsChainAfter paging keys name before (Some text) [] = ⊥
-IsChainAfter paging keys name before None (t ∷ ts) = ⊥
-IsChainAfter paging keys name before (Some text) (t ∷ ts) =
-    Continues before t.point × (paging.token_of t.query ≡ Some text) × ((p : Page) × (answer_at paging keys name t ≡ page p) × IsChainAfter paging keys name t.point (next_token keys p) ts)
+IsChainAfter paging keys name history None [] = ⊤
+IsChainAfter paging keys name history (Some text) [] = ⊥
+IsChainAfter paging keys name history None (t ∷ ts) = ⊥
+IsChainAfter paging keys name history (Some text) (t ∷ ts) =
+    IsPrefix t.point history × (paging.token_of t.query ≡ Some text) × ((p : Page) × (answer_at paging keys name t ≡ page p) × IsChainAfter paging keys name history (next_token keys p) ts)
 
 -- the first request has no token
-abbrev pub IsChain : {Q : Type 0} → Paging Q → ReplyKeys → TableName → Turn Q → List (Turn Q) → Type 0
-IsChain paging keys name t ts =
-    (paging.token_of t.query ≡ None) × ((p : Page) × (answer_at paging keys name t ≡ page p) × IsChainAfter paging keys name t.point (next_token keys p) ts)
+abbrev pub IsChain : {Q : Type 0} → Paging Q → ReplyKeys → TableName → List Entry → Turn Q → List (Turn Q) → Type 0
+IsChain paging keys name history t ts =
+    IsPrefix t.point history × (paging.token_of t.query ≡ None) × ((p : Page) × (answer_at paging keys name t ≡ page p) × IsChainAfter paging keys name history (next_token keys p) ts)
 
 -- ---- what a chain gives
 
@@ -163,12 +160,17 @@ abbrev pub AreTypedFeeds : ReplyKeys → TableName → List (Turn ChangesQuery) 
 AreTypedFeeds keys name [] = ⊤
 AreTypedFeeds keys name (t ∷ ts) = IsTypedFeed keys name t × AreTypedFeeds keys name ts
 
--- The pages of a chain give all files of the version that the first one was of that the predicate doesn't make False, each once and in order, whatever stands between the points of its pages.
+-- The pages give all files of the version that the first one was of that the predicate doesn't make False, each once and in order.
+abbrev pub ListsOnce : ReplyKeys → TableName → Turn QueryBody → List (Turn QueryBody) → Type 0
+ListsOnce keys name t ts =
+    (spot : Spot) × (log : Log) × (a : TableAccess) × Sees t name spot log a × ((state : State) × Pins t.query log state × Gives by_files keys name (linked_file keys a) (t ∷ ts) (listed_files (used_hint t.query.hint) state))
+
+-- So do those of a chain, at whatever points of one history its pages are.
 abbrev pub ChainsAreWhole : Type 0
-ChainsAreWhole = (keys : ReplyKeys) (name : TableName) (t : Turn QueryBody) (ts : List (Turn QueryBody)) → IsChain by_files keys name t ts → AreTypedQueries keys name (t ∷ ts)
-    → (spot : Spot) × (log : Log) × (a : TableAccess) × Sees t name spot log a × ((state : State) × Pins t.query log state × Gives by_files keys name (linked_file keys a) (t ∷ ts) (listed_files (used_hint t.query.hint) state))
+ChainsAreWhole = (keys : ReplyKeys) (name : TableName) (history : List Entry) (t : Turn QueryBody) (ts : List (Turn QueryBody)) → IsChain by_files keys name history t ts → AreTypedQueries keys name (t ∷ ts)
+    → ListsOnce keys name t ts
 
 -- So do those of a chain of changes: all changes of the range that the first one was of.
 abbrev pub FeedChainsAreWhole : Type 0
-FeedChainsAreWhole = (keys : ReplyKeys) (name : TableName) (t : Turn ChangesQuery) (ts : List (Turn ChangesQuery)) → IsChain by_changes keys name t ts → AreTypedFeeds keys name (t ∷ ts)
+FeedChainsAreWhole = (keys : ReplyKeys) (name : TableName) (history : List Entry) (t : Turn ChangesQuery) (ts : List (Turn ChangesQuery)) → IsChain by_changes keys name history t ts → AreTypedFeeds keys name (t ∷ ts)
     → (spot : Spot) × (log : Log) × (a : TableAccess) × Sees t name spot log a × ((changes : List ChangedFile) × PinsRange t.query log changes × Gives by_changes keys name (linked_change keys a) (t ∷ ts) changes)

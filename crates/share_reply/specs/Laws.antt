@@ -1,5 +1,5 @@
 -- Laws of replies, over the definitions alone.
-use Rattle.std.specs.Prelude.{◌≡◌, ◌≢◌, ◌≤◌, ◌++◌, ℕ, List, false, Option, Some, Ok, IsErr}
+use Rattle.std.specs.Prelude.{◌≡◌, ◌≢◌, ◌≤◌, ◌++◌, ℕ, List, false, Option, Some, None, Ok, IsErr}
 use Rattle.case_table.specs.declared.refuse.Refusal.TheVariants.{NotFound}
 use Rattle.case_table.specs.declared.routing.Route.TheVariants as route
 use Rattle.page_token.specs.Cursors.{cursor_of}
@@ -12,7 +12,7 @@ use Rattle.share_book.specs.declared.entry.Entry.{Entry}
 use Rattle.share_book.specs.declared.look.PartFound.{PartFound}
 use Rattle.share_book.specs.declared.look.Found.TheVariants as found
 use Rattle.share_catalog.specs.declared.table_name.TableName.{TableName}
-use Rattle.share_catalog.specs.Catalogue.{grant_edition, granted}
+use Rattle.share_catalog.specs.Catalogue.{binding_edition, bound, grant_edition, granted}
 use Rattle.file_ranges.specs.declared.span.Span.{Span}
 use Rattle.share_request.specs.declared.asked.ByLink.{ByLink}
 use Rattle.share_request.specs.declared.asked.Request.{Request}
@@ -60,11 +60,27 @@ pub record StaleTokensGiveNothing : Type 0 where
 abbrev pub IsRevoked : List Entry → List ℕ → List ℕ → ℕ → Type 0
 IsRevoked history r s edition = (granted (edits history) r s ≡ false) × (edition ≤ grant_edition (edits history) r s)
 
--- What was given under a grant that is over is good no more, at whatever later point, granted again or not: its tokens give no line, and its links no byte.
-pub record RevokedGrantsGiveNothing : Type 0 where
+-- An edition of a binding is over: the table isn't bound now, and was so often, or oftener.
+abbrev pub IsUnbound : List Entry → TableName → ℕ → Type 0
+IsUnbound history table edition = (bound (edits history) table ≡ None) × (edition ≤ binding_edition (edits history) table)
+
+-- to whom and of which table a link was given, under which editions
+abbrev pub access_of : LinkParts → TableAccess
+access_of parts = record { recipient = parts.recipient; share = parts.table.share; schema = parts.table.schema; table = parts.table.table; grant = parts.grant; binding = parts.binding }
+
+-- What was given under something that is over is good no more, at whatever later point, given again or not: its tokens give no line, and its links no byte.
+pub record GivesNothing (over : List Entry → TableAccess → Type 0) : Type 0 where
   pub files : (keys : ReplyKeys) (before later : List Entry) (now : ℕ) (digest text : List ℕ) (name : TableName) (q : QueryBody) (c : FilesCursor) → q.token ≡ Some text → cursor_of keys.token text ≡ Some (cursor.Files c)
-      → IsRevoked before c.access.recipient c.access.share c.access.grant → (p : Page) → answered_at keys (before ++ later) now (request.ByToken (record { digest = digest; route = route.Query; asked = Ok (what.Query name q) })) ≢ page p
+      → over before c.access → (p : Page) → answered_at keys (before ++ later) now (request.ByToken (record { digest = digest; route = route.Query; asked = Ok (what.Query name q) })) ≢ page p
   pub changes : (keys : ReplyKeys) (before later : List Entry) (now : ℕ) (digest text : List ℕ) (name : TableName) (q : ChangesQuery) (c : FeedCursor) → q.token ≡ Some text → cursor_of keys.token text ≡ Some (cursor.Feed c)
-      → IsRevoked before c.access.recipient c.access.share c.access.grant → (p : Page) → answered_at keys (before ++ later) now (request.ByToken (record { digest = digest; route = route.Changes; asked = Ok (what.Changes name q.from q.to q.max q.token) })) ≢ page p
+      → over before c.access → (p : Page) → answered_at keys (before ++ later) now (request.ByToken (record { digest = digest; route = route.Changes; asked = Ok (what.Changes name q.from q.to q.max q.token) })) ≢ page p
   pub links : (keys : ReplyKeys) (before later : List Entry) (now : ℕ) (by : ByLink) (parts : LinkParts) → parts_of keys.link by.target ≡ Some parts
-      → IsRevoked before parts.recipient parts.table.share parts.grant → (name : List ℕ) (span : Option Span) → answered_at keys (before ++ later) now (request.ByLink by) ≢ object name span
+      → over before (access_of parts) → (name : List ℕ) (span : Option Span) → answered_at keys (before ++ later) now (request.ByLink by) ≢ object name span
+
+-- So under a grant that is over.
+abbrev pub RevokedGrantsGiveNothing : Type 0
+RevokedGrantsGiveNothing = GivesNothing (λ history a. IsRevoked history a.recipient a.share a.grant)
+
+-- And under a binding that is over.
+abbrev pub UnboundTablesGiveNothing : Type 0
+UnboundTablesGiveNothing = GivesNothing (λ history a. IsUnbound history (record { share = a.share; schema = a.schema; table = a.table }) a.binding)

@@ -1,10 +1,10 @@
 // Laws of replies. None of these functions does anything when it is called.
 ghost use Rattle.share_reply.specs.Chains.{ChainsAreWhole, FeedChainsAreWhole};
-ghost use Rattle.share_reply.specs.Laws.{EqualViewsAnswerAlike, RevokedGrantsGiveNothing, StaleTokensGiveNothing, UngrantedSharesAreAlike, UnseenTablesAreAlike};
+ghost use Rattle.share_reply.specs.Laws.{EqualViewsAnswerAlike, RevokedGrantsGiveNothing, StaleTokensGiveNothing, UnboundTablesGiveNothing, UngrantedSharesAreAlike, UnseenTablesAreAlike};
 
 /// A law: the pages of a chain, joined, are the files of the version that the first one was of that the predicate doesn't make false,
 /// each once and in order, each with the link and the expiry of its own page's moment, whatever is committed, granted or bound
-/// between its pages.
+/// between its pages, and whichever workers answer them: their points are of one history, in any order.
 pub fn chains_are_whole()
     ensures files { ChainsAreWhole }
     // So are those of a chain of changes: all changes of the range that the first one was of.
@@ -31,4 +31,10 @@ pub fn hidden_is_like_absent()
 /// share is granted again or not.
 pub fn revoked_grants_give_nothing()
     ensures { RevokedGrantsGiveNothing }
+{}
+
+/// A law: a token or a link that was given under a binding which is over, since its table was unbound or its share dropped, gives no
+/// line and no byte at any later point, whether the table is bound again or not.
+pub fn unbound_tables_give_nothing()
+    ensures { UnboundTablesGiveNothing }
 {}

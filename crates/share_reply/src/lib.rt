@@ -26,6 +26,7 @@ pub use asking::ask_of;
 pub use keys::ReplyKeys;
 pub use law::{
     chains_are_whole, equal_views_answer_alike, hidden_is_like_absent, revoked_grants_give_nothing,
+    unbound_tables_give_nothing,
 };
 pub use lines::LinePlan;
 pub use plan::{Plan, plan_of};
