@@ -1,5 +1,5 @@
 // A server in this process.
-ghost use Rattle.std.specs.Prelude.{◌≡◌, IfOk, Some, [], false};
+ghost use Rattle.std.specs.Prelude.{◌≡◌, ℕ, IfOk, List, Option, Some, [], false};
 ghost use Rattle.share_serve.specs.Sessions.{IsSession};
 ghost use Rattle.share_serve.specs.Sides.{held, side};
 ghost use Rattle.share_serve.specs.declared.serve.SessionEnd.{SessionEnd as Ended};
@@ -66,7 +66,7 @@ impl<W: Store, C: Clock, G: Gate> Peer<W, C, G> {
         alloc: Global,
         bytes: Vec<u8>,
     ) -> Result<Vec<u8>, AllocError>
-        ensures { IfOk result (λ answer. (end : Ended) × IsSession self.old.server (Some bytes.items) (side (C.coming self.old.clock) (held W.objects W.alone W.faults self.old.place.pass self.old.store) (Some [])) (side (C.coming self.new.clock) (held W.objects W.alone W.faults self.new.place.pass self.new.store) (Some answer.items)) end) }
+        ensures { IfOk result (λ answer. (end : Ended) × (left : Option (List ℕ)) × IsSession self.old.server (Some bytes.items) left (side (C.coming self.old.clock) (held W.objects W.alone W.faults W.stored self.old.place.pass self.old.store) (Some []) []) (side (C.coming self.new.clock) (held W.objects W.alone W.faults W.stored self.new.place.pass self.new.store) (Some answer.items) []) end) }
     {
         let place = &mut self.place;
         let mut source = MemSource::new(alloc, bytes);

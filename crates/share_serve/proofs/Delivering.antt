@@ -4,7 +4,9 @@ use Rattle.std.proofs.Math.Seq.{take-length}
 use Rattle.std.proofs.lemmas.Bool.Decides.{nat_tests}
 use Rattle.std.specs.declared.alloc.AllocError.{AllocError}
 use Rattle.std.specs.Io.KnownBytes.{append_known}
-use Rattle.edge_core.specs.Objects.{Objects}
+use Rattle.case_table.specs.declared.refuse.Refusal.TheVariants as refusal
+use Rattle.edge_core.specs.Faults.{Rose}
+use Rattle.edge_core.specs.Objects.{Lacks, Objects}
 use Rattle.file_ranges.specs.Picks.{pick}
 use Rattle.file_ranges.specs.Ranges.{IsRange, Range, bytes_at}
 use Rattle.file_ranges.specs.declared.pick.Picked.{Picked}
@@ -15,11 +17,12 @@ use Rattle.response_text.specs.declared.status.Status.{Status}
 use Rattle.response_text.specs.declared.status.Status.TheVariants as status
 use Rattle.share_lines.specs.Printing.{body_text}
 use Rattle.share_lines.specs.declared.kinds.Line.{Line}
+use Rattle.share_reply.specs.Refusing.{plain}
 use Rattle.share_reply.specs.declared.plan.Plan.{Plan}
 use Rattle.share_reply.specs.declared.plan.Plan.TheVariants as plan
-use Rattle.share_serve.specs.Responses.{body_sent, bytes_response, file_response, lines_response, out_response, picked_response, response_head, response_text}
+use Rattle.share_serve.specs.Responses.{body_sent, bytes_response, file_response, lines_response, object_response, out_response, picked_response, refusal_response, response_head, response_text}
 use Rattle.share_serve.specs.Sends.{BodySent, CopySent, FileSent, HasSize, IsInPart, IsSent, IsWritten, PartSent, WholeSent, Writes, delivered_of}
-use Rattle.share_serve.specs.Turns.{IsObject, ReplyIs, Shelf}
+use Rattle.share_serve.specs.Turns.{IsObject, ObjectIs, OnlyLooks, ReplyIs, Shelf}
 use Rattle.share_serve.specs.declared.response.Delivery.{Delivery}
 use Rattle.share_serve.specs.declared.response.Response.{Response}
 use Rattle.share_serve.specs.declared.send.Delivered.{Delivered}
@@ -144,6 +147,22 @@ module _ (end : Delivered) (d : Delivery) (name : List ℕ) (span : Option Span)
   out_found is there w =
       let b = whole name size 0 os [] (omega arith) (read_none name size os there) in
       found_as picked.Out is b.0 b.1 b.2 (subst (λ (n : ℕ). IsWritten end d (out_response n) old new) (sym b.1) w)
+
+-- the response to a request for an object, by what a store told that was only looked at
+module _ (end : Delivered) (d : Delivery) (name : List ℕ) (span : Option Span) (old new : Shelf) (w w' : Option (List ℕ)) (looks : OnlyLooks old new) where
+  pub file_writes : FileSent end d name span new.objects w w' → Writes end d (λ r. ObjectIs name span r old new) (new ≡ old) w w'
+  file_writes s = inr (object_response span s.0, (looks, inl (s.0, refl, s.1)), s.2)
+
+  pub gone_writes : Lacks name new.objects → IsWritten end d (refusal_response (plain refusal.FileGone)) w w' → Writes end d (λ r. ObjectIs name span r old new) (new ≡ old) w w'
+  gone_writes lacks s = inr (refusal_response (plain refusal.FileGone), (looks, inr (inl (refl, lacks))), s)
+
+  pub failed_writes : Rose old.faults new.faults → IsWritten end d (refusal_response (plain refusal.StoreFault)) w w' → Writes end d (λ r. ObjectIs name span r old new) (new ≡ old) w w'
+  failed_writes rose s = inr (refusal_response (plain refusal.StoreFault), (looks, inr (inr (refl, rose))), s)
+
+-- the same of the reply that it is
+pub file_reply : (end : Delivered) (d : Delivery) (name : List ℕ) (span : Option Span) (p : Plan) → p ≡ plan.File name span → (old new : Shelf) (w w' : Option (List ℕ)) → Writes end d (λ r. ObjectIs name span r old new) (new ≡ old) w w'
+    → Writes end d (λ r. ReplyIs p r old new) (new ≡ old) w w'
+file_reply end d name span p is old new w w' s = subst (λ (z : Plan). Writes end d (λ r. ReplyIs z r old new) (new ≡ old) w w') (sym is) s
 
 -- ---- the range of all bytes
 

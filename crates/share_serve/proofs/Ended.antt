@@ -5,7 +5,7 @@ use Rattle.edge_core.specs.Clocks.{next_moment}
 use Rattle.http_message.specs.Messages.{Reading, ReadsMessage, ended, truncated, bad, request}
 use Rattle.share_serve.specs.Laws.{IsComplete}
 use Rattle.share_serve.specs.Sessions.{Ends, IsSession, opening, refusal_text}
-use Rattle.share_serve.specs.Turns.{Runs, Side, State, Turn, closes_after}
+use Rattle.share_serve.specs.Turns.{Runs, Side, State, Turn, closes_after, stream_of}
 use Rattle.share_serve.specs.declared.serve.SessionEnd.{SessionEnd}
 use Rattle.share_serve.specs.declared.serve.SessionEnd.TheVariants as end
 use Rattle.share_serve.specs.declared.server.Server.{Server}
@@ -33,10 +33,10 @@ known : (o : Option (List ℕ)) (xs : List ℕ) (P : List ℕ → Type 0) → o 
 known None xs P e p = absurd cc
 known (Some ys) xs P e p = let same : ys ≡ xs = cc in subst P same p
 
-pub reads_there : (server : Server) (v : State) (e : SessionEnd) (new : Side) (xs : List ℕ) → Ends server v e new → IsComplete e → v.goes ≡ true → v.stream ≡ Some xs → ReadsMessage xs (reading_of e)
-reads_there server v (end.Done served) new xs is c g told = known v.stream xs (λ z. ReadsMessage z ended) told (subst (λ (b : Bool). MatchBool b (IfSome v.stream (λ z. ReadsMessage z ended)) (Unit {0})) g is.1)
-reads_there server v (end.Truncated at served) new xs is c g told = (known v.stream xs (λ z. (at ≡ v.place) × ReadsMessage z truncated) told is.2).1
-reads_there server v (end.BadMessage at flaw served) new xs is c g told = (known v.stream xs (λ z. (at ≡ v.place) × ReadsMessage z (bad flaw)) told is.1).1
+pub reads_there : (server : Server) (v : State) (e : SessionEnd) (new : Side) (xs : List ℕ) → Ends server v e new → IsComplete e → v.goes ≡ true → stream_of v ≡ Some xs → ReadsMessage xs (reading_of e)
+reads_there server v (end.Done served) new xs is c g told = known (stream_of v) xs (λ z. ReadsMessage z ended) told (subst (λ (b : Bool). MatchBool b (IfSome (stream_of v) (λ z. ReadsMessage z ended)) (Unit {0})) g is.1)
+reads_there server v (end.Truncated at served) new xs is c g told = (known (stream_of v) xs (λ z. (at ≡ v.buffer.1) × ReadsMessage z truncated) told is.2).1
+reads_there server v (end.BadMessage at flaw served) new xs is c g told = (known (stream_of v) xs (λ z. (at ≡ v.buffer.1) × ReadsMessage z (bad flaw)) told is.1).1
 reads_there server v (end.ReadFault served) new xs is c g told = absurd c
 reads_there server v (end.WriteFault served) new xs is c g told = absurd c
 reads_there server v (end.BodyCut served sent) new xs is c g told = absurd c
@@ -75,15 +75,15 @@ goes_same server server' old new old' new' (t ∷ turns) (t' ∷ turns') r r' g 
     goes_same server server' r.0 new r'.0 new' turns turns' r.2 r'.2 on (r.1.served ∙ ap (λ (z : ℕ). z + 1) n ∙ sym r'.1.served) a.1
 
 by_goes : (server server' : Server) (v v' : State) (e e' : SessionEnd) (new new' : Side) (xs ms : List ℕ) (b : Bool) → OneReading → Ends server v e new → Ends server' v' e' new' → IsComplete e → IsComplete e' → v.goes ≡ b → v'.goes ≡ b
-    → v.stream ≡ Some xs → v'.stream ≡ Some xs → v.side.coming ≡ Some ms → v'.side.coming ≡ Some ms → v.side.written ≡ v'.side.written → new.written ≡ new'.written
+    → stream_of v ≡ Some xs → stream_of v' ≡ Some xs → v.side.coming ≡ Some ms → v'.side.coming ≡ Some ms → v.side.written ≡ v'.side.written → new.written ≡ new'.written
 by_goes server server' v v' e e' new new' xs ms true one is is' c c' g g' t t' m m' w =
     let same : reading_of e ≡ reading_of e' = one xs (reading_of e) (reading_of e') (reads_there server v e new xs is c g t) (reads_there server' v' e' new' xs is' c' g' t') in
     writes_there server v e new ms is c m ∙ ap (λ (r : Reading). append_known v.side.written (tail_of r (next_moment ms))) same ∙ ap (λ (z : Option (List ℕ)). append_known z (tail_of (reading_of e') (next_moment ms))) w ∙ sym (writes_there server' v' e' new' ms is' c' m')
 by_goes server server' v v' e e' new new' xs ms false one is is' c c' g g' t t' m m' w = closed_done server v e new is c g ∙ w ∙ sym (closed_done server' v' e' new' is' c' g')
 
-pub ends_same : OneReading → (server server' : Server) (old new old' new' : Side) (e e' : SessionEnd) (bytes moments : List ℕ) (s : IsSession server (Some bytes) old new e) (s' : IsSession server' (Some bytes) old' new' e') → old.coming ≡ Some moments
+pub ends_same : OneReading → (server server' : Server) (old new old' new' : Side) (e e' : SessionEnd) (bytes moments : List ℕ) (left left' : Option (List ℕ)) (s : IsSession server (Some bytes) left old new e) (s' : IsSession server' (Some bytes) left' old' new' e') → old.coming ≡ Some moments
     → old'.coming ≡ Some moments → old.written ≡ old'.written → map (λ t. t.response) s.0 ≡ map (λ t. t.response) s'.0 → IsComplete e → IsComplete e' → new.written ≡ new'.written
-ends_same one server server' old new old' new' e e' bytes moments s s' m m' w replies c c' =
+ends_same one server server' old new old' new' e e' bytes moments left left' s s' m m' w replies c c' =
     let count : length s.0 ≡ length s'.0 = sym (length_map (λ (t : Turn). t.response) s.0) ∙ ap length replies ∙ length_map (λ (t : Turn). t.response) s'.0 in
     let a = same one server server' (opening (Some bytes) old) s.1 (opening (Some bytes) old') s'.1 s.0 s'.0 bytes moments s.2 s'.2 refl refl m m' count in
     let g = goes_same server server' (opening (Some bytes) old) s.1 (opening (Some bytes) old') s'.1 s.0 s'.0 s.2 s'.2 refl refl a.asked in

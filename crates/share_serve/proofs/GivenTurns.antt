@@ -60,11 +60,11 @@ lacked o y P e f = absurd cc
 
 object_given : (name : List ℕ) (span : Option Span) (r : Response) (old new : Shelf) (objects : Objects) (bytes : List ℕ)
     → ObjectIs name span r old new → new.objects ≡ Some objects → maps.get objects name ≡ Some bytes → Stays old.faults new.faults → r ≡ object_response span bytes
-object_given name span r old new objects bytes (inl given) tells has stays =
+object_given name span r old new objects bytes (looks, inl given) tells has stays =
     given.1 ∙ ap (object_response span) (same_bytes (maps.get objects name) given.0 bytes (held new.objects objects (λ os. maps.get os name ≡ Some given.0) tells given.2) has)
-object_given name span r old new objects bytes (inr (inl gone)) tells has stays =
+object_given name span r old new objects bytes (looks, inr (inl gone)) tells has stays =
     lacked (maps.get objects name) bytes (r ≡ object_response span bytes) (held new.objects objects (λ os. maps.get os name ≡ None) tells gone.1) has
-object_given name span r old new objects bytes (inr (inr failed)) tells has stays = absurd (none_rose old.faults new.faults stays failed.1)
+object_given name span r old new objects bytes (looks, inr (inr failed)) tells has stays = absurd (none_rose old.faults new.faults stays failed.1)
 
 pub objects_are_given : ObjectsAreGiven
 objects_are_given server old new t r bytes g =

@@ -2,12 +2,11 @@
 use Rattle.std.proofs.Common.{◌≡◌, ◌≤◌, Bool, true, false, [], refl, sym, arith}
 use Rattle.std.proofs.lemmas.List.{append-nil}
 use Rattle.std.specs.Bool.{OnTrue}
-use Rattle.edge_core.specs.Objects.{Grows}
 use Rattle.edge_core.proofs.Growth.{Grows-itself, Grows-on}
 use Rattle.hub_calls.specs.Calls.{Adds, IsIdle, P}
 use Rattle.hub_calls.proofs.Passes.{idle_more}
 use Rattle.share_serve.specs.Sides.{hold}
-use Rattle.share_serve.specs.Turns.{Grew, Hold, Shelf}
+use Rattle.share_serve.specs.Turns.{Grew, Hold, OnlyLooks, Shelf}
 use Rattle.share_serve.proofs.Basics.{prefix_self}
 
 -- a pass of which nothing was made
@@ -33,6 +32,7 @@ grew_itself h is = record {
   objects = Grows-itself h.shelf.objects;
   stays = stays_itself h.shelf.alone;
   faults = omega arith;
+  stored = omega arith;
 }
 
 pub grew_on : (a b c : Hold) → Grew a b → Grew b c → Grew a c
@@ -41,6 +41,7 @@ grew_on a b c p q = record {
   objects = Grows-on a.shelf.objects b.shelf.objects c.shelf.objects p.objects q.objects;
   stays = stays_on a.shelf.alone b.shelf.alone c.shelf.alone p.stays q.stays;
   faults = (let x = p.faults in let y = q.faults in omega arith);
+  stored = (let x = p.stored in let y = q.stored in omega arith);
 }
 
 -- a look leaves the store as it was
@@ -50,8 +51,15 @@ looked p q s is = record {
   objects = Grows-itself s.objects;
   stays = stays_itself s.alone;
   faults = omega arith;
+  stored = omega arith;
 }
 
--- what follows it changes the store alone
-pub replied : (p q : P) (s t : Shelf) → IsIdle p q → Grows s.objects t.objects → OnTrue s.alone (t.alone ≡ true) → s.faults ≤ t.faults → Grew (hold p s) (hold q t)
-replied p q s t is g b le = record { pass = is; objects = g; stays = b; faults = le }
+-- what follows it only looks at the store
+pub replied : (p q : P) (s t : Shelf) → IsIdle p q → OnlyLooks s t → s.faults ≤ t.faults → Grew (hold p s) (hold q t)
+replied p q s t is looks le = record {
+  pass = is;
+  objects = looks.looked.grows;
+  stays = looks.looked.stays;
+  faults = le;
+  stored = (let same = looks.stored in omega arith);
+}

@@ -1,7 +1,9 @@
+pub mod Acknowledged
 pub mod Asked
 pub mod Basics
 pub mod Causes
 pub mod Copying
+pub mod Cuts
 pub mod Delivering
 pub mod Ended
 pub mod GivenChanges

@@ -1,33 +1,27 @@
 -- Steps of a session's loop, and its ends.
 use Rattle.std.proofs.Common.{◌≡◌, ◌⊎◌, inl, inr, ⊎_elim, ℕ, ◌+◌, Bool, true, false, not, List, [], ◌∷◌, Option, Some, None, IfSome, Result, Ok, refl, sym, ap, ◌∙◌, subst, Global, ◌<◌, ◌≢◌, ◌==◌, arith, true≢false}
 use Rattle.std.specs.Prelude.{Vec}
-use Rattle.std.specs.Io.KnownBytes.{prepend_known}
 use Rattle.std.specs.declared.alloc.AllocError.{AllocError}
 use Rattle.http_message.specs.Messages.{ReadsMessage, request, ended, truncated, bad}
 use Rattle.http_message.specs.Sessions.{Request as Message}
 use Rattle.http_message.specs.declared.head.Head.{Head}
 use Rattle.http_message.specs.declared.refusal.Flaw.{Flaw}
-use Rattle.http_wire.specs.Streams.{Buffer, Moves, Told, stream}
-use Rattle.http_wire.specs.Wires.{TellsMessage}
+use Rattle.http_wire.specs.Streams.{Buffer, Drew, Moves, Told, stream}
+use Rattle.http_wire.specs.Wires.{IsShort, TellsMessage}
 use Rattle.http_wire.specs.declared.wire.Message.{Message as Answer}
 use Rattle.http_wire.specs.declared.wire.Message.TheVariants as answer
 use Rattle.share_book.specs.declared.entry.Entry.{Entry}
 use Rattle.share_serve.specs.Sessions.{CutsBody, Ends, IsBad, IsNext, IsSessionFrom, Refuses, Wants, opening, refusal_text, served_in}
 use Rattle.share_serve.specs.Sides.{state_at}
 use Rattle.share_serve.specs.Turned.{RefusalEnds, TurnsInPart, TurnsWhole, message, turn}
-use Rattle.share_serve.specs.Turns.{Serves, Side, State, Turn, closes_after}
+use Rattle.share_serve.specs.Turns.{ReadsWhenDue, Serves, Side, State, Turn, closes_after}
 use Rattle.share_serve.specs.declared.response.Response.{Response}
 use Rattle.share_serve.specs.declared.serve.SessionEnd.{SessionEnd}
 use Rattle.share_serve.specs.declared.serve.SessionEnd.TheVariants as end
 use Rattle.share_serve.specs.declared.server.Server.{Server}
 
-nothing_before : (left : Option (List ℕ)) → prepend_known [] left ≡ left
-nothing_before None = refl
-nothing_before (Some xs) = refl
-
 pub opens : (left : Option (List ℕ)) (s : Side) (b : Buffer) → b ≡ ([], 0) → state_at b left 0 s ≡ opening left s
-opens left s b is =
-    ap (λ (z : Buffer). state_at z left 0 s) is ∙ ap (λ (z : Option (List ℕ)). let v : State = record { stream = z; place = 0; served = 0; goes = true; side = s } in v) (nothing_before left)
+opens left s b is = ap (λ (z : Buffer). state_at z left 0 s) is
 
 -- ---- what the wire tells
 
@@ -38,6 +32,15 @@ told_is (Some xs) new P Q t f = let p = t xs refl in f xs p.0 p.2
 -- what a call of the wire tells, with what it leaves
 abbrev pub Tells : Buffer → Option (List ℕ) → Buffer → Option (List ℕ) → Result Answer AllocError → Type 0
 Tells b left b' left' r = Told (stream b left) (stream b' left') (λ xs ys. TellsMessage xs b.1 ys b'.1 r)
+
+-- what a call of the wire read
+pub due : {S : Type 0} (left : S → Option (List ℕ)) (b b' : Buffer) (source source' : S) (P : List ℕ → Type 0) → Drew left IsShort b b' source source' P → ReadsWhenDue b b' (left source) (left source')
+due left b b' source source' P d = (
+  d.0,
+  d.1,
+  record { came = d.2.came; spelled = d.2.spelled; place = d.2.place; each = d.2.each; spared = λ none. ap left (d.2.spared none) },
+  tt,
+)
 
 -- the next message is that request, and those bytes stand behind it
 abbrev pub Hears : Buffer → Option (List ℕ) → Buffer → Option (List ℕ) → Message → Type 0
@@ -61,17 +64,17 @@ goes_few n false lt e =
 -- ---- the ends
 
 module _ (server : Server) (b : Buffer) (left : Option (List ℕ)) (n : ℕ) (s : Side) where
-  -- it ends there, with no request more
-  ends : (e : SessionEnd) (s' : Side) → served_in e ≡ n → Ends server (state_at b left n s) e s' → IsSessionFrom server (state_at b left n s) e s'
-  ends e s' count is = ([], state_at b left n s, refl, count, is)
-
   -- after a message that was asked for
-  module _ (b' : Buffer) (left' : Option (List ℕ)) where
-    pub ends_between : Tells b left b' left' (Ok answer.End) → IsSessionFrom server (state_at b left n s) (end.Done n) s
+  module _ (b' : Buffer) (left' : Option (List ℕ)) (read : ReadsWhenDue b b' left left') where
+    -- it ends there, with no request more
+    ends : (e : SessionEnd) (s' : Side) → served_in e ≡ n → Ends server (state_at b left n s) e s' → IsSessionFrom server (state_at b left n s) e left' s'
+    ends e s' count is = ([], state_at b left n s, refl, count, is, (b', read))
+
+    pub ends_between : Tells b left b' left' (Ok answer.End) → IsSessionFrom server (state_at b left n s) (end.Done n) left' s
     ends_between told = ends (end.Done n) s refl
         (refl, told_is (stream b left) (stream b' left') (λ xs ys. TellsMessage xs b.1 ys b'.1 (Ok answer.End)) (λ xs. ReadsMessage xs ended) told (λ xs ys p. p.answers))
 
-    pub ends_inside : (at : ℕ) → Tells b left b' left' (Ok (answer.Truncated at)) → IsSessionFrom server (state_at b left n s) (end.Truncated at n) s
+    pub ends_inside : (at : ℕ) → Tells b left b' left' (Ok (answer.Truncated at)) → IsSessionFrom server (state_at b left n s) (end.Truncated at n) left' s
     ends_inside at told = ends (end.Truncated at n) s refl (
       refl,
       refl,
@@ -86,11 +89,12 @@ module _ (server : Server) (b : Buffer) (left : Option (List ℕ)) (n : ℕ) (s 
     bad_is at flaw told =
         told_is (stream b left) (stream b' left') (λ xs ys. TellsMessage xs b.1 ys b'.1 (Ok (answer.Bad at flaw))) (λ xs. ReadsMessage xs (bad flaw)) told (λ xs ys p. p.answers.1)
 
-    pub ends_refused : (at : ℕ) (flaw : Flaw) (s' : Side) (e : SessionEnd) → Tells b left b' left' (Ok (answer.Bad at flaw)) → RefusalEnds e at flaw n s s' → IsSessionFrom server (state_at b left n s) e s'
+    pub ends_refused : (at : ℕ) (flaw : Flaw) (s' : Side) (e : SessionEnd) → Tells b left b' left' (Ok (answer.Bad at flaw)) → RefusalEnds e at flaw n s s' → IsSessionFrom server (state_at b left n s) e left' s'
     ends_refused at flaw s' (end.BadMessage at' flaw' served') told r = ends (end.BadMessage at' flaw' served') s' r.2 (
       refl,
       subst (λ (z : ℕ × Flaw). IfSome (stream b left) (λ xs. (z.0 ≡ b.1) × ReadsMessage xs (bad z.1))) (λ i. (sym r.0 i, sym r.1 i)) (bad_there at flaw told),
       (r.3.0, subst (λ (z : Flaw). Refuses r.3.0 (refusal_text z r.3.0) s s') (sym r.1) r.3.1),
+      r.4,
     )
     ends_refused at flaw s' (end.WriteFault served') told r = ends (end.WriteFault served') s' r.0 (refl, inr (flaw, r.1.0, r.1.1, bad_is at flaw told, r.1.2, r.1.3))
     ends_refused at flaw s' (end.NoMemory served') told r = ends (end.NoMemory served') s' r.0 (refl, inr (inr (inl (flaw, r.1.0, r.1.1, bad_is at flaw told, r.1.2, r.1.3))))
@@ -99,41 +103,42 @@ module _ (server : Server) (b : Buffer) (left : Option (List ℕ)) (n : ℕ) (s 
     ends_refused at flaw s' (end.Truncated at' served') told r = absurd r
     ends_refused at flaw s' (end.ReadFault served') told r = absurd r
 
-  pub ends_unread : IsSessionFrom server (state_at b left n s) (end.ReadFault n) s
-  ends_unread = ends (end.ReadFault n) s refl (refl, refl)
+    pub ends_unread : IsSessionFrom server (state_at b left n s) (end.ReadFault n) left' s
+    ends_unread = ends (end.ReadFault n) s refl (refl, refl)
 
-  pub ends_wanting : IsSessionFrom server (state_at b left n s) (end.NoMemory n) s
-  ends_wanting = ends (end.NoMemory n) s refl (refl, inl refl)
+    pub ends_wanting : IsSessionFrom server (state_at b left n s) (end.NoMemory n) left' s
+    ends_wanting = ends (end.NoMemory n) s refl (refl, inl refl)
 
   -- after a request
-  module _ (b' : Buffer) (left' : Option (List ℕ)) (m : Message) (heard : Hears b left b' left' m) (s' : Side) where
+  module _ (b' : Buffer) (left' : Option (List ℕ)) (read : ReadsWhenDue b b' left left') (m : Message) (heard : Hears b left b' left' m) (s' : Side) where
     next : IsNext (state_at b left n s) m
     next = hears_next b b' left left' m n s heard
 
     served_at : (goes : Bool) → goes ≡ not (closes_after n m.closes) → (w : TurnsWhole server n m s s')
-        → Serves server (state_at b left n s) (turn m w.0 w.1 w.2) (record { stream = stream b' left'; place = b'.1; served = n + 1; goes = goes; side = s' })
-    served_at goes is w = record { was = refl; receives = heard; responds = w.3; served = refl; goes = is }
+        → Serves server (state_at b left n s) (turn m w.0 w.1 w.2) (record { buffer = b'; left = left'; served = n + 1; goes = goes; side = s' })
+    served_at goes is w = record { was = refl; receives = record { due = read; told = heard }; responds = w.3; kept = w.4; served = refl; goes = is }
 
     pub goes_on : TurnsWhole server n m s s' × (closes_after n m.closes ≡ false) → (t : Turn) × Serves server (state_at b left n s) t (state_at b' left' (n + 1) s')
     goes_on w = (turn m w.0.0 w.0.1 w.0.2, served_at true (ap not (sym w.1)) w.0)
 
-    pub ends_closed : TurnsWhole server n m s s' × (closes_after n m.closes ≡ true) → IsSessionFrom server (state_at b left n s) (end.Done (n + 1)) s'
+    pub ends_closed : TurnsWhole server n m s s' × (closes_after n m.closes ≡ true) → IsSessionFrom server (state_at b left n s) (end.Done (n + 1)) left' s'
     ends_closed w = (
       turn m w.0.0 w.0.1 w.0.2 ∷ [],
-      record { stream = stream b' left'; place = b'.1; served = n + 1; goes = false; side = s' },
-      (record { stream = stream b' left'; place = b'.1; served = n + 1; goes = false; side = s' }, served_at false (ap not (sym w.1)) w.0, refl),
+      record { buffer = b'; left = left'; served = n + 1; goes = false; side = s' },
+      (record { buffer = b'; left = left'; served = n + 1; goes = false; side = s' }, served_at false (ap not (sym w.1)) w.0, refl),
       refl,
       (refl, tt),
+      refl,
     )
 
-    pub ends_unwritten : TurnsInPart server n m s s' → IsSessionFrom server (state_at b left n s) (end.WriteFault n) s'
-    ends_unwritten w = ends (end.WriteFault n) s' refl (refl, inl (turn m w.0 w.1 w.2, w.3, next, w.4, w.5))
+    pub ends_unwritten : TurnsInPart server n m s s' → IsSessionFrom server (state_at b left n s) (end.WriteFault n) left' s'
+    ends_unwritten w = ends b' left' read (end.WriteFault n) s' refl (refl, inl (turn m w.0 w.1 w.2, w.3, next, w.4, w.5))
 
-    pub ends_cut : (sent : ℕ) → (moment : ℕ) × (point : List Entry) × (r : Response) × (part : List ℕ) × CutsBody server n (turn m moment point r) part sent s s' → IsSessionFrom server (state_at b left n s) (end.BodyCut n sent) s'
-    ends_cut sent w = ends (end.BodyCut n sent) s' refl (refl, (turn m w.0 w.1 w.2, w.3, next, w.4))
+    pub ends_cut : (sent : ℕ) → (moment : ℕ) × (point : List Entry) × (r : Response) × (part : List ℕ) × CutsBody server n (turn m moment point r) part sent s s' → IsSessionFrom server (state_at b left n s) (end.BodyCut n sent) left' s'
+    ends_cut sent w = ends b' left' read (end.BodyCut n sent) s' refl (refl, (turn m w.0 w.1 w.2, w.3, next, w.4))
 
-    pub ends_unanswered : TurnsInPart server n m s s' ⊎ ((moment : ℕ) × Wants server m moment s s') → IsSessionFrom server (state_at b left n s) (end.NoMemory n) s'
-    ends_unanswered w = ends (end.NoMemory n) s' refl (
+    pub ends_unanswered : TurnsInPart server n m s s' ⊎ ((moment : ℕ) × Wants server m moment s s') → IsSessionFrom server (state_at b left n s) (end.NoMemory n) left' s'
+    ends_unanswered w = ends b' left' read (end.NoMemory n) s' refl (
       refl,
       ⊎_elim (λ p. inr (inl (turn m p.0 p.1 p.2, p.3, next, p.4, p.5))) (λ p. inr (inr (inr (m, p.0, next, p.1)))) w,
     )

@@ -1,5 +1,5 @@
 -- A request, answered.
-use Rattle.std.proofs.Common.{◌≡◌, inl, inr, ⊎_elim, ℕ, Bool, true, false, List, Option, Result, Ok, Err, refl, sym, ap, ◌∙◌, subst, true≢false}
+use Rattle.std.proofs.Common.{◌≡◌, inl, inr, ⊎_elim, ℕ, Bool, true, false, List, [], Option, Result, Ok, Err, refl, sym, ap, ◌∙◌, subst, true≢false}
 use Rattle.std.specs.declared.alloc.AllocError.{AllocError}
 use Rattle.std.specs.Io.KnownBytes.{append_known}
 use mathlib.Core.List.{IsPrefix}
@@ -10,11 +10,11 @@ use Rattle.share_request.specs.Requests.{request_in}
 use Rattle.share_request.specs.declared.asked.Request.{Request}
 use Rattle.share_serve.specs.Callers.{By, by_request}
 use Rattle.share_serve.specs.Responses.{response_text}
-use Rattle.share_serve.specs.Sends.{IsWritten, WholeSent, Writes}
+use Rattle.share_serve.specs.Sends.{CutOnly, DeliveryCause, HasGoneOut, IsWritten, WholeSent, Writes}
 use Rattle.share_serve.specs.Sessions.{Wants}
 use Rattle.share_serve.specs.Sides.{side}
 use Rattle.share_serve.specs.Turned.{IsAnswered, IsGiven, IsTurned, TurnsInPart, TurnsWhole, turn, turned_of}
-use Rattle.share_serve.specs.Turns.{Answers, AnswersBy, Grew, Hold, LacksBy, Responds, closes_after, delivery}
+use Rattle.share_serve.specs.Turns.{Answers, AnswersBy, FollowsLink, Grew, Hold, LacksBy, Responds, closes_after, delivery}
 use Rattle.share_serve.specs.declared.response.Delivery.{Delivery}
 use Rattle.share_serve.specs.declared.response.Response.{Response}
 use Rattle.share_serve.specs.declared.send.Delivered.{Delivered}
@@ -47,38 +47,45 @@ is_wanting (delivered.Cut n) = false
 written : (end : Delivered) (d : Delivery) (P : Response → Type 0) (N : Type 0) (w w' : Option (List ℕ)) → is_wanting end ≡ false → Writes end d P N w w' → (r : Response) × P r × IsWritten end d r w w'
 written end d P N w w' e s = ⊎_elim (λ n. absurd (true≢false (sym (ap is_wanting n.0) ∙ e))) (λ r. r) s
 
-module _ (server : Server) (n : ℕ) (m : Message) (moment : ℕ) (coming coming' : Option (List ℕ)) (old new : Hold) (w w' : Option (List ℕ)) (ticks : Ticks coming coming' moment) (grew : Grew old new) where
-  responds : (r : Response) (text : List ℕ) → Answers server (request_in m.head m.body) moment r old new → w' ≡ append_known w text → Responds server (turn m moment new.pass.seen r) text (side coming old w) (side coming' new w')
+module _ (server : Server) (n : ℕ) (m : Message) (moment : ℕ) (coming coming' : Option (List ℕ)) (old new : Hold) (w w' : Option (List ℕ)) (k k' : List ℕ) (p q : ℕ) (ticks : Ticks coming coming' moment) (grew : Grew old new) where
+  responds : (r : Response) (text : List ℕ) → Answers server (request_in m.head m.body) moment r old new → w' ≡ append_known w text → Responds server (turn m moment new.pass.seen r) text (side coming old w k) (side coming' new w' k')
   responds r text a e = record { ticks = ticks; grew = grew; point = refl; answers = a; writes = e }
 
   abbrev Given : Delivered → Type 0
   Given end = IsGiven end server (request_in m.head m.body) (by_request server (request_in m.head m.body)) (delivery n m moment) old new w w'
 
-  whole : Given delivered.Whole → TurnsWhole server n m (side coming old w) (side coming' new w')
-  whole s = let r = written delivered.Whole (delivery n m moment) (λ r. Answers server (request_in m.head m.body) moment r old new) (LacksBy (by_request server (request_in m.head m.body)) moment old new) w w' refl s in
-      (moment, new.pass.seen, r.0, responds r.0 (response_text (delivery n m moment) r.0) r.1 r.2)
+  -- where its body is cut the store failed, and it is a link that was followed
+  abbrev Failed : Delivered → Type 0
+  Failed end = DeliveryCause end old.shelf.objects old.shelf.faults new.shelf.faults p q
 
-  in_part : (r : Response) × Answers server (request_in m.head m.body) moment r old new × ((part : List ℕ) × IsPrefix part (response_text (delivery n m moment) r) × (w' ≡ append_known w part)) → TurnsInPart server n m (side coming old w) (side coming' new w')
+  abbrev Linked : Delivered → Type 0
+  Linked end = CutOnly end (FollowsLink server (request_in m.head m.body) moment new.pass.seen)
+
+  whole : Given delivered.Whole → k' ≡ [] → TurnsWhole server n m (side coming old w k) (side coming' new w' k')
+  whole s none = let r = written delivered.Whole (delivery n m moment) (λ r. Answers server (request_in m.head m.body) moment r old new) (LacksBy (by_request server (request_in m.head m.body)) moment old new) w w' refl s in
+      (moment, new.pass.seen, r.0, responds r.0 (response_text (delivery n m moment) r.0) r.1 r.2, none)
+
+  in_part : (r : Response) × Answers server (request_in m.head m.body) moment r old new × ((part : List ℕ) × IsPrefix part (response_text (delivery n m moment) r) × (w' ≡ append_known w part)) → TurnsInPart server n m (side coming old w k) (side coming' new w' k')
   in_part r = (moment, new.pass.seen, r.0, r.2.0, r.2.1, responds r.0 r.2.0 r.1 r.2.2)
 
-  by_closes : (end : Delivered) (closes : Bool) → closes_after n m.closes ≡ closes → Given end → IsTurned (turned_of end closes) server n m (side coming old w) (side coming' new w')
-  by_closes delivered.Whole true e s = (whole s, e)
-  by_closes delivered.Whole false e s = (whole s, e)
-  by_closes delivered.WriteFault closes e s = in_part (written delivered.WriteFault (delivery n m moment) (λ r. Answers server (request_in m.head m.body) moment r old new) (LacksBy (by_request server (request_in m.head m.body)) moment old new) w w' refl s)
-  by_closes delivered.NoMemory closes e s = ⊎_elim (λ x. inr (moment, record { ticks = ticks; grew = grew; lacks = inr x.1; writes = x.2 })) (λ r. inl (in_part r)) s
-  by_closes (delivered.Cut k) closes e s =
-      let r = written (delivered.Cut k) (delivery n m moment) (λ r. Answers server (request_in m.head m.body) moment r old new) (LacksBy (by_request server (request_in m.head m.body)) moment old new) w w' refl s in (
+  by_closes : (end : Delivered) (closes : Bool) → closes_after n m.closes ≡ closes → Given end → HasGoneOut end k' → Failed end → Linked end → IsTurned (turned_of end closes) server n m (side coming old w k) (side coming' new w' k')
+  by_closes delivered.Whole true e s out failed link = (whole s out, e)
+  by_closes delivered.Whole false e s out failed link = (whole s out, e)
+  by_closes delivered.WriteFault closes e s out failed link = in_part (written delivered.WriteFault (delivery n m moment) (λ r. Answers server (request_in m.head m.body) moment r old new) (LacksBy (by_request server (request_in m.head m.body)) moment old new) w w' refl s)
+  by_closes delivered.NoMemory closes e s out failed link = ⊎_elim (λ x. inr (moment, record { ticks = ticks; grew = grew; lacks = inr x.1; writes = x.2 })) (λ r. inl (in_part r)) s
+  by_closes (delivered.Cut size) closes e s out failed link =
+      let r = written (delivered.Cut size) (delivery n m moment) (λ r. Answers server (request_in m.head m.body) moment r old new) (LacksBy (by_request server (request_in m.head m.body)) moment old new) w w' refl s in (
         moment,
         new.pass.seen,
         r.0,
         r.2.0,
-        record { front = r.2.1; count = r.2.2; less = r.2.3; responds = responds r.0 _ r.1 r.2.4 },
+        record { front = r.2.1; count = r.2.2; less = r.2.3; link = link; failed = failed; responds = responds r.0 _ r.1 r.2.4 },
       )
 
   -- what came of a request by what came of its response
-  pub turned : (end : Delivered) (d : Delivery) → d ≡ delivery n m moment → IsGiven end server (request_in m.head m.body) (by_request server (request_in m.head m.body)) d old new w w' → IsTurned (turned_of end d.closes) server n m (side coming old w) (side coming' new w')
-  turned end d is s = by_closes end d.closes (sym (ap (λ (z : Delivery). z.closes) is)) (subst (λ (z : Delivery). IsGiven end server (request_in m.head m.body) (by_request server (request_in m.head m.body)) z old new w w') is s)
+  pub turned : (end : Delivered) (d : Delivery) → d ≡ delivery n m moment → IsGiven end server (request_in m.head m.body) (by_request server (request_in m.head m.body)) d old new w w' → HasGoneOut end k' → Failed end → Linked end → IsTurned (turned_of end d.closes) server n m (side coming old w k) (side coming' new w' k')
+  turned end d is s out failed link = by_closes end d.closes (sym (ap (λ (z : Delivery). z.closes) is)) (subst (λ (z : Delivery). IsGiven end server (request_in m.head m.body) (by_request server (request_in m.head m.body)) z old new w w') is s) out failed link
 
 -- memory was wanting before anything was called
-pub wants : (server : Server) (m : Message) (moment : ℕ) (coming coming' : Option (List ℕ)) (h : Hold) (w : Option (List ℕ)) → Ticks coming coming' moment → h.pass.holds ≡ false → Wants server m moment (side coming h w) (side coming' h w)
-wants server m moment coming coming' h w ticks is = record { ticks = ticks; grew = grew_itself h is; lacks = inl refl; writes = refl }
+pub wants : (server : Server) (m : Message) (moment : ℕ) (coming coming' : Option (List ℕ)) (h : Hold) (w : Option (List ℕ)) (k : List ℕ) → Ticks coming coming' moment → h.pass.holds ≡ false → Wants server m moment (side coming h w k) (side coming' h w k)
+wants server m moment coming coming' h w k ticks is = record { ticks = ticks; grew = grew_itself h is; lacks = inl refl; writes = refl }

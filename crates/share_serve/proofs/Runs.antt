@@ -1,5 +1,5 @@
 -- Runs, one request longer.
-use Rattle.std.proofs.Common.{List, [], ◌∷◌, ◌++◌, refl, subst}
+use Rattle.std.proofs.Common.{ℕ, Option, List, [], ◌∷◌, ◌++◌, refl, subst}
 use Rattle.share_serve.specs.Sessions.{IsSessionFrom}
 use Rattle.share_serve.specs.Turns.{Runs, Serves, Side, State, Turn}
 use Rattle.share_serve.specs.declared.serve.SessionEnd.{SessionEnd}
@@ -14,5 +14,5 @@ runs_join server old mid new [] more r s = subst (λ (v : State). Runs server v 
 runs_join server old mid new (x ∷ turns) more r s = (r.0, r.1, runs_join server r.0 mid new turns more r.2 s)
 
 -- a session from where requests have led is one from where they began
-pub session_join : (server : Server) (old mid : State) (turns : List Turn) (e : SessionEnd) (new : Side) → Runs server old turns mid → IsSessionFrom server mid e new → IsSessionFrom server old e new
-session_join server old mid turns e new r s = (turns ++ s.0, s.1, runs_join server old mid s.1 turns s.0 r s.2, s.3, s.4)
+pub session_join : (server : Server) (old mid : State) (turns : List Turn) (e : SessionEnd) (left : Option (List ℕ)) (new : Side) → Runs server old turns mid → IsSessionFrom server mid e left new → IsSessionFrom server old e left new
+session_join server old mid turns e left new r s = (turns ++ s.0, s.1, runs_join server old mid s.1 turns s.0 r s.2, s.3, s.4, s.5)

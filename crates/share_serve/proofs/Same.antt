@@ -6,7 +6,7 @@ use Rattle.edge_core.specs.Clocks.{Ticks, later_moments, next_moment}
 use Rattle.http_message.specs.Messages.{Reading, ReadsMessage, request}
 use Rattle.http_message.specs.declared.head.Head.{Head}
 use Rattle.share_serve.specs.Laws.{texts}
-use Rattle.share_serve.specs.Turns.{Runs, State, Turn, text_of}
+use Rattle.share_serve.specs.Turns.{Runs, State, Turn, stream_of, text_of}
 use Rattle.share_serve.specs.declared.server.Server.{Server}
 use Rattle.share_serve.proofs.Told.{tells}
 
@@ -34,30 +34,30 @@ ticked old new ms n e t = (moment_is old ms n e t.1, t.0 ∙ ap (option_map late
 -- where two runs stand after as many requests
 pub record Same (turns turns' : List Turn) (new new' : State) : Type 0 where
   pub asked : map asked_of turns ≡ map asked_of turns'
-  pub stream : new.stream ≡ new'.stream
+  pub stream : stream_of new ≡ stream_of new'
   pub coming : new.side.coming ≡ new'.side.coming
   pub rest : List ℕ
-  pub rest_is : new.stream ≡ Some rest
+  pub rest_is : stream_of new ≡ Some rest
   pub later : List ℕ
   pub later_is : new.side.coming ≡ Some later
 
 module _ (one : OneReading) (server server' : Server) where
-  pub same : (old new old' new' : State) (turns turns' : List Turn) (bytes moments : List ℕ) → Runs server old turns new → Runs server' old' turns' new' → old.stream ≡ Some bytes → old'.stream ≡ Some bytes
+  pub same : (old new old' new' : State) (turns turns' : List Turn) (bytes moments : List ℕ) → Runs server old turns new → Runs server' old' turns' new' → stream_of old ≡ Some bytes → stream_of old' ≡ Some bytes
       → old.side.coming ≡ Some moments → old'.side.coming ≡ Some moments → length turns ≡ length turns' → Same turns turns' new new'
   same old new old' new' [] [] bytes moments r r' a a' b b' n = record {
     asked = refl;
-    stream = ap (λ (v : State). v.stream) r ∙ a ∙ sym a' ∙ sym (ap (λ (v : State). v.stream) r');
+    stream = ap (λ (v : State). stream_of v) r ∙ a ∙ sym a' ∙ sym (ap (λ (v : State). stream_of v) r');
     coming = ap (λ (v : State). v.side.coming) r ∙ b ∙ sym b' ∙ sym (ap (λ (v : State). v.side.coming) r');
     rest = bytes;
-    rest_is = ap (λ (v : State). v.stream) r ∙ a;
+    rest_is = ap (λ (v : State). stream_of v) r ∙ a;
     later = moments;
     later_is = ap (λ (v : State). v.side.coming) r ∙ b;
   }
   same old new old' new' [] (t' ∷ turns') bytes moments r r' a a' b b' n = absurd (omega arith)
   same old new old' new' (t ∷ turns) [] bytes moments r r' a a' b b' n = absurd (omega arith)
   same old new old' new' (t ∷ turns) (t' ∷ turns') bytes moments r r' a a' b b' n =
-      let h = r.1.receives bytes a in
-      let h' = r'.1.receives bytes a' in
+      let h = r.1.receives.told bytes a in
+      let h' = r'.1.receives.told bytes a' in
       let q = same_request t.message.head t'.message.head t.message.body t'.message.body t.message.closes t'.message.closes h.0 h'.0 (one bytes _ _ h.2.2 h'.2.2) in
       let m = ticked old.side.coming r.0.side.coming moments t.moment b r.1.responds.ticks in
       let m' = ticked old'.side.coming r'.0.side.coming moments t'.moment b' r'.1.responds.ticks in
@@ -94,8 +94,8 @@ length_map f [] = refl
 length_map f (x ∷ xs) = ap suc (length_map f xs)
 
 -- the same responses to the same bytes at the same moments are written as the same bytes
-pub writes_same : OneReading → (server server' : Server) (old new old' new' : State) (turns turns' : List Turn) (bytes moments : List ℕ) → Runs server old turns new → Runs server' old' turns' new' → old.stream ≡ Some bytes
-    → old'.stream ≡ Some bytes → old.side.coming ≡ Some moments → old'.side.coming ≡ Some moments → old.served ≡ old'.served → old.side.written ≡ old'.side.written
+pub writes_same : OneReading → (server server' : Server) (old new old' new' : State) (turns turns' : List Turn) (bytes moments : List ℕ) → Runs server old turns new → Runs server' old' turns' new' → stream_of old ≡ Some bytes
+    → stream_of old' ≡ Some bytes → old.side.coming ≡ Some moments → old'.side.coming ≡ Some moments → old.served ≡ old'.served → old.side.written ≡ old'.side.written
     → map (λ t. t.response) turns ≡ map (λ t. t.response) turns' → new.side.written ≡ new'.side.written
 writes_same one server server' old new old' new' turns turns' bytes moments r r' a a' b b' n w replies =
     let count : length turns ≡ length turns' = sym (length_map (λ (t : Turn). t.response) turns) ∙ ap length replies ∙ length_map (λ (t : Turn). t.response) turns' in

@@ -5,7 +5,7 @@ use mathlib.Core.List.{IsPrefix}
 use Rattle.http_message.specs.Sessions.{ReadsRequests, place_behind}
 use Rattle.share_book.specs.declared.entry.Entry.{Entry}
 use Rattle.share_serve.specs.Laws.{IsChain, Tells, messages_of, points_of, texts}
-use Rattle.share_serve.specs.Turns.{Runs, State, Turn, text_of}
+use Rattle.share_serve.specs.Turns.{Runs, State, Turn, stream_of, text_of}
 use Rattle.share_serve.specs.declared.server.Server.{Server}
 use Rattle.share_serve.proofs.Basics.{append_known-append, append_known-nil, prefix_self, prefix_trans}
 
@@ -37,13 +37,13 @@ pub place_small : (p : ℕ) (text : List ℕ) → place_behind p text < 2 ^ 64
 place_small p text = omega arith
 
 -- the requests are the first messages of the stream
-pub reads : (server : Server) (old new : State) (turns : List Turn) (bytes : List ℕ) → Runs server old turns new → old.stream ≡ Some bytes → old.place < 2 ^ 64
-    → (rest : List ℕ) × (new.stream ≡ Some rest) × ReadsRequests (messages_of turns) old.place bytes new.place rest
-reads server old new [] bytes r is small = (bytes, ap (λ (v : State). v.stream) r ∙ is, (refl, ap (λ (v : State). v.place) r))
+pub reads : (server : Server) (old new : State) (turns : List Turn) (bytes : List ℕ) → Runs server old turns new → stream_of old ≡ Some bytes → old.buffer.1 < 2 ^ 64
+    → (rest : List ℕ) × (stream_of new ≡ Some rest) × ReadsRequests (messages_of turns) old.buffer.1 bytes new.buffer.1 rest
+reads server old new [] bytes r is small = (bytes, ap (λ (v : State). stream_of v) r ∙ is, (refl, ap (λ (v : State). v.buffer.1) r))
 reads server old new (t ∷ turns) bytes r is small =
-    let h = r.1.receives bytes is in
+    let h = r.1.receives.told bytes is in
     let m = h.2 in
-    let at : r.0.place ≡ place_behind old.place m.0.0 = m.0.2 small in
-    let low : r.0.place < 2 ^ 64 = subst (λ (z : ℕ). z < 2 ^ 64) (sym at) (place_small old.place m.0.0) in
+    let at : r.0.buffer.1 ≡ place_behind old.buffer.1 m.0.0 = m.0.2 small in
+    let low : r.0.buffer.1 < 2 ^ 64 = subst (λ (z : ℕ). z < 2 ^ 64) (sym at) (place_small old.buffer.1 m.0.0) in
     let rest = reads server r.0 new turns h.0 r.2 h.1 low in
-    (rest.0, rest.1, (m.0.0, h.0, m.0.1, m.1, m.2, subst (λ (z : ℕ). ReadsRequests (messages_of turns) z h.0 new.place rest.0) at rest.2))
+    (rest.0, rest.1, (m.0.0, h.0, m.0.1, m.1, m.2, subst (λ (z : ℕ). ReadsRequests (messages_of turns) z h.0 new.buffer.1 rest.0) at rest.2))

@@ -1,5 +1,5 @@
 -- Whole requests are answered.
-use Rattle.std.proofs.Common.{◌≡◌, ◌⊎◌, inl, inr, ℕ, ◌+◌, ◌-◌, ◌<◌, ◌^◌, Bool, true, false, not, ◌||◌, cond, List, [], ◌∷◌, ◌++◌, length, Some, refl, sym, ap, ◌∙◌, subst, arith, true≢false}
+use Rattle.std.proofs.Common.{◌≡◌, ◌⊎◌, inl, inr, ℕ, ◌+◌, ◌-◌, ◌<◌, ◌^◌, Bool, true, false, not, ◌||◌, cond, List, [], ◌∷◌, ◌++◌, length, Option, Some, refl, sym, ap, ◌∙◌, subst, arith, true≢false}
 use Rattle.std.specs.Prelude.{min, ⊤}
 use Rattle.std.proofs.lemmas.List.{length-append}
 use mathlib.Core.List.{IsPrefix}
@@ -10,7 +10,7 @@ use Rattle.http_message.specs.Sessions.{ReadsRequests, Request as Message, place
 use Rattle.http_message.specs.declared.head.Head.{Head}
 use Rattle.share_serve.specs.Laws.{messages_of}
 use Rattle.share_serve.specs.Sessions.{Ends, HasCause, IsSession, opening, served_in}
-use Rattle.share_serve.specs.Turns.{Runs, Side, State, Turn, closes_after}
+use Rattle.share_serve.specs.Turns.{Runs, Side, State, Turn, closes_after, stream_of}
 use Rattle.share_serve.specs.WholeSessions.{AnswersAll, AreRequests, Stays, closes_within, up_to_closing}
 use Rattle.share_serve.specs.declared.serve.SessionEnd.{SessionEnd}
 use Rattle.share_serve.specs.declared.serve.SessionEnd.TheVariants as end
@@ -88,7 +88,7 @@ not_request : (a : Head) (b : List ℕ) (c : Bool) (d : List ℕ) → ended ≡ 
 not_request a b c d e = cc
 
 -- where the session goes on and no request is left, the bytes end
-at_end : OneReading → (server : Server) (v : State) (e : SessionEnd) (new : Side) (bytes : List ℕ) → Ends server v e new → IsCalm e → v.goes ≡ true → v.stream ≡ Some bytes → ReadsMessage bytes ended → Comes [] [] e
+at_end : OneReading → (server : Server) (v : State) (e : SessionEnd) (new : Side) (bytes : List ℕ) → Ends server v e new → IsCalm e → v.goes ≡ true → stream_of v ≡ Some bytes → ReadsMessage bytes ended → Comes [] [] e
 at_end one server v (end.Done served) new bytes is c g told none = refl
 at_end one server v (end.NoMemory served) new bytes is c g told none = ([], refl)
 at_end one server v (end.Truncated at served) new bytes is c g told none =
@@ -101,7 +101,7 @@ at_end one server v (end.BodyCut served sent) new bytes is c g told none = absur
 
 -- where a request is left it doesn't end but for want of memory
 before_request : OneReading → (server : Server) (v : State) (e : SessionEnd) (new : Side) (bytes : List ℕ) (m : Message) (tail : List ℕ) (wanted : List Message) → Ends server v e new → IsCalm e → v.goes ≡ true
-    → v.stream ≡ Some bytes → ReadsMessage bytes (request m.head m.body m.closes tail) → Comes [] wanted e
+    → stream_of v ≡ Some bytes → ReadsMessage bytes (request m.head m.body m.closes tail) → Comes [] wanted e
 before_request one server v (end.Done served) new bytes m tail wanted is c g told next =
     let same : ended ≡ request m.head m.body m.closes tail = one bytes ended (request m.head m.body m.closes tail) (reads_there server v (end.Done served) new bytes is tt g told) next in absurd cc
 before_request one server v (end.NoMemory served) new bytes m tail wanted is c g told next = (wanted, refl)
@@ -123,8 +123,8 @@ closed_end server v (end.ReadFault served) new is c g = absurd c
 closed_end server v (end.WriteFault served) new is c g = absurd c
 closed_end server v (end.BodyCut served sent) new is c g = absurd c
 
-ends_there : OneReading → (server : Server) (v : State) (e : SessionEnd) (new : Side) (bytes : List ℕ) (ms : List Message) (q : ℕ) (rest : List ℕ) (g : Bool) → Ends server v e new → IsCalm e → v.goes ≡ g → v.stream ≡ Some bytes
-    → ReadsRequests ms v.place bytes q rest → NothingBehind g v.served ms rest → Comes [] (left g v.served ms) e
+ends_there : OneReading → (server : Server) (v : State) (e : SessionEnd) (new : Side) (bytes : List ℕ) (ms : List Message) (q : ℕ) (rest : List ℕ) (g : Bool) → Ends server v e new → IsCalm e → v.goes ≡ g → stream_of v ≡ Some bytes
+    → ReadsRequests ms v.buffer.1 bytes q rest → NothingBehind g v.served ms rest → Comes [] (left g v.served ms) e
 ends_there one server v e new bytes ms q rest false is c g told reads none = closed_end server v e new is c g
 ends_there one server v e new bytes (m ∷ ms) q rest true is c g told reads none = before_request one server v e new bytes m reads.1 _ is c g told reads.4
 ends_there one server v e new bytes [] q rest true is c g told reads (inl none) = at_end one server v e new bytes is c g told (subst (λ z. ReadsMessage z ended) reads.0 none)
@@ -137,17 +137,17 @@ same_size : (bytes text text' tail tail' : List ℕ) → bytes ≡ text ++ tail 
 same_size bytes text text' tail tail' e e' same = omega (arith, ap length (sym e ∙ e'), length-append text tail, length-append text' tail', ap length same)
 
 answers : OneReading → (server : Server) (v last : State) (turns : List Turn) (e : SessionEnd) (new : Side) (bytes : List ℕ) (ms : List Message) (q : ℕ) (rest : List ℕ) (g : Bool) → Runs server v turns last → Ends server last e new → IsCalm e
-    → v.goes ≡ g → v.stream ≡ Some bytes → v.place < 2 ^ 64 → ReadsRequests ms v.place bytes q rest → NothingBehind g v.served ms rest → Comes (messages_of turns) (left g v.served ms) e
+    → v.goes ≡ g → stream_of v ≡ Some bytes → v.buffer.1 < 2 ^ 64 → ReadsRequests ms v.buffer.1 bytes q rest → NothingBehind g v.served ms rest → Comes (messages_of turns) (left g v.served ms) e
 answers one server v last [] e new bytes ms q rest g r is c goes told small reads none =
     ends_there one server v e new bytes ms q rest g (subst (λ (z : State). Ends server z e new) r is) c goes told reads none
 answers one server v last (t ∷ turns) e new bytes ms q rest false r is c goes told small reads none = absurd (true≢false (sym r.1.was ∙ goes))
 answers one server v last (t ∷ turns) e new bytes [] q rest true r is c goes told small reads (inl none) =
-    let h = r.1.receives bytes told in
+    let h = r.1.receives.told bytes told in
     let next : ReadsMessage bytes (request t.message.head t.message.body t.message.closes h.0) = h.2.2 in
     let same : ended ≡ request t.message.head t.message.body t.message.closes h.0 = one bytes ended _ (subst (λ z. ReadsMessage z ended) reads.0 none) next in absurd cc
 answers one server v last (t ∷ turns) e new bytes [] q rest true r is c goes told small reads (inr closed) = absurd (true≢false (sym closed))
 answers one server v last (t ∷ turns) e new bytes (m ∷ ms) q rest true r is c goes told small reads none =
-    let h = r.1.receives bytes told in
+    let h = r.1.receives.told bytes told in
     let ys : List ℕ = h.0 in
     let taken = h.2.0 in
     let text : List ℕ = reads.0 in
@@ -156,10 +156,10 @@ answers one server v last (t ∷ turns) e new bytes (m ∷ ms) q rest true r is 
     let at : t.message.at ≡ m.at = h.2.1 ∙ sym reads.3 in
     let first : t.message ≡ m = λ i. record { at = at i; head = same.0 i; body = same.1 i; closes = same.2 i } in
     let size : length taken.0 ≡ length text = same_size bytes taken.0 text ys tail taken.1 reads.2 same.3 in
-    let moved : r.0.place ≡ place_behind v.place taken.0 = taken.2 small in
-    let place : r.0.place ≡ place_behind v.place text = moved ∙ ap (λ n. min (v.place + n) (2 ^ 64 - 1)) size in
-    let low : r.0.place < 2 ^ 64 = subst (λ (z : ℕ). z < 2 ^ 64) (sym moved) (place_small v.place taken.0) in
-    let here : ReadsRequests ms r.0.place ys q rest = subst (λ z. ReadsRequests ms z ys q rest) (sym place) (subst (λ z. ReadsRequests ms (place_behind v.place text) z q rest) (sym same.3) reads.5) in
+    let moved : r.0.buffer.1 ≡ place_behind v.buffer.1 taken.0 = taken.2 small in
+    let place : r.0.buffer.1 ≡ place_behind v.buffer.1 text = moved ∙ ap (λ n. min (v.buffer.1 + n) (2 ^ 64 - 1)) size in
+    let low : r.0.buffer.1 < 2 ^ 64 = subst (λ (z : ℕ). z < 2 ^ 64) (sym moved) (place_small v.buffer.1 taken.0) in
+    let here : ReadsRequests ms r.0.buffer.1 ys q rest = subst (λ z. ReadsRequests ms z ys q rest) (sym place) (subst (λ z. ReadsRequests ms (place_behind v.buffer.1 text) z q rest) (sym same.3) reads.5) in
     let closes : Bool = closes_after v.served m.closes in
     let on : r.0.goes ≡ not closes = r.1.goes ∙ ap (λ (b : Bool). not (closes_after v.served b)) same.2 in
     let behind : NothingBehind (not closes) r.0.served ms rest = subst (λ n. NothingBehind (not closes) n ms rest) (sym r.1.served) (nothing_behind closes (v.served + 1) ms rest none) in
@@ -179,10 +179,10 @@ counts ms turns (end.ReadFault served) is n = absurd is
 counts ms turns (end.WriteFault served) is n = absurd is
 counts ms turns (end.BodyCut served sent) is n = absurd is
 
-pub whole_requests : OneReading → (server : Server) (old new : Side) (e : SessionEnd) (bytes : List ℕ) (ms : List Message) (reads reads_new writes writes_new faults faults_new : ℕ) (objects : Objects)
-    (s : IsSession server (Some bytes) old new e) → AreRequests ms bytes → HasCause e reads reads_new writes writes_new (Some objects) faults faults_new
+pub whole_requests : OneReading → (server : Server) (old new : Side) (e : SessionEnd) (bytes : List ℕ) (ms : List Message) (reads reads_new writes writes_new faults faults_new : ℕ) (objects : Objects) (unread : Option (List ℕ))
+    (s : IsSession server (Some bytes) unread old new e) → AreRequests ms bytes → HasCause e reads reads_new writes writes_new (Some objects) faults faults_new
     → Stays reads reads_new → Stays writes writes_new → Stays faults faults_new → AnswersAll ms s.0 e
-whole_requests one server old new e bytes ms reads reads_new writes writes_new faults faults_new objects s are cause r w f =
+whole_requests one server old new e bytes ms reads reads_new writes writes_new faults faults_new objects unread s are cause r w f =
     let quiet : IsCalm e = calm e reads reads_new writes writes_new faults faults_new objects cause r w f in
     let told = tells server (opening (Some bytes) old) s.1 s.0 s.2 in
     let more : 0 + length s.0 ≡ length s.0 = omega arith in

@@ -69,8 +69,8 @@ count_same server [] (t' ∷ turns') s = absurd s
 count_same server (t ∷ turns) [] s = absurd s
 count_same server (t ∷ turns) (t' ∷ turns') s = ap suc (count_same server turns turns' s.1)
 
-pub worlds_same : OneReading → (server : Server) (old new old' new' : Side) (e e' : SessionEnd) (bytes moments : List ℕ) (s : IsSession server (Some bytes) old new e) (s' : IsSession server (Some bytes) old' new' e') → old.coming ≡ Some moments
+pub worlds_same : OneReading → (server : Server) (old new old' new' : Side) (e e' : SessionEnd) (bytes moments : List ℕ) (left left' : Option (List ℕ)) (s : IsSession server (Some bytes) left old new e) (s' : IsSession server (Some bytes) left' old' new' e') → old.coming ≡ Some moments
     → old'.coming ≡ Some moments → old.written ≡ old'.written → SeeTheSame server s.0 s'.0 → IsComplete e → IsComplete e' → new.written ≡ new'.written
-worlds_same one server old new old' new' e e' bytes moments s s' m m' w sees c c' =
+worlds_same one server old new old' new' e e' bytes moments left left' s s' m m' w sees c c' =
     let a = same one server server (opening (Some bytes) old) s.1 (opening (Some bytes) old') s'.1 s.0 s'.0 bytes moments s.2 s'.2 refl refl m m' (count_same server s.0 s'.0 sees) in
-    ends_same one server server old new old' new' e e' bytes moments s s' m m' w (turns_same server (opening (Some bytes) old) s.1 (opening (Some bytes) old') s'.1 s.0 s'.0 s.2 s'.2 a.asked sees) c c'
+    ends_same one server server old new old' new' e e' bytes moments left left' s s' m m' w (turns_same server (opening (Some bytes) old) s.1 (opening (Some bytes) old') s'.1 s.0 s'.0 s.2 s'.2 a.asked sees) c c'

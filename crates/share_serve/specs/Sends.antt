@@ -1,5 +1,5 @@
 -- What of a response was written.
-use Rattle.std.specs.Prelude.{◌≡◌, ◌⊎◌, ℕ, Bool, ◌<◌, List, ◌++◌, length, take, Option, Some, Result, Ok, Err, IfSome, ⊤}
+use Rattle.std.specs.Prelude.{◌≡◌, ◌⊎◌, ℕ, Bool, ◌<◌, List, [], ◌++◌, length, take, Option, Some, Result, Ok, Err, IfSome, ⊤}
 use Rattle.std.specs.FinMap as map
 use Rattle.std.specs.Io.KnownBytes.{append_known}
 use Rattle.std.specs.declared.alloc.AllocError.{AllocError}
@@ -35,6 +35,12 @@ RoseWhereUnsent sent.Whole n m = ⊤
 RoseWhereUnsent sent.WriteFault n m = Rose n m
 RoseWhereUnsent sent.NoMemory n m = ⊤
 
+-- behind a whole text nothing of it is kept back
+abbrev pub IsHandedOn : Sent → (kept : List ℕ) → Type 0
+IsHandedOn sent.Whole kept = kept ≡ []
+IsHandedOn sent.WriteFault kept = ⊤
+IsHandedOn sent.NoMemory kept = ⊤
+
 -- ---- responses
 
 -- so many bytes of the body were written behind the head, and not all
@@ -63,6 +69,20 @@ DeliveryCause delivered.Whole objects n m a b = ⊤
 DeliveryCause delivered.WriteFault objects n m a b = Rose a b
 DeliveryCause delivered.NoMemory objects n m a b = ⊤
 DeliveryCause (delivered.Cut sent) objects n m a b = IfSome objects (λ _. Rose n m)
+
+-- behind a whole response nothing of it is kept back
+abbrev pub HasGoneOut : Delivered → (kept : List ℕ) → Type 0
+HasGoneOut delivered.Whole kept = kept ≡ []
+HasGoneOut delivered.WriteFault kept = ⊤
+HasGoneOut delivered.NoMemory kept = ⊤
+HasGoneOut (delivered.Cut n) kept = ⊤
+
+-- a body is cut only where P holds
+abbrev pub CutOnly : Delivered → (P : Type 0) → Type 0
+CutOnly delivered.Whole P = ⊤
+CutOnly delivered.WriteFault P = ⊤
+CutOnly delivered.NoMemory P = ⊤
+CutOnly (delivered.Cut n) P = P
 
 -- what came of a response that is held whole
 abbrev pub delivered_of : Sent → Delivered

@@ -1,5 +1,5 @@
 -- What came of one request.
-use Rattle.std.specs.Prelude.{◌≡◌, ◌⊎◌, ℕ, Bool, true, false, List, Option, Some, None, Result, Ok, Err, IfSome, ⊤}
+use Rattle.std.specs.Prelude.{◌≡◌, ◌⊎◌, ℕ, Bool, true, false, List, [], Option, Some, None, Result, Ok, Err, IfSome, ⊤}
 use Rattle.std.specs.declared.alloc.AllocError.{AllocError}
 use mathlib.Core.List.{IsPrefix}
 use Rattle.edge_core.specs.Faults.{Rose}
@@ -44,7 +44,7 @@ turn m moment point response = record { message = m; moment = moment; point = po
 
 abbrev pub TurnsWhole : Server → ℕ → Message → Side → Side → Type 0
 TurnsWhole server n m old new =
-    (moment : ℕ) × (point : List Entry) × (r : Response) × Responds server (turn m moment point r) (text_of n (turn m moment point r)) old new
+    (moment : ℕ) × (point : List Entry) × (r : Response) × Responds server (turn m moment point r) (text_of n (turn m moment point r)) old new × (new.kept ≡ [])
 
 abbrev pub TurnsInPart : Server → ℕ → Message → Side → Side → Type 0
 TurnsInPart server n m old new =
@@ -80,7 +80,7 @@ RefusesPart flaw old new = (moment : ℕ) × (part : List ℕ) × IsPrefix part 
 
 abbrev pub RefusalEnds : SessionEnd → (at : ℕ) → Flaw → (served : ℕ) → Side → Side → Type 0
 RefusalEnds (end.BadMessage at' flaw' served') at flaw served old new =
-    (at' ≡ at) × (flaw' ≡ flaw) × (served' ≡ served) × ((moment : ℕ) × Refuses moment (refusal_text flaw moment) old new)
+    (at' ≡ at) × (flaw' ≡ flaw) × (served' ≡ served) × ((moment : ℕ) × Refuses moment (refusal_text flaw moment) old new) × (new.kept ≡ [])
 RefusalEnds (end.WriteFault served') at flaw served old new = (served' ≡ served) × RefusesPart flaw old new
 RefusalEnds (end.NoMemory served') at flaw served old new = (served' ≡ served) × RefusesPart flaw old new
 RefusalEnds (end.BodyCut served' sent) at flaw served old new = ⊥
@@ -93,4 +93,4 @@ RefusalEnds (end.ReadFault served') at flaw served old new = ⊥
 -- a request is answered and the session goes on, or the session ends
 abbrev pub Steps : Server → (v v' : State) → Option SessionEnd → Type 0
 Steps server v v' None = (t : Turn) × Serves server v t v'
-Steps server v v' (Some e) = IsSessionFrom server v e v'.side
+Steps server v v' (Some e) = IsSessionFrom server v e v'.left v'.side

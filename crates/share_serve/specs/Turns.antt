@@ -1,5 +1,5 @@
 -- One request of a session, and any number of them.
-use Rattle.std.specs.Prelude.{◌≡◌, ℕ, ◌+◌, ◌≤◌, Bool, true, not, ◌||◌, ◌==◌, List, [], ◌∷◌, Option, Some, Result, ◌⊎◌, IfSome, bytes_eq, codes}
+use Rattle.std.specs.Prelude.{◌≡◌, ℕ, ◌+◌, ◌≤◌, Bool, true, not, ◌||◌, ◌==◌, List, [], ◌∷◌, Option, Some, Result, ◌⊎◌, IfSome, bytes_eq, codes, ⊤}
 use Rattle.std.specs.Bool.{OnTrue}
 use Rattle.std.specs.FinMap as map
 use Rattle.std.specs.Io.KnownBytes.{append_known}
@@ -13,11 +13,12 @@ use Rattle.http_message.specs.Messages.{ReadsMessage}
 use Rattle.http_message.specs.Messages as reading
 use Rattle.http_message.specs.Sessions.{Request as Message}
 use Rattle.http_message.specs.declared.head.Head.{Head}
-use Rattle.http_wire.specs.Streams.{Moves, Told}
+use Rattle.http_wire.specs.Streams.{Buffer, Drew, Moves, Told, stream}
+use Rattle.http_wire.specs.Wires.{IsShort}
 use Rattle.log_store.specs.Loads.{Looked}
 use Rattle.share_book.specs.declared.entry.Entry.{Entry}
 use Rattle.share_catalog.specs.declared.edit.Edit.{Edit}
-use Rattle.hub_calls.specs.Calls.{Adds, IsIdle, P}
+use Rattle.hub_calls.specs.Calls.{Adds, IsIdle, P, acknowledged}
 use Rattle.hub_tables.specs.Commits.{CommitLeaves, Commits, failed_commit}
 use Rattle.hub_catalog.specs.Edits.{Edits, Leaves, failed_edit}
 use Rattle.hub_tables.specs.LogRefreshes.{Refreshes, failed_refresh}
@@ -42,23 +43,25 @@ use Rattle.share_serve.specs.declared.server.Server.{Server}
 
 -- ---- where a session stands
 
--- what its store has, where it tells, whether nobody else adds to it, and how often it has failed
+-- what its store has, where it tells, whether nobody else adds to it, how often it has failed, and how many puts it has stored
 pub record Shelf : Type 0 where
   pub objects : Option Objects
   pub alone : Bool
   pub faults : ℕ
+  pub stored : ℕ
 
 -- its place at the hub, with the history that it has seen, and its store
 pub record Hold : Type 0 where
   pub pass : P
   pub shelf : Shelf
 
--- the pass has seen no less, and the store has no less and failed no less often
+-- the pass has seen no less, and the store has no less, failed no less often and has stored no fewer puts
 pub record Grew (old new : Hold) : Type 0 where
   pub pass : IsIdle old.pass new.pass
   pub objects : Grows old.shelf.objects new.shelf.objects
   pub stays : OnTrue old.shelf.alone (new.shelf.alone ≡ true)
   pub faults : old.shelf.faults ≤ new.shelf.faults
+  pub stored : old.shelf.stored ≤ new.shelf.stored
 
 -- ---- answers from a view
 
@@ -66,13 +69,19 @@ pub record Grew (old new : Hold) : Type 0 where
 abbrev pub IsObject : List ℕ → Option Objects → List ℕ → Type 0
 IsObject name objects bytes = IfSome objects (λ os. map.get os name ≡ Some bytes)
 
+-- the store was asked for objects alone: it stored nothing, and where nobody else adds to it it has what it had
+pub record OnlyLooks (old new : Shelf) : Type 0 where
+  pub looked : Looked old.objects new.objects old.alone new.alone
+  pub stored : new.stored ≡ old.stored
+
 -- a link's object: its bytes, or the part of them that is asked for, or that there is no such part; or that it isn't there, or that the
--- store failed
+-- store failed; the store was only looked at
 abbrev pub ObjectIs : List ℕ → Option Span → Response → (old new : Shelf) → Type 0
 ObjectIs name span r old new =
-    ((bytes : List ℕ) × (r ≡ object_response span bytes) × IsObject name new.objects bytes)
+    OnlyLooks old new
+    × (((bytes : List ℕ) × (r ≡ object_response span bytes) × IsObject name new.objects bytes)
     ⊎ (((r ≡ refusal_response (plain refusal.FileGone)) × Lacks name new.objects)
-    ⊎ ((r ≡ refusal_response (plain refusal.StoreFault)) × Rose old.faults new.faults))
+    ⊎ ((r ≡ refusal_response (plain refusal.StoreFault)) × Rose old.faults new.faults)))
 
 -- the response of a reply; the store is asked for an object alone
 abbrev pub ReplyIs : Plan → Response → (old new : Shelf) → Type 0
@@ -88,22 +97,33 @@ pub record Views (server : Server) (asked : Request) (moment : ℕ) (r : Respons
   pub own : Adds old.pass new.pass []
   pub reply : ReplyIs (reply_of server.keys (answered_at server.keys new.pass.seen moment asked)) r old.shelf new.shelf
 
+-- the reply is an object of the store's
+abbrev pub IsFile : Plan → Type 0
+IsFile p = (name : List ℕ) × (span : Option Span) × (p ≡ plan.File name span)
+
+-- the request is a recipient's, for which its view at the point has a link's object
+abbrev pub FollowsLink : Server → Request → ℕ → List Entry → Type 0
+FollowsLink server asked moment point = (by_request server asked ≡ by.view) × IsFile (reply_of server.keys (answered_at server.keys point moment asked))
+
 -- ---- answers of calls: what a call of the hub added and stored, and what its answer says
 
 pub record Committed (answer : Result ℕ CommitRefusal) (moment : ℕ) (o : Offer) (old new : Hold) : Type 0 where
   pub entries : Commits answer moment o old.shelf.objects new.shelf.objects old.pass new.pass
   pub stored : CommitLeaves answer moment o old.shelf.objects new.shelf.objects old.shelf.alone new.shelf.alone new.pass
   pub cause : Cause old.shelf.faults new.shelf.faults (failed_commit answer)
+  pub puts : new.shelf.stored ≡ acknowledged old.shelf.stored answer
 
 pub record Edited (answer : Result ℕ EditEnd) (e : Edit) (old new : Hold) : Type 0 where
   pub entries : Edits answer e old.shelf.objects new.shelf.objects old.pass new.pass
   pub stored : Leaves answer e old.shelf.objects new.shelf.objects old.shelf.alone new.shelf.alone new.pass
   pub cause : Cause old.shelf.faults new.shelf.faults (failed_edit answer)
+  pub puts : new.shelf.stored ≡ acknowledged old.shelf.stored answer
 
 pub record Sought (answer : Result Refreshed RefreshRefusal) (location : List ℕ) (old new : Hold) : Type 0 where
   pub entries : Refreshes answer location old.shelf.objects new.shelf.objects old.pass new.pass
   pub stored : Looked old.shelf.objects new.shelf.objects old.shelf.alone new.shelf.alone
   pub cause : Cause old.shelf.faults new.shelf.faults (failed_refresh answer)
+  pub puts : new.shelf.stored ≡ old.shelf.stored
 
 -- ---- one request
 
@@ -129,11 +149,12 @@ LacksBy (by.refused f) moment old new = new ≡ old
 abbrev pub LacksResponse : Server → Request → ℕ → (old new : Hold) → Type 0
 LacksResponse server asked moment old new = (new ≡ old) ⊎ LacksBy (by_request server asked) moment old new
 
--- where a session stands at its clock, its hub, its store and its sink
+-- where a session stands at its clock, its hub, its store and its sink, with what the sink keeps back of what was written
 pub record Side : Type 0 where
   pub coming : Option (List ℕ)
   pub hold : Hold
   pub written : Option (List ℕ)
+  pub kept : List ℕ
 
 -- A request as it was read, the moment and the point of the history at which it is answered, and the response.
 pub record Turn : Type 0 where
@@ -165,23 +186,34 @@ pub record Responds (server : Server) (t : Turn) (text : List ℕ) (old new : Si
 
 -- ---- a session
 
--- the bytes that aren't used, the place of the first of them, how many requests were answered, whether it goes on, and the rest
+-- the bytes that were read and not used, with the place of the first of them, what its source has left, how many requests were
+-- answered, whether it goes on, and the rest
 pub record State : Type 0 where
-  pub stream : Option (List ℕ)
-  pub place : ℕ
+  pub buffer : Buffer
+  pub left : Option (List ℕ)
   pub served : ℕ
   pub goes : Bool
   pub side : Side
 
--- the next message is this request
-abbrev pub Receives : State → State → Message → Type 0
-Receives old new m = Told old.stream new.stream (λ xs ys. Moves xs old.place ys new.place × (m.at ≡ old.place) × ReadsMessage xs (reading.request m.head m.body m.closes ys))
+-- the bytes that aren't used
+abbrev pub stream_of : State → Option (List ℕ)
+stream_of v = stream v.buffer v.left
 
--- a request is read and answered whole
+-- Of what was left so much was read, in pieces: each while the bytes at hand held neither a whole request nor what is refused.
+abbrev pub ReadsWhenDue : (old new : Buffer) → (left left_new : Option (List ℕ)) → Type 0
+ReadsWhenDue old new left left_new = Drew (λ (l : Option (List ℕ)). l) IsShort old new left left_new (λ _. ⊤)
+
+-- the next message is this request, and nothing was read before it was due
+pub record Receives (old new : State) (m : Message) : Type 0 where
+  pub due : ReadsWhenDue old.buffer new.buffer old.left new.left
+  pub told : Told (stream_of old) (stream_of new) (λ xs ys. Moves xs old.buffer.1 ys new.buffer.1 × (m.at ≡ old.buffer.1) × ReadsMessage xs (reading.request m.head m.body m.closes ys))
+
+-- a request is read and answered whole, and nothing is kept back behind its response
 pub record Serves (server : Server) (old : State) (t : Turn) (new : State) : Type 0 where
   pub was : old.goes ≡ true
   pub receives : Receives old new t.message
   pub responds : Responds server t (text_of old.served t) old.side new.side
+  pub kept : new.side.kept ≡ []
   pub served : new.served ≡ old.served + 1
   pub goes : new.goes ≡ not (closes_after old.served t.message.closes)
 

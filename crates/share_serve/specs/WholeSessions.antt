@@ -1,5 +1,5 @@
 -- Sessions of bytes that are whole requests, over the definitions alone.
-use Rattle.std.specs.Prelude.{◌≡◌, ◌⊎◌, ◌≤◌, ◌<◌, ◌-◌, ◌^◌, ℕ, ◌+◌, ◌||◌, Bool, true, false, List, [], ◌∷◌, length, Some, if◌then◌else◌}
+use Rattle.std.specs.Prelude.{◌≡◌, ◌⊎◌, ◌≤◌, ◌<◌, ◌-◌, ◌^◌, ℕ, ◌+◌, ◌||◌, Bool, true, false, List, [], ◌∷◌, length, Option, Some, if◌then◌else◌}
 use mathlib.Core.List.{IsPrefix}
 use Rattle.edge_core.specs.Objects.{Objects}
 use Rattle.http_message.specs.Messages.{ReadsMessage, ended}
@@ -46,6 +46,6 @@ AnswersAll ms turns (end.BodyCut served sent) = ⊥
 -- Where the bytes are whole requests and neither reads, nor writes, nor the store failed, all of them are answered. So a session that stops before is one whose bytes stop before or break a rule, or that has a fault or want of memory to show for it.
 abbrev pub WholeRequestsAreAnswered : Type 0
 WholeRequestsAreAnswered =
-    (server : Server) (old new : Side) (e : SessionEnd) (bytes : List ℕ) (ms : List Message) (reads reads_new writes writes_new faults faults_new : ℕ) (objects : Objects)
-    (s : IsSession server (Some bytes) old new e) → AreRequests ms bytes → HasCause e reads reads_new writes writes_new (Some objects) faults faults_new
+    (server : Server) (old new : Side) (e : SessionEnd) (bytes : List ℕ) (ms : List Message) (reads reads_new writes writes_new faults faults_new : ℕ) (objects : Objects) (left : Option (List ℕ))
+    (s : IsSession server (Some bytes) left old new e) → AreRequests ms bytes → HasCause e reads reads_new writes writes_new (Some objects) faults faults_new
     → Stays reads reads_new → Stays writes writes_new → Stays faults faults_new → AnswersAll ms s.0 e

@@ -51,8 +51,8 @@ impl<'a, R: Wait, G> Session<'a, R, G> {
     ) -> Result<Response, AllocError>
         requires cell { (pass.old.cell ≡ self.now.hub.now) × (pass.old.holds ≡ false) }
         requires dated { moment ≤ 253_402_300_799_999 }
-        ensures grew { Grew (held W.objects W.alone W.faults pass.old store.old) (held W.objects W.alone W.faults pass.new store.new) }
-        ensures answered { (server : Server) (asked : Request) → IsAnswered result server asked (by.commit offer.now) moment (held W.objects W.alone W.faults pass.old store.old) (held W.objects W.alone W.faults pass.new store.new) }
+        ensures grew { Grew (held W.objects W.alone W.faults W.stored pass.old store.old) (held W.objects W.alone W.faults W.stored pass.new store.new) }
+        ensures answered { (server : Server) (asked : Request) → IsAnswered result server asked (by.commit offer.now) moment (held W.objects W.alone W.faults W.stored pass.old store.old) (held W.objects W.alone W.faults W.stored pass.new store.new) }
     {
         let answer = self.hub.commit(self.rt, self.alloc, pass, store, commit_time(moment), offer);
         commit_response(self.alloc, answer)
@@ -65,8 +65,8 @@ impl<'a, R: Wait, G> Session<'a, R, G> {
         location: &Location,
     ) -> Result<Response, AllocError>
         requires cell { (pass.old.cell ≡ self.now.hub.now) × (pass.old.holds ≡ false) }
-        ensures grew { Grew (held W.objects W.alone W.faults pass.old store.old) (held W.objects W.alone W.faults pass.new store.new) }
-        ensures answered { (server : Server) (asked : Request) (moment : ℕ) → IsAnswered result server asked (by.refresh location.now) moment (held W.objects W.alone W.faults pass.old store.old) (held W.objects W.alone W.faults pass.new store.new) }
+        ensures grew { Grew (held W.objects W.alone W.faults W.stored pass.old store.old) (held W.objects W.alone W.faults W.stored pass.new store.new) }
+        ensures answered { (server : Server) (asked : Request) (moment : ℕ) → IsAnswered result server asked (by.refresh location.now) moment (held W.objects W.alone W.faults W.stored pass.old store.old) (held W.objects W.alone W.faults W.stored pass.new store.new) }
     {
         let answer = self
             .hub
@@ -81,8 +81,8 @@ impl<'a, R: Wait, G> Session<'a, R, G> {
         edit: &Edit,
     ) -> Result<Response, AllocError>
         requires cell { (pass.old.cell ≡ self.now.hub.now) × (pass.old.holds ≡ false) }
-        ensures grew { Grew (held W.objects W.alone W.faults pass.old store.old) (held W.objects W.alone W.faults pass.new store.new) }
-        ensures answered { (server : Server) (asked : Request) (moment : ℕ) → IsAnswered result server asked (by.edit edit.now) moment (held W.objects W.alone W.faults pass.old store.old) (held W.objects W.alone W.faults pass.new store.new) }
+        ensures grew { Grew (held W.objects W.alone W.faults W.stored pass.old store.old) (held W.objects W.alone W.faults W.stored pass.new store.new) }
+        ensures answered { (server : Server) (asked : Request) (moment : ℕ) → IsAnswered result server asked (by.edit edit.now) moment (held W.objects W.alone W.faults W.stored pass.old store.old) (held W.objects W.alone W.faults W.stored pass.new store.new) }
     {
         let answer = self.hub.edit(self.rt, self.alloc, pass, store, edit);
         edit_response(self.alloc, answer)
@@ -99,8 +99,8 @@ impl<'a, R: Wait, G> Session<'a, R, G> {
     ) -> Result<Response, AllocError>
         requires cell { (pass.old.cell ≡ self.now.hub.now) × (pass.old.holds ≡ false) }
         requires dated { moment ≤ 253_402_300_799_999 }
-        ensures grew { Grew (held W.objects W.alone W.faults pass.old store.old) (held W.objects W.alone W.faults pass.new store.new) }
-        ensures answered { (server : Server) (asked : Request) → IsAnswered result server asked (by_call call.entry) moment (held W.objects W.alone W.faults pass.old store.old) (held W.objects W.alone W.faults pass.new store.new) }
+        ensures grew { Grew (held W.objects W.alone W.faults W.stored pass.old store.old) (held W.objects W.alone W.faults W.stored pass.new store.new) }
+        ensures answered { (server : Server) (asked : Request) → IsAnswered result server asked (by_call call.entry) moment (held W.objects W.alone W.faults W.stored pass.old store.old) (held W.objects W.alone W.faults W.stored pass.new store.new) }
     {
         match call {
             Call::Commit(offer) => self.commit(pass, store, moment, offer),

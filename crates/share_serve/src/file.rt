@@ -1,10 +1,10 @@
 // An object's bytes, or a part of them, written as a response.
-ghost use Rattle.std.specs.Prelude.{◌≡◌, ◌<◌, ◌≤◌, ℕ, true, length, IfOk, Option, vec_len};
-ghost use Rattle.std.specs.Bool.{OnTrue};
-ghost use Rattle.edge_core.specs.Objects.{Grows, Objects};
+ghost use Rattle.std.specs.Prelude.{◌≡◌, ◌<◌, ◌≤◌, ℕ, length, IfOk, Option, vec_len};
+ghost use Rattle.edge_core.specs.Objects.{Objects};
+ghost use Rattle.log_store.specs.Loads.{Looked};
 ghost use Rattle.share_reply.specs.Refusing.{plain};
 ghost use Rattle.share_serve.specs.Responses.{out_response as out_is, refusal_response as refusal_is};
-ghost use Rattle.share_serve.specs.Sends.{CopySent, DeliveryCause, FileSent, HasCopyCause, HasSize, IsCopied, IsWritten, PartSent, Writes};
+ghost use Rattle.share_serve.specs.Sends.{CopySent, DeliveryCause, FileSent, HasCopyCause, HasGoneOut, HasSize, IsCopied, IsWritten, PartSent, Writes};
 ghost use Rattle.share_serve.specs.Sides.{shelved};
 ghost use Rattle.share_serve.specs.Turns.{ObjectIs};
 
@@ -31,7 +31,8 @@ pub(crate) enum Copied {
     Cut(u64),
 }
 
-// Copies a range of an object, piece after piece, through the room for one: the object is read from the range's first byte on.
+// Copies a range of an object, piece after piece, through the room for one: the object is read from the range's first byte on, and
+// the store is only looked at.
 fn copy_range<W: Store, K: Sink>(
     store: &mut W,
     name: &Name,
@@ -41,8 +42,8 @@ fn copy_range<W: Store, K: Sink>(
 ) -> Copied
     requires room { 0 < length piece.old }
     requires there { HasSize range.size name.now (W.objects store.old) }
-    ensures grows { Grows (W.objects store.old) (W.objects store.new) }
-    ensures stays { OnTrue (W.alone store.old) (W.alone store.new ≡ true) }
+    ensures looked { Looked (W.objects store.old) (W.objects store.new) (W.alone store.old) (W.alone store.new) }
+    ensures stored { W.stored store.new ≡ W.stored store.old }
     ensures later { (W.faults store.old ≤ W.faults store.new) × (K.faults sink.old ≤ K.faults sink.new) }
     ensures copied { IsCopied result name.now range (W.objects store.new) (K.holds sink.old) (K.holds sink.new) }
     ensures cause { HasCopyCause result (W.objects store.old) (W.faults store.old) (W.faults store.new) (K.faults sink.old) (K.faults sink.new) }
@@ -85,11 +86,12 @@ fn send_copy<W: Store, K: Sink>(
 ) -> Delivered
     requires room { 0 < length piece.old }
     requires there { HasSize range.size name.now (W.objects store.old) }
-    ensures grows { Grows (W.objects store.old) (W.objects store.new) }
-    ensures stays { OnTrue (W.alone store.old) (W.alone store.new ≡ true) }
+    ensures looked { Looked (W.objects store.old) (W.objects store.new) (W.alone store.old) (W.alone store.new) }
+    ensures stored { W.stored store.new ≡ W.stored store.old }
     ensures later { (W.faults store.old ≤ W.faults store.new) × (K.faults sink.old ≤ K.faults sink.new) }
     ensures sent { CopySent result to_head name.now range (W.objects store.new) (K.holds sink.old) (K.holds sink.new) }
     ensures cause { DeliveryCause result (W.objects store.old) (W.faults store.old) (W.faults store.new) (K.faults sink.old) (K.faults sink.new) }
+    ensures out { HasGoneOut result (K.kept sink.new) }
 {
     if to_head {
         return of_sent(flush(sink));
@@ -107,6 +109,7 @@ fn send_out<K: Sink>(alloc: Global, sink: &mut K, delivery: Delivery, size: u64)
     ensures later { K.faults sink.old ≤ K.faults sink.new }
     ensures sent { IsWritten result delivery (out_is size) (K.holds sink.old) (K.holds sink.new) }
     ensures cause { (objects : Option Objects) (n m : ℕ) → DeliveryCause result objects n m (K.faults sink.old) (K.faults sink.new) }
+    ensures out { HasGoneOut result (K.kept sink.new) }
 {
     match out_response(alloc, size) {
         Ok(response) => of_sent(send_response(alloc, sink, delivery, &response)),
@@ -125,6 +128,7 @@ fn send_refusal<K: Sink>(
     ensures later { K.faults sink.old ≤ K.faults sink.new }
     ensures sent { IsWritten result delivery (refusal_is (plain refusal)) (K.holds sink.old) (K.holds sink.new) }
     ensures cause { (objects : Option Objects) (n m : ℕ) → DeliveryCause result objects n m (K.faults sink.old) (K.faults sink.new) }
+    ensures out { HasGoneOut result (K.kept sink.new) }
 {
     match refusal_response(alloc, refusal, "") {
         Ok(response) => of_sent(send_response(alloc, sink, delivery, &response)),
@@ -153,11 +157,12 @@ impl<'a> Sending<'a> {
         requires dated { self.now.delivery.moment ≤ 253_402_300_799_999 }
         requires room { 0 < length piece.old }
         requires there { HasSize range.size self.now.name.now (W.objects store.old) }
-        ensures grows { Grows (W.objects store.old) (W.objects store.new) }
-        ensures stays { OnTrue (W.alone store.old) (W.alone store.new ≡ true) }
+        ensures looked { Looked (W.objects store.old) (W.objects store.new) (W.alone store.old) (W.alone store.new) }
+        ensures stored { W.stored store.new ≡ W.stored store.old }
         ensures later { (W.faults store.old ≤ W.faults store.new) × (K.faults sink.old ≤ K.faults sink.new) }
         ensures sent { PartSent result self.now.delivery status self.now.name.now range (W.objects store.new) (K.holds sink.old) (K.holds sink.new) }
         ensures cause { DeliveryCause result (W.objects store.old) (W.faults store.old) (W.faults store.new) (K.faults sink.old) (K.faults sink.new) }
+        ensures out { HasGoneOut result (K.kept sink.new) }
     {
         let delivery = self.delivery;
         let Ok(head) = head_of(
@@ -188,11 +193,12 @@ impl<'a> Sending<'a> {
         requires dated { self.now.delivery.moment ≤ 253_402_300_799_999 }
         requires room { 0 < length piece.old }
         requires there { HasSize size self.now.name.now (W.objects store.old) }
-        ensures grows { Grows (W.objects store.old) (W.objects store.new) }
-        ensures stays { OnTrue (W.alone store.old) (W.alone store.new ≡ true) }
+        ensures looked { Looked (W.objects store.old) (W.objects store.new) (W.alone store.old) (W.alone store.new) }
+        ensures stored { W.stored store.new ≡ W.stored store.old }
         ensures later { (W.faults store.old ≤ W.faults store.new) × (K.faults sink.old ≤ K.faults sink.new) }
         ensures sent { FileSent result self.now.delivery self.now.name.now span (W.objects store.new) (K.holds sink.old) (K.holds sink.new) }
         ensures cause { DeliveryCause result (W.objects store.old) (W.faults store.old) (W.faults store.new) (K.faults sink.old) (K.faults sink.new) }
+        ensures out { HasGoneOut result (K.kept sink.new) }
     {
         match pick(span, size) {
             Picked::Whole => match ByteRange::of(0, size.saturating_sub(1), size) {
@@ -210,7 +216,7 @@ impl<'a> Sending<'a> {
     }
 
     /// Writes the response to a request for an object: its bytes or the part of them that is asked for, that it has none of those,
-    /// that it isn't there, or that the store failed. Of a part no byte in front of it is read.
+    /// that it isn't there, or that the store failed. Of a part no byte in front of it is read, and nothing is stored.
     pub(crate) fn send_file<W: Store, K: Sink>(
         &self,
         store: &mut W,
@@ -218,11 +224,12 @@ impl<'a> Sending<'a> {
         span: Option<Span>,
     ) -> Delivered
         requires dated { self.now.delivery.moment ≤ 253_402_300_799_999 }
-        ensures grows { Grows (W.objects store.old) (W.objects store.new) }
-        ensures stays { OnTrue (W.alone store.old) (W.alone store.new ≡ true) }
+        ensures looked { Looked (W.objects store.old) (W.objects store.new) (W.alone store.old) (W.alone store.new) }
+        ensures stored { W.stored store.new ≡ W.stored store.old }
         ensures later { (W.faults store.old ≤ W.faults store.new) × (K.faults sink.old ≤ K.faults sink.new) }
-        ensures sent { Writes result self.now.delivery (λ r. ObjectIs self.now.name.now span r (shelved W.objects W.alone W.faults store.old) (shelved W.objects W.alone W.faults store.new)) (shelved W.objects W.alone W.faults store.new ≡ shelved W.objects W.alone W.faults store.old) (K.holds sink.old) (K.holds sink.new) }
+        ensures sent { Writes result self.now.delivery (λ r. ObjectIs self.now.name.now span r (shelved W.objects W.alone W.faults W.stored store.old) (shelved W.objects W.alone W.faults W.stored store.new)) (shelved W.objects W.alone W.faults W.stored store.new ≡ shelved W.objects W.alone W.faults W.stored store.old) (K.holds sink.old) (K.holds sink.new) }
         ensures cause { DeliveryCause result (W.objects store.old) (W.faults store.old) (W.faults store.new) (K.faults sink.old) (K.faults sink.new) }
+        ensures out { HasGoneOut result (K.kept sink.new) }
     {
         let Ok(mut piece) = piece_room(self.alloc) else {
             return Delivered::NoMemory;

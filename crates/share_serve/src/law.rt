@@ -1,6 +1,6 @@
 // Laws of sessions. None of these functions does anything when it is called.
 ghost use Rattle.share_serve.specs.Entitled.{ChangesAreGiven, FilesAreGiven, LinksAreGiven, MetadataIsGiven, NamesAreGiven, ObjectsAreGiven, PartsAreGiven, TurnsAreGiven, TurnsGiveTheDefined, VersionsAreGiven};
-ghost use Rattle.share_serve.specs.Laws.{EndsTheSame, EqualViewsWriteTheSame, ReadsItsRequests, WritesItsResponses};
+ghost use Rattle.share_serve.specs.Laws.{AcknowledgementsArePuts, EndsTheSame, EqualViewsWriteTheSame, ReadsItsRequests, WritesItsResponses};
 ghost use Rattle.share_serve.specs.RefusalCauses.{ChangesHaveCauses, FaultsAreTold, FilesHaveCauses, LinksHaveCauses, NamesHaveCauses, StrangersAreRefused, VersionsHaveCauses};
 ghost use Rattle.share_serve.specs.WholeSessions.{WholeRequestsAreAnswered};
 
@@ -16,6 +16,12 @@ pub fn writes_its_responses()
 /// A law: the requests that are answered are the first messages of the bytes, none left out and none twice.
 pub fn reads_its_requests()
     ensures { ReadsItsRequests }
+{}
+
+/// A law: over the requests that are answered the store stores a put for each commit and each edit that is answered with 200, and none
+/// besides. So no two acknowledgements rest on one put, and none on a put of another, whether or not the store tells its objects.
+pub fn acknowledgements_are_puts()
+    ensures { AcknowledgementsArePuts }
 {}
 
 /// A law: whole sessions of the same bytes, moments and responses write the same, to their ends.

@@ -1,14 +1,14 @@
 // A recipient's reply, written as a response.
-ghost use Rattle.std.specs.Prelude.{◌≡◌, ◌≤◌, ℕ, IfOk, Option, true};
-ghost use Rattle.std.specs.Bool.{OnTrue};
-ghost use Rattle.edge_core.specs.Objects.{Grows, Objects};
+ghost use Rattle.std.specs.Prelude.{◌≡◌, ◌≤◌, ℕ, IfOk, Option};
+ghost use Rattle.edge_core.specs.Objects.{Objects};
+ghost use Rattle.log_store.specs.Loads.{Looked};
 ghost use Rattle.share_book.specs.Views.{View};
 ghost use Rattle.share_reply.specs.Bodies.{reply_of};
 ghost use Rattle.share_reply.specs.Replies.{answered, seen_for};
 ghost use Rattle.share_serve.specs.Responses.{refusal_response as refusal_is};
-ghost use Rattle.share_serve.specs.Sends.{DeliveryCause, WholeSent, Writes};
+ghost use Rattle.share_serve.specs.Sends.{CutOnly, DeliveryCause, HasGoneOut, WholeSent, Writes};
 ghost use Rattle.share_serve.specs.Sides.{shelved};
-ghost use Rattle.share_serve.specs.Turns.{ReplyIs};
+ghost use Rattle.share_serve.specs.Turns.{IsFile, ReplyIs};
 
 use crate::file::Sending;
 use crate::response::{
@@ -33,6 +33,8 @@ pub(crate) fn send_whole<K: Sink>(
     ensures later { K.faults sink.old ≤ K.faults sink.new }
     ensures sent { WholeSent result delivery response (K.holds sink.old) (K.holds sink.new) }
     ensures cause { (objects : Option Objects) (n m : ℕ) → DeliveryCause result objects n m (K.faults sink.old) (K.faults sink.new) }
+    ensures out { HasGoneOut result (K.kept sink.new) }
+    ensures uncut { CutOnly result ⊥ }
 {
     match response {
         Ok(response) => of_sent(send_response(alloc, sink, delivery, &response)),
@@ -55,11 +57,13 @@ fn send_plan<W: Store, K: Sink>(
     plan: Plan<'_>,
 ) -> Delivered
     requires dated { delivery.moment ≤ 253_402_300_799_999 }
-    ensures grows { Grows (W.objects store.old) (W.objects store.new) }
-    ensures stays { OnTrue (W.alone store.old) (W.alone store.new ≡ true) }
+    ensures looked { Looked (W.objects store.old) (W.objects store.new) (W.alone store.old) (W.alone store.new) }
+    ensures stored { W.stored store.new ≡ W.stored store.old }
     ensures later { (W.faults store.old ≤ W.faults store.new) × (K.faults sink.old ≤ K.faults sink.new) }
-    ensures sent { Writes result delivery (λ r. ReplyIs plan.entry r (shelved W.objects W.alone W.faults store.old) (shelved W.objects W.alone W.faults store.new)) (shelved W.objects W.alone W.faults store.new ≡ shelved W.objects W.alone W.faults store.old) (K.holds sink.old) (K.holds sink.new) }
+    ensures sent { Writes result delivery (λ r. ReplyIs plan.entry r (shelved W.objects W.alone W.faults W.stored store.old) (shelved W.objects W.alone W.faults W.stored store.new)) (shelved W.objects W.alone W.faults W.stored store.new ≡ shelved W.objects W.alone W.faults W.stored store.old) (K.holds sink.old) (K.holds sink.new) }
     ensures cause { DeliveryCause result (W.objects store.old) (W.faults store.old) (W.faults store.new) (K.faults sink.old) (K.faults sink.new) }
+    ensures out { HasGoneOut result (K.kept sink.new) }
+    ensures cut { CutOnly result (IsFile plan.entry) }
 {
     match plan {
         Plan::Refused(refused) => {
@@ -95,11 +99,13 @@ pub(crate) fn reply<W: Store, K: Sink>(
     delivery: Delivery,
 ) -> Delivered
     requires dated { delivery.moment ≤ 253_402_300_799_999 }
-    ensures grows { Grows (W.objects store.old) (W.objects store.new) }
-    ensures stays { OnTrue (W.alone store.old) (W.alone store.new ≡ true) }
+    ensures looked { Looked (W.objects store.old) (W.objects store.new) (W.alone store.old) (W.alone store.new) }
+    ensures stored { W.stored store.new ≡ W.stored store.old }
     ensures later { (W.faults store.old ≤ W.faults store.new) × (K.faults sink.old ≤ K.faults sink.new) }
-    ensures sent { (view : Option View) → seen.now ≡ seen_for keys.now request.now view → Writes result delivery (λ r. ReplyIs (reply_of keys.now (answered keys.now view delivery.moment request.now)) r (shelved W.objects W.alone W.faults store.old) (shelved W.objects W.alone W.faults store.new)) (shelved W.objects W.alone W.faults store.new ≡ shelved W.objects W.alone W.faults store.old) (K.holds sink.old) (K.holds sink.new) }
+    ensures sent { (view : Option View) → seen.now ≡ seen_for keys.now request.now view → Writes result delivery (λ r. ReplyIs (reply_of keys.now (answered keys.now view delivery.moment request.now)) r (shelved W.objects W.alone W.faults W.stored store.old) (shelved W.objects W.alone W.faults W.stored store.new)) (shelved W.objects W.alone W.faults W.stored store.new ≡ shelved W.objects W.alone W.faults W.stored store.old) (K.holds sink.old) (K.holds sink.new) }
     ensures cause { DeliveryCause result (W.objects store.old) (W.faults store.old) (W.faults store.new) (K.faults sink.old) (K.faults sink.new) }
+    ensures out { HasGoneOut result (K.kept sink.new) }
+    ensures cut { (view : Option View) → seen.now ≡ seen_for keys.now request.now view → CutOnly result (IsFile (reply_of keys.now (answered keys.now view delivery.moment request.now))) }
 {
     let now = Millis::of_small(delivery.moment);
     match plan_of(alloc, keys, request, now, seen) {

@@ -5,7 +5,7 @@ ghost use Rattle.response_text.specs.declared.head.ContentType.TheVariants as co
 ghost use Rattle.share_lines.specs.Printing.{body_text};
 ghost use Rattle.share_reply.specs.Planned.{text_at};
 ghost use Rattle.share_serve.specs.Responses.{body_sent, lines_response, response_head, response_text};
-ghost use Rattle.share_serve.specs.Sends.{IsSent, RoseWhereUnsent, delivered_of};
+ghost use Rattle.share_serve.specs.Sends.{IsHandedOn, IsSent, RoseWhereUnsent, delivered_of};
 
 use crate::response::{Delivery, Response};
 use edge_core::{Flushing, Sink, write_all};
@@ -82,6 +82,7 @@ pub(crate) fn send_text<K: Sink>(sink: &mut K, text: &[u8]) -> Sent
 pub(crate) fn flush<K: Sink>(sink: &mut K) -> Sent
     ensures later { K.faults sink.old ≤ K.faults sink.new }
     ensures cause { RoseWhereUnsent result (K.faults sink.old) (K.faults sink.new) }
+    ensures out { IsHandedOn result (K.kept sink.new) }
     ensures held { K.holds sink.new ≡ K.holds sink.old }
 {
     match sink.flush() {
@@ -94,6 +95,7 @@ pub(crate) fn flush<K: Sink>(sink: &mut K) -> Sent
 fn send_body<K: Sink>(sink: &mut K, to_head: bool, body: &[u8]) -> Sent
     ensures later { K.faults sink.old ≤ K.faults sink.new }
     ensures cause { RoseWhereUnsent result (K.faults sink.old) (K.faults sink.new) }
+    ensures out { IsHandedOn result (K.kept sink.new) }
     ensures sent { IsSent result (body_sent to_head body.now) (K.holds sink.old) (K.holds sink.new) }
 {
     if to_head {
@@ -115,6 +117,7 @@ pub(crate) fn send_response<K: Sink>(
     requires { delivery.moment ≤ 253_402_300_799_999 }
     ensures later { K.faults sink.old ≤ K.faults sink.new }
     ensures cause { RoseWhereUnsent result (K.faults sink.old) (K.faults sink.new) }
+    ensures out { IsHandedOn result (K.kept sink.new) }
     ensures sent { IsSent result (response_text delivery response.now) (K.holds sink.old) (K.holds sink.new) }
 {
     let body = response.body.as_str().as_bytes();
@@ -176,6 +179,7 @@ fn send_body_lines<K: Sink>(
 ) -> Sent
     ensures later { K.faults sink.old ≤ K.faults sink.new }
     ensures cause { RoseWhereUnsent result (K.faults sink.old) (K.faults sink.new) }
+    ensures out { IsHandedOn result (K.kept sink.new) }
     ensures sent { IsSent result (body_sent to_head (body_text lines.now)) (K.holds sink.old) (K.holds sink.new) }
 {
     if to_head {
@@ -198,6 +202,7 @@ pub(crate) fn send_lines<K: Sink>(
     requires { delivery.moment ≤ 253_402_300_799_999 }
     ensures later { K.faults sink.old ≤ K.faults sink.new }
     ensures cause { RoseWhereUnsent result (K.faults sink.old) (K.faults sink.new) }
+    ensures out { IsHandedOn result (K.kept sink.new) }
     ensures sent { IsSent result (response_text delivery (lines_response version (body_text lines.now))) (K.holds sink.old) (K.holds sink.new) }
 {
     let Ok(length) = lines.len(alloc) else {

@@ -4,11 +4,11 @@ ghost use Rattle.hub_calls.specs.Calls.{Adds, IsIdle};
 ghost use Rattle.share_reply.specs.Replies.{seen_for, view_for};
 ghost use Rattle.share_serve.specs.CallerViews.{by_call};
 ghost use Rattle.share_serve.specs.Callers as by;
-ghost use Rattle.share_serve.specs.Sends.{DeliveryCause};
+ghost use Rattle.share_serve.specs.Sends.{CutOnly, DeliveryCause, HasGoneOut};
 ghost use Rattle.share_serve.specs.Sessions.{HasCause, IsSession};
 ghost use Rattle.share_serve.specs.Sides.{held, side, state_at};
 ghost use Rattle.share_serve.specs.Turned.{IsGiven, IsTurned, RefusalEnds, Steps as Stepped, TurnCause, message, turned_of};
-ghost use Rattle.share_serve.specs.Turns.{Grew, Hold, closes_after, is_head};
+ghost use Rattle.share_serve.specs.Turns.{FollowsLink, Grew, Hold, closes_after, is_head};
 ghost use Rattle.share_request.specs.Requests.{request_in};
 ghost use Rattle.share_request.specs.declared.asked.Request.{Request as Asked};
 ghost use Rattle.share_serve.specs.declared.server.Server.{Server as ServerView};
@@ -112,7 +112,7 @@ fn refuse<C: Clock, K: Sink>(
 ) -> SessionEnd
     ensures later { (K.faults sink.old ≤ K.faults sink.new) × (C.faults clock.old ≤ C.faults clock.new) }
     ensures cause { HasCause result 0 0 (K.faults sink.old) (K.faults sink.new) None 0 0 }
-    ensures ends { (h : Hold) → RefusalEnds result at flaw served (side (C.coming clock.old) h (K.holds sink.old)) (side (C.coming clock.new) h (K.holds sink.new)) }
+    ensures ends { (h : Hold) → RefusalEnds result at flaw served (side (C.coming clock.old) h (K.holds sink.old) (K.kept sink.old)) (side (C.coming clock.new) h (K.holds sink.new) (K.kept sink.new)) }
 {
     let delivery = Delivery {
         moment: clock.now(),
@@ -160,10 +160,12 @@ impl<'a, R: Wait, G: Gate> Session<'a, R, G> {
     ) -> Delivered
         requires cell { (pass.old.cell ≡ self.now.hub.now) × (pass.old.holds ≡ false) }
         requires dated { delivery.moment ≤ 253_402_300_799_999 }
-        ensures grew { Grew (held W.objects W.alone W.faults pass.old store.old) (held W.objects W.alone W.faults pass.new store.new) }
+        ensures grew { Grew (held W.objects W.alone W.faults W.stored pass.old store.old) (held W.objects W.alone W.faults W.stored pass.new store.new) }
         ensures later { K.faults sink.old ≤ K.faults sink.new }
-        ensures given { (server : ServerView) (asked : Asked) → IsGiven result server asked (by_call call.entry) delivery (held W.objects W.alone W.faults pass.old store.old) (held W.objects W.alone W.faults pass.new store.new) (K.holds sink.old) (K.holds sink.new) }
+        ensures given { (server : ServerView) (asked : Asked) → IsGiven result server asked (by_call call.entry) delivery (held W.objects W.alone W.faults W.stored pass.old store.old) (held W.objects W.alone W.faults W.stored pass.new store.new) (K.holds sink.old) (K.holds sink.new) }
         ensures cause { DeliveryCause result (W.objects store.old) (W.faults store.old) (W.faults store.new) (K.faults sink.old) (K.faults sink.new) }
+        ensures out { HasGoneOut result (K.kept sink.new) }
+        ensures uncut { CutOnly result ⊥ }
     {
         let caller = pass.number();
         let response = self.answer(pass, store, delivery.moment, call);
@@ -186,10 +188,12 @@ impl<'a, R: Wait, G: Gate> Session<'a, R, G> {
     ) -> Delivered
         requires cell { (pass.old.cell ≡ self.now.hub.now) × (pass.old.holds ≡ false) }
         requires dated { delivery.moment ≤ 253_402_300_799_999 }
-        ensures grew { Grew (held W.objects W.alone W.faults pass.old store.old) (held W.objects W.alone W.faults pass.new store.new) }
+        ensures grew { Grew (held W.objects W.alone W.faults W.stored pass.old store.old) (held W.objects W.alone W.faults W.stored pass.new store.new) }
         ensures later { K.faults sink.old ≤ K.faults sink.new }
-        ensures given { IsGiven result self.now.server.now request.now (by.by_request self.now.server.now request.now) delivery (held W.objects W.alone W.faults pass.old store.old) (held W.objects W.alone W.faults pass.new store.new) (K.holds sink.old) (K.holds sink.new) }
+        ensures given { IsGiven result self.now.server.now request.now (by.by_request self.now.server.now request.now) delivery (held W.objects W.alone W.faults W.stored pass.old store.old) (held W.objects W.alone W.faults W.stored pass.new store.new) (K.holds sink.old) (K.holds sink.new) }
         ensures cause { DeliveryCause result (W.objects store.old) (W.faults store.old) (W.faults store.new) (K.faults sink.old) (K.faults sink.new) }
+        ensures out { HasGoneOut result (K.kept sink.new) }
+        ensures cut { CutOnly result (FollowsLink self.now.server.now request.now delivery.moment pass.new.seen) }
     {
         match by_request(self.server, request) {
             By::View => {
@@ -229,9 +233,9 @@ impl<'a, R: Wait, G: Gate> Session<'a, R, G> {
     ) -> Turned
         requires cell { (pass.old.cell ≡ self.now.hub.now) × (pass.old.holds ≡ false) }
         requires served { served < 10_000 }
-        ensures grew { Grew (held W.objects W.alone W.faults pass.old store.old) (held W.objects W.alone W.faults pass.new store.new) }
+        ensures grew { Grew (held W.objects W.alone W.faults W.stored pass.old store.old) (held W.objects W.alone W.faults W.stored pass.new store.new) }
         ensures later { (K.faults sink.old ≤ K.faults sink.new) × (C.faults clock.old ≤ C.faults clock.new) }
-        ensures turned { (at : ℕ) → IsTurned result self.now.server.now served (message at head.now body.now closes) (side (C.coming clock.old) (held W.objects W.alone W.faults pass.old store.old) (K.holds sink.old)) (side (C.coming clock.new) (held W.objects W.alone W.faults pass.new store.new) (K.holds sink.new)) }
+        ensures turned { (at : ℕ) → IsTurned result self.now.server.now served (message at head.now body.now closes) (side (C.coming clock.old) (held W.objects W.alone W.faults W.stored pass.old store.old) (K.holds sink.old) (K.kept sink.old)) (side (C.coming clock.new) (held W.objects W.alone W.faults W.stored pass.new store.new) (K.holds sink.new) (K.kept sink.new)) }
         ensures cause { TurnCause result (K.faults sink.old) (K.faults sink.new) (W.objects store.old) (W.faults store.old) (W.faults store.new) }
     {
         let moment = clock.now();
@@ -262,10 +266,10 @@ impl<'a, R: Wait, G: Gate> Session<'a, R, G> {
         requires cell { (pass.old.cell ≡ self.now.hub.now) × (pass.old.holds ≡ false) }
         requires open { wire.old.is_open ≡ true }
         requires served { served < 10_000 }
-        ensures grew { Grew (held W.objects W.alone W.faults pass.old store.old) (held W.objects W.alone W.faults pass.new store.new) }
+        ensures grew { Grew (held W.objects W.alone W.faults W.stored pass.old store.old) (held W.objects W.alone W.faults W.stored pass.new store.new) }
         ensures later { (S.faults source.old ≤ S.faults source.new) × (K.faults sink.old ≤ K.faults sink.new) × (C.faults clock.old ≤ C.faults clock.new) }
         ensures goes { MatchOption result ((wire.new.is_open ≡ true) × (served + 1 < 10_000)) (λ e. HasCause e (S.faults source.old) (S.faults source.new) (K.faults sink.old) (K.faults sink.new) (W.objects store.old) (W.faults store.old) (W.faults store.new)) }
-        ensures steps { Stepped self.now.server.now (state_at wire.old.buffer (S.left source.old) served (side (C.coming clock.old) (held W.objects W.alone W.faults pass.old store.old) (K.holds sink.old))) (state_at wire.new.buffer (S.left source.new) (served + 1) (side (C.coming clock.new) (held W.objects W.alone W.faults pass.new store.new) (K.holds sink.new))) result }
+        ensures steps { Stepped self.now.server.now (state_at wire.old.buffer (S.left source.old) served (side (C.coming clock.old) (held W.objects W.alone W.faults W.stored pass.old store.old) (K.holds sink.old) (K.kept sink.old))) (state_at wire.new.buffer (S.left source.new) (served + 1) (side (C.coming clock.new) (held W.objects W.alone W.faults W.stored pass.new store.new) (K.holds sink.new) (K.kept sink.new))) result }
     {
         match wire.next(self.alloc, source) {
             Ok(
@@ -321,10 +325,10 @@ pub fn serve_conn<R: Wait, W: Store, C: Clock, G: Gate, S: Source, K: Sink, L>(
     steps: &mut Steps<L>,
 ) -> SessionEnd
     requires cell { (pass.old.cell ≡ hub.now) × (pass.old.holds ≡ false) }
-    ensures grew { Grew (held W.objects W.alone W.faults pass.old store.old) (held W.objects W.alone W.faults pass.new store.new) }
+    ensures grew { Grew (held W.objects W.alone W.faults W.stored pass.old store.old) (held W.objects W.alone W.faults W.stored pass.new store.new) }
     ensures later { (S.faults source.old ≤ S.faults source.new) × (K.faults sink.old ≤ K.faults sink.new) × (C.faults clock.old ≤ C.faults clock.new) }
     ensures cause { HasCause result (S.faults source.old) (S.faults source.new) (K.faults sink.old) (K.faults sink.new) (W.objects store.old) (W.faults store.old) (W.faults store.new) }
-    ensures session { IsSession server.now (S.left source.old) (side (C.coming clock.old) (held W.objects W.alone W.faults pass.old store.old) (K.holds sink.old)) (side (C.coming clock.new) (held W.objects W.alone W.faults pass.new store.new) (K.holds sink.new)) result }
+    ensures session { IsSession server.now (S.left source.old) (S.left source.new) (side (C.coming clock.old) (held W.objects W.alone W.faults W.stored pass.old store.old) (K.holds sink.old) (K.kept sink.old)) (side (C.coming clock.new) (held W.objects W.alone W.faults W.stored pass.new store.new) (K.holds sink.new) (K.kept sink.new)) result }
 {
     let session = Session {
         rt,

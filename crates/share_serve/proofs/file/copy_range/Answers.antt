@@ -1,10 +1,9 @@
-use Rattle.std.proofs.Common.{◌+◌, ◌-◌, [], arith, sym, subst, take, ◌++◌, ◌∙◌, ap, Option, List, ℕ}
+use Rattle.std.proofs.Common.{◌+◌, ◌-◌, [], arith, sym, subst, take, ◌++◌, ◌∙◌, ap, refl, Option, List, ℕ}
 use Rattle.std.specs.Io.KnownBytes.{append_known}
-use Rattle.edge_core.proofs.Growth.{Grows-itself, Grows-on}
+use Rattle.log_store.proofs.Growing.{looked_refl, looks_more}
 use Rattle.share_serve.specs.Sends.{HasReadOf}
 use Rattle.share_serve.proofs.Basics.{append_known-append, append_known-nil}
 use Rattle.share_serve.proofs.Copying.{copied_cut, copied_in_part, copied_whole, piece_front, range_grows, range_more, range_none}
-use Rattle.share_serve.proofs.Holds.{stays_itself, stays_on}
 use Rattle.share_serve.proofs.file.copy_range.Goals as goal
 
 pub loop-at-init : goal.loop-at-init
@@ -14,8 +13,8 @@ loop-at-init g c =
       from = omega arith;
       within = omega (arith, c.first-first.ensures.value, c.first-first.ensures.good.some, c.last-end.ensures.value);
       room = c.requires.room;
-      grows = Grows-itself os;
-      stays = stays_itself (g.W.Store.alone c.args.store.now);
+      looked = looked_refl os (g.W.Store.alone c.args.store.now);
+      stored = refl;
       later = (omega arith, omega arith);
       copied = (
         [],
@@ -70,8 +69,8 @@ loop-at-preserved g c =
       from = omega (arith, l.from);
       within = omega (arith, c.min-count.ensures);
       room = omega arith;
-      grows = Grows-on (g.W.Store.objects c.args.store.now) (g.W.Store.objects c.loop-at.store) (g.W.Store.objects c.get.new.self) l.grows c.in-Bytes.ensures.bytes.0.grows;
-      stays = stays_on (g.W.Store.alone c.args.store.now) (g.W.Store.alone c.loop-at.store) (g.W.Store.alone c.get.new.self) l.stays c.in-Bytes.ensures.stays;
+      looked = looks_more _ _ _ _ _ _ l.looked c.in-Bytes.ensures.bytes.0 c.in-Bytes.ensures.stays;
+      stored = c.in-Bytes.ensures.stored ∙ l.stored;
       later = (omega (arith, l.later.0, c.in-Bytes.ensures.cause.later), omega (arith, l.later.1, c.in-Ok.ensures.later));
       copied = (
         l.copied.0 ++ take m c.get.new.out,
