@@ -4,3 +4,4 @@ pub mod Refreshes
 pub mod Attending
 pub mod Working
 pub mod Ordered
+pub mod Stored

@@ -10,6 +10,7 @@ use Rattle.share_serve.proofs.Holds.{grew_itself, grew_on}
 use Rattle.share_pool.specs.Laws.{Came, InOrder, LieInOrder}
 use Rattle.share_pool.specs.Posts.{Post}
 use Rattle.share_pool.specs.Visits.{Attended, Visit, closed_of}
+use Rattle.share_pool.specs.Refreshing.{Refreshed}
 use Rattle.share_pool.proofs.Refreshes.{refreshed_grew}
 
 no_lines : (closed : Option (List ClosedLine)) → closed ≡ option_map (λ xs. xs ++ []) closed
@@ -41,12 +42,14 @@ in_order server old new [] idle r = record {
   grew = subst (λ (z : Post). Grew old.hold z.hold) (sym r) (grew_itself old.hold idle);
 }
 in_order server old new (v ∷ visits) idle r =
-    let s = r.1 in
-    let grew : Grew old.hold r.0.hold = subst (Grew old.hold) (sym s.hold) (grew_on old.hold v.before.hold v.after.hold (refreshed_grew old.hold v.before.hold s.refreshed) s.grew) in
+    let a = r.1.1 in
+    let s = r.1.2 in
+    let fresh : Refreshed v.lacked old.hold v.before.hold = subst (λ (h : Hold). Refreshed v.lacked h v.before.hold) a.hold s.refreshed in
+    let grew : Grew old.hold r.0.hold = subst (Grew old.hold) (sym s.hold) (grew_on old.hold v.before.hold v.after.hold (refreshed_grew v.lacked old.hold v.before.hold fresh) s.grew) in
     let rest = in_order server r.0 new visits grew.pass.holds r.2 in record {
-      came = one_came old.coming r.0.coming new.coming v visits s.comes rest.came;
-      closed = rest.closed ∙ ap (option_map (λ xs. xs ++ map closed_of visits)) s.closed ∙ more_lines old.closed (closed_of v) (map closed_of visits);
+      came = one_came old.coming r.0.coming new.coming v visits (subst (λ (z : Option (List (List ℕ))). Comes old.coming z v.bytes v.before.written) (sym s.coming) a.comes) rest.came;
+      closed = rest.closed ∙ ap (option_map (λ xs. xs ++ map closed_of visits)) (s.closed ∙ ap (λ z. with_line z (closed_of v)) a.closed) ∙ more_lines old.closed (closed_of v) (map closed_of visits);
       sessions = (s.session, s.cause, rest.sessions);
-      order = (s.refreshed, s.grew, subst (λ (h : Hold). LieInOrder h visits new.hold) s.hold rest.order);
+      order = (fresh, s.grew, subst (λ (h : Hold). LieInOrder h visits new.hold) s.hold rest.order);
       grew = grew_on old.hold r.0.hold new.hold grew rest.grew;
     }

@@ -18,9 +18,9 @@ use Rattle.share_pool.specs.declared.desk.ServeEnd.TheVariants as serve_end
 abbrev pub HasPass : CellId → Option P → Type 0
 HasPass hub pass = IsSomeAnd pass (λ p. (p.cell ≡ hub) × (p.holds ≡ false))
 
-module _ {N W C L : Type 0} (coming : N → Option (List (List ℕ))) (closed : N → Option (List ClosedLine)) (failed : N → ℕ) (listens : N → Option ℕ) (moments : C → Option (List ℕ)) (objects : W → Option Objects) (alone : W → Bool) (faults : W → ℕ) where
+module _ {N W C L : Type 0} (coming : N → Option (List (List ℕ))) (closed : N → Option (List ClosedLine)) (failed : N → ℕ) (listens : N → Option ℕ) (moments : C → Option (List ℕ)) (objects : W → Option Objects) (alone : W → Bool) (faults : W → ℕ) (stored : W → ℕ) where
   abbrev pub post_of : Desk N W C L → P → Post
-  post_of d pass = post (coming d.door) (closed d.door) (moments d.clock) (held objects alone faults pass d.store)
+  post_of d pass = post (coming d.door) (closed d.door) (moments d.clock) (held objects alone faults stored pass d.store)
 
   -- the desk's worker did its work, from where its pass, door, clock and store stood to where they stand, its door listens where it did, and it left its answer
   pub record DeskWorks (hub : CellId) (server : Server) (old new : Desk N W C L) : Type 0 where

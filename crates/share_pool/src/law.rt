@@ -1,9 +1,15 @@
-// A law of a worker's work. The function does nothing when it is called.
-ghost use Rattle.share_pool.specs.Laws.{WorksInOrder};
+// Laws of a worker's work. The functions do nothing when they are called.
+ghost use Rattle.share_pool.specs.Laws.{BeginsUpToDate, WorksInOrder};
 
 /// A law: a worker closes the lines in the order in which it accepted them; each has a session, by the bytes that it came with and
 /// those that were written to it. The sessions lie one after another, and outside of them the caller adds the entries of refreshes
 /// alone. What the pass has seen, and what the store has, only grows.
 pub fn works_in_order()
     ensures { WorksInOrder }
+{}
+
+/// A law: where memory was never wanting, as where a worker ends `Closed`, each session begins with the edits of all records that the
+/// store had when its line was there; or the store failed, an object isn't taken as the next record, or 65,536 edits were found.
+pub fn begins_up_to_date()
+    ensures { BeginsUpToDate }
 {}

@@ -87,7 +87,7 @@ pub fn serve_all<
 ) -> ServeEnd
     requires some { 0 < length desks.old }
     requires ready { All (λ d. HasPass hub.now d.pass) desks.old }
-    ensures each { (i : ℕ) (d : _) → i < length desks.old → DeskWorks N.coming N.closed N.faults N.listens C.coming W.objects W.alone W.faults hub.now server.now (slice_index_or desks.old i d) (slice_index_or desks.new i d) }
+    ensures each { (i : ℕ) (d : _) → i < length desks.old → DeskWorks N.coming N.closed N.faults N.listens C.coming W.objects W.alone W.faults W.stored hub.now server.now (slice_index_or desks.old i d) (slice_index_or desks.new i d) }
     ensures answer { result ≡ all_end (map (λ d. d.end) desks.new) }
     ensures count { length desks.new ≡ length desks.old }
     ensures one { (history : List Entry) × OneAt hub.now.callers desks.new history }

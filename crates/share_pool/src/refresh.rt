@@ -1,11 +1,11 @@
 // What others stored is taken over, before a connection is served.
-ghost use Rattle.std.specs.Prelude.{◌≡◌, false};
+ghost use Rattle.std.specs.Prelude.{◌≡◌, Err, false};
 ghost use Rattle.hub_calls.specs.Calls.{IsIdle};
 ghost use Rattle.share_serve.specs.Sides.{held};
-ghost use Rattle.share_pool.specs.Refreshing.{LogRefreshes, Refreshed, TakesCommits, TakesRecords};
+ghost use Rattle.share_pool.specs.Refreshing.{LogRefreshes, Refreshed, TakesCommits, TakesRecords, lacks_commits, lacks_records};
 
 use edge_core::{Name, Store};
-use share_hub::{Hub, HubPass};
+use share_hub::{CatalogRefusal, Hub, HubPass, RefreshRefusal};
 use std::alloc::Global;
 use std::sync::Wait;
 
@@ -14,6 +14,20 @@ const FULL: u32 = 64;
 
 // How often a call is made that found as many. So others who go on storing can't hold a worker for ever.
 const MOST_CALLS: u32 = 1_024;
+
+// Whether a refresh of the catalogue was refused for want of memory.
+fn lacks_records(refusal: CatalogRefusal) -> bool
+    ensures { result ≡ lacks_records (Err refusal) }
+{
+    matches!(refusal, CatalogRefusal::NoMemory)
+}
+
+// The same of a log's.
+fn lacks_commits(refusal: RefreshRefusal) -> bool
+    ensures { result ≡ lacks_commits (Err refusal) }
+{
+    matches!(refusal, RefreshRefusal::NoMemory)
+}
 
 /// What is taken over with: a thread's handle, the memory and the hub.
 #[derive(Drop)]
@@ -24,60 +38,68 @@ pub(crate) struct Refresher<'a, R> {
 }
 
 impl<'a, R: Wait> Refresher<'a, R> {
-    // Takes over the records that the store has, until a call finds fewer than it may, or is refused.
-    fn take_records<W: Store>(&self, pass: &mut HubPass, store: &mut W)
+    // Takes over the records that the store has, until a call finds fewer than it may, or is refused. Whether memory was wanting.
+    fn take_records<W: Store>(&self, pass: &mut HubPass, store: &mut W) -> bool
         requires cell { (pass.old.cell ≡ self.now.hub.now) × (pass.old.holds ≡ false) }
         ensures same { IsIdle pass.old pass.new }
-        ensures takes { TakesRecords (held W.objects W.alone W.faults pass.old store.old) (held W.objects W.alone W.faults pass.new store.new) }
+        ensures takes { TakesRecords result (held W.objects W.alone W.faults W.stored pass.old store.old) (held W.objects W.alone W.faults W.stored pass.new store.new) }
     {
         for calls in 0..MOST_CALLS {
-            let Ok(refreshed) = self.hub.refresh_catalog(self.rt, self.alloc, pass, store) else {
-                return;
-            };
-            if refreshed.found < FULL {
-                return;
+            match self.hub.refresh_catalog(self.rt, self.alloc, pass, store) {
+                Ok(refreshed) => {
+                    if refreshed.found < FULL {
+                        return false;
+                    }
+                }
+                Err(refusal) => return lacks_records(refusal),
             }
         }
+        false
     }
 
     // The same of the commits at a location.
-    fn take_commits<W: Store>(&self, pass: &mut HubPass, store: &mut W, location: &Name)
+    fn take_commits<W: Store>(&self, pass: &mut HubPass, store: &mut W, location: &Name) -> bool
         requires cell { (pass.old.cell ≡ self.now.hub.now) × (pass.old.holds ≡ false) }
         ensures same { IsIdle pass.old pass.new }
-        ensures takes { TakesCommits location.now (held W.objects W.alone W.faults pass.old store.old) (held W.objects W.alone W.faults pass.new store.new) }
+        ensures takes { TakesCommits location.now result (held W.objects W.alone W.faults W.stored pass.old store.old) (held W.objects W.alone W.faults W.stored pass.new store.new) }
     {
         for calls in 0..MOST_CALLS {
-            let Ok(refreshed) = self.hub.refresh(self.rt, self.alloc, pass, store, location) else {
-                return;
-            };
-            if refreshed.found < FULL {
-                return;
+            match self.hub.refresh(self.rt, self.alloc, pass, store, location) {
+                Ok(refreshed) => {
+                    if refreshed.found < FULL {
+                        return false;
+                    }
+                }
+                Err(refusal) => return lacks_commits(refusal),
             }
         }
+        false
     }
 
     // Of the logs at those locations, one after another.
-    fn take_logs<W: Store>(&self, pass: &mut HubPass, store: &mut W, locations: &[Name])
+    fn take_logs<W: Store>(&self, pass: &mut HubPass, store: &mut W, locations: &[Name]) -> bool
         requires cell { (pass.old.cell ≡ self.now.hub.now) × (pass.old.holds ≡ false) }
         ensures same { IsIdle pass.old pass.new }
-        ensures logs { LogRefreshes locations.now (held W.objects W.alone W.faults pass.old store.old) (held W.objects W.alone W.faults pass.new store.new) }
+        ensures logs { LogRefreshes locations.now result (held W.objects W.alone W.faults W.stored pass.old store.old) (held W.objects W.alone W.faults W.stored pass.new store.new) }
     {
+        let mut lacked = false;
         for location in locations {
-            self.take_commits(pass, store, location);
+            lacked |= self.take_commits(pass, store, location);
         }
+        lacked
     }
 
-    /// Refreshes the catalogue, and then each log that is loaded. Refusals are dropped, and so is want of memory: the session that
-    /// follows shows what was seen so far.
-    pub(crate) fn refresh_all<W: Store>(&self, pass: &mut HubPass, store: &mut W)
+    /// Refreshes the catalogue, and then each log that is loaded. The session that follows shows what was seen so far, whatever is
+    /// refused: only whether memory was wanting is told.
+    pub(crate) fn refresh_all<W: Store>(&self, pass: &mut HubPass, store: &mut W) -> bool
         requires cell { (pass.old.cell ≡ self.now.hub.now) × (pass.old.holds ≡ false) }
         ensures same { IsIdle pass.old pass.new }
-        ensures refreshed { Refreshed (held W.objects W.alone W.faults pass.old store.old) (held W.objects W.alone W.faults pass.new store.new) }
+        ensures refreshed { Refreshed result (held W.objects W.alone W.faults W.stored pass.old store.old) (held W.objects W.alone W.faults W.stored pass.new store.new) }
     {
-        self.take_records(pass, store);
+        let lacked = self.take_records(pass, store);
         match self.hub.locations(self.rt, self.alloc, pass) {
-            Ok(locations) => self.take_logs(pass, store, &locations),
-            Err(_) => {}
+            Ok(locations) => lacked | self.take_logs(pass, store, &locations),
+            Err(_) => true,
         }
     }
 }

@@ -7,8 +7,8 @@ use Rattle.share_pool.proofs.desk.serve_lines.Given as goal
 
 abbrev pub invariant-loop : goal.invariant-loop
 invariant-loop g l =
-    let first = post (g.N.Listener.coming l.initial.door) (g.N.Listener.closed l.initial.door) (g.C.Clock.coming l.initial.clock) (held g.W.Store.objects g.W.Store.alone g.W.Store.faults l.initial.pass l.initial.store) in
-    let here = post (g.N.Listener.coming l.door) (g.N.Listener.closed l.door) (g.C.Clock.coming l.clock) (held g.W.Store.objects g.W.Store.alone g.W.Store.faults l.pass l.store) in record {
+    let first = post (g.N.Listener.coming l.initial.door) (g.N.Listener.closed l.initial.door) (g.C.Clock.coming l.initial.clock) (held g.W.Store.objects g.W.Store.alone g.W.Store.faults g.W.Store.stored l.initial.pass l.initial.store) in
+    let here = post (g.N.Listener.coming l.door) (g.N.Listener.closed l.door) (g.C.Clock.coming l.clock) (held g.W.Store.objects g.W.Store.alone g.W.Store.faults g.W.Store.stored l.pass l.store) in record {
       same : IsIdle l.initial.pass l.pass;
       listens : g.N.Listener.listens l.door ≡ g.N.Listener.listens l.initial.door;
       later : g.N.Listener.faults l.initial.door ≤ g.N.Listener.faults l.door;

@@ -12,15 +12,15 @@ loop-calls-preserved g c =
     let l = c.loop-calls in
     let r = c.refresh in
     let w = g.W.Store in
-    let first = shelved w.objects w.alone w.faults c.args.store.now in
-    let s = shelved w.objects w.alone w.faults l.store in
-    let t = shelved w.objects w.alone w.faults r.new.store in
+    let first = shelved w.objects w.alone w.faults w.stored c.args.store.now in
+    let s = shelved w.objects w.alone w.faults w.stored l.store in
+    let t = shelved w.objects w.alone w.faults w.stored r.new.store in
     let full = l.invariant.full in record {
       same = idle_more c.args.pass.now l.pass r.new.pass l.invariant.same r.ensures.same;
       full = (
         full.0 ++ hold r.new.pass t ∷ [],
         length_push full.0 (hold r.new.pass t) ∙ ap (λ n. n + 1) full.1,
         full_more (λ (x : LogState). x.found) (LogRefresh c.args.location.now) full.0 (hold c.args.pass.now first) (hold l.pass s) (hold r.new.pass t) c.in-Ok.refreshed full.2 c.if-refreshed-lt-FULL.false
-            (log_refresh c.args.location.now l.pass r.new.pass s t (Ok c.in-Ok.refreshed) r.ensures.same c.in-Ok.ensures.entries r.ensures.store c.in-Ok.ensures.cause),
+            (log_refresh c.args.location.now l.pass r.new.pass s t (Ok c.in-Ok.refreshed) r.ensures.same c.in-Ok.ensures.entries r.ensures.store c.in-Ok.ensures.cause r.ensures.stored),
       );
     }
