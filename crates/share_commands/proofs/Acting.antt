@@ -10,10 +10,10 @@ use Rattle.share_commands.specs.Serve.{UsesDesks}
 use Rattle.share_commands.specs.Steps.{Runs}
 use Rattle.share_commands.specs.declared.words.Command.{Command}
 
-module _ {N W C L V : Type 0} (coming : N → Option (List (List ℕ))) (closed : N → Option (List ClosedLine)) (failed : N → ℕ) (listens : N → Option ℕ) (moments : C → Option (List ℕ)) (objects : W → Option Objects) (alone : W → Bool) (faults : W → ℕ) (peers : V → Option (List PeerLine)) (ended : V → Option (List ClosedLine)) (opens reads writes : V → ℕ) where
+module _ {N W C L V : Type 0} (coming : N → Option (List (List ℕ))) (closed : N → Option (List ClosedLine)) (failed : N → ℕ) (listens : N → Option ℕ) (moments : C → Option (List ℕ)) (objects : W → Option Objects) (alone : W → Bool) (faults : W → ℕ) (stored : W → ℕ) (peers : V → Option (List PeerLine)) (ended : V → Option (List ClosedLine)) (opens reads writes : V → ℕ) where
   pub record Acts (asked : Option Command) (old new : Outside) (end : End) (desks desks' : List (Desk N W C L)) (way way' : V) : Type 0 where
     pub runs : Runs asked old new end
-    pub by_desks : UsesDesks coming closed failed listens moments objects alone faults asked old new end desks desks'
+    pub by_desks : UsesDesks coming closed failed listens moments objects alone faults stored asked old new end desks desks'
     pub by_way : UsesWay peers ended opens reads writes asked old new end way way'
 
   -- the same of what is equal

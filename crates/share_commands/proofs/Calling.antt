@@ -129,6 +129,7 @@ looks_first old new looks = record {
   notes = ap (λ o. o.noted) looks.rest;
   note_faults = ap (λ o. o.note_faults) looks.rest;
   looked = looks.looked;
+  stored = looks.stored;
 }
 
 pub looks_then : (old mid new : Outside) → LooksOnly old mid → ReadsOnly mid new → LooksAndReads old new
@@ -138,6 +139,7 @@ looks_then old mid new looks reads = record {
   notes = ap (λ o. o.noted) reads ∙ ap (λ o. o.noted) looks.rest;
   note_faults = ap (λ o. o.note_faults) reads ∙ ap (λ o. o.note_faults) looks.rest;
   looked = subst (λ a. Looked old.objects new.objects old.alone a) (sym (ap (λ o. o.alone) reads)) (subst (λ o. Looked old.objects o old.alone mid.alone) (sym (ap (λ o. o.objects) reads)) looks.looked);
+  stored = ap (λ o. o.stored) reads ∙ looks.stored;
 }
 
 pub notes_on : (old mid new : Outside) → LooksAndReads old mid → LeavesRest mid new → NotesNothing old new
@@ -148,6 +150,7 @@ notes_on old mid new looks rest =
       note_faults = ap (λ o. o.note_faults) rest ∙ looks.note_faults;
       grows = subst (λ o. Grows old.objects o) objects looks.looked.grows;
       same = subst (λ o. OnTrue old.alone (o ≡ old.objects)) objects looks.looked.same;
+      stored = ap (λ o. o.stored) rest ∙ looks.stored;
     }
 
 pub notes_none : (old mid : Outside) → LooksAndReads old mid → NotesNothing old mid
@@ -156,6 +159,7 @@ notes_none old mid looks = record {
   note_faults = looks.note_faults;
   grows = looks.looked.grows;
   same = looks.looked.same;
+  stored = looks.stored;
 }
 
 module _ {V : Type 0} (coming : V → Option (List PeerLine)) (closed : V → Option (List ClosedLine)) (opens reads writes : V → ℕ) where
@@ -190,6 +194,7 @@ module _ {V : Type 0} (coming : V → Option (List PeerLine)) (closed : V → Op
     note_faults = none.note_faults;
     grows = none.grows;
     same = none.same;
+    stored = none.stored;
   }
 
   noted_runs : (name : List ℕ) (e : CallWords) (old mid : Outside) (noted : Option (List ℕ)) (faults : ℕ) (end : End) (way way' : V) → RunsBy coming closed opens reads writes name e old mid end way way'

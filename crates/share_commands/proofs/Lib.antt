@@ -6,3 +6,4 @@ pub mod Seating
 mod Hosting
 pub mod Calling
 mod Acting
+mod Promise

@@ -46,6 +46,7 @@ text_runs asked text old new end because not_stdio is p =
       note_faults = ap (λ o. o.note_faults) rest;
       grows = subst (λ o. Grows old.objects o) objects (Grows-itself old.objects);
       same = OnFalse_from (is_stdio asked) _ (λ no. OnTrue_from old.alone (new.objects ≡ old.objects) (λ e. sym objects));
+      stored = OnFalse_from (is_stdio asked) _ (λ no. ap (λ o. o.stored) rest);
     }
 
 -- The commands' help, the version, or the lines of a rehearsal were printed.
@@ -60,7 +61,7 @@ rehearsal_runs number text old new end is p = text_runs (Some (command.Rehearse 
 
 -- A query was answered.
 pub query_runs : (location : List ℕ) (old new : Outside) (end : End) → QueryRuns location old new end → Runs (Some (command.Query location)) old new end
-query_runs location old new end runs = record { means = runs.means; notes = runs.notes; note_faults = runs.note_faults; grows = runs.grows; same = runs.same }
+query_runs location old new end runs = record { means = runs.means; notes = runs.notes; note_faults = runs.note_faults; grows = runs.grows; same = runs.same; stored = runs.stored }
 
 -- The line on the notes comes last.
 notes_then : (old mid new : Outside) (text : List ℕ) → mid.noted ≡ old.noted → mid.note_faults ≡ old.note_faults → Notes mid new text → Notes old new text
@@ -94,19 +95,19 @@ query_then location old mid new text end tells m = subst (λ o. QueryEnds locati
 
 -- and so does a session
 stdio_noted : (old mid : Outside) (noted : Option (List ℕ)) (faults : ℕ) (end : End) → IsStdio old mid end → IsStdio old (record mid { noted = noted; note_faults = faults }) end
-stdio_noted old mid noted faults end (inl (why, is, u)) = inl (why, is, record { reason = u.reason; left = u.left; held = u.held; coming = u.coming; same = u.same })
+stdio_noted old mid noted faults end (inl (why, is, u)) = inl (why, is, record { reason = u.reason; left = u.left; held = u.held; coming = u.coming; same = u.same; stored = u.stored })
 stdio_noted old mid noted faults end (inr (e, is, (config, s))) =
-    inr (e, is, (config, record { pass = s.pass; begun = s.begun; looked = s.looked; configured = s.configured; opened = s.opened; last = s.last; grew = s.grew; known = s.known; session = s.session; cause = s.cause }))
+    inr (e, is, (config, record { pass = s.pass; begun = s.begun; looked = s.looked; stored = s.stored; configured = s.configured; opened = s.opened; last = s.last; kept = s.kept; kept_new = s.kept_new; grew = s.grew; known = s.known; session = s.session; cause = s.cause }))
 
 stdio_then : (old mid new : Outside) (text : List ℕ) (end : End) → Tells mid new text → IsStdio old mid end → IsStdio old new end
 stdio_then old mid new text end tells m = subst (λ o. IsStdio old o end) (sym tells.rest) (stdio_noted old mid new.noted new.note_faults end m)
 
 -- and so does the opening of a server
 unserved_noted : (why : NoServer) (old mid : Outside) (noted : Option (List ℕ)) (faults : ℕ) → IsUnserved why old mid → IsUnserved why old (record mid { noted = noted; note_faults = faults })
-unserved_noted why old mid noted faults u = record { reason = u.reason; left = u.left; held = u.held; coming = u.coming; same = u.same }
+unserved_noted why old mid noted faults u = record { reason = u.reason; left = u.left; held = u.held; coming = u.coming; same = u.same; stored = u.stored }
 
 opens_noted : (config : Config) (found : List Step) (old mid : Outside) (noted : Option (List ℕ)) (faults : ℕ) → OpensServer config found old mid → OpensServer config found old (record mid { noted = noted; note_faults = faults })
-opens_noted config found old mid noted faults o = record { looked = o.looked; configured = o.configured; steps = o.steps; last = o.last; left = o.left; held = o.held; coming = o.coming }
+opens_noted config found old mid noted faults o = record { looked = o.looked; stored = o.stored; configured = o.configured; steps = o.steps; last = o.last; left = o.left; held = o.held; coming = o.coming }
 
 pub unserved_told : (why : NoServer) (old mid new : Outside) (text : List ℕ) → Tells mid new text → IsUnserved why old mid → IsUnserved why old new
 unserved_told why old mid new text tells u = subst (λ o. IsUnserved why old o) (sym tells.rest) (unserved_noted why old mid new.noted new.note_faults u)
@@ -136,6 +137,7 @@ told_runs asked old mid new end runs tells =
       notes = notes_then old mid new (note end) runs.notes runs.note_faults tells.notes;
       grows = subst (λ o. Grows old.objects o) objects runs.grows;
       same = subst (λ o. OnFalse (is_stdio asked) (OnTrue old.alone (o ≡ old.objects))) objects runs.same;
+      stored = subst (λ n. OnFalse (is_stdio asked) (n ≡ old.stored)) (sym (ap (λ o. o.stored) tells.rest)) runs.stored;
     }
 
 -- ---- words that are no command
@@ -145,7 +147,7 @@ on_true true x = refl
 on_true false x = tt
 
 pub wordless_runs : (o : Outside) → Runs None o o ends.Words
-wordless_runs o = record { means = (refl, refl); notes = refl; note_faults = refl; grows = Grows-itself o.objects; same = on_true o.alone o.objects }
+wordless_runs o = record { means = (refl, refl); notes = refl; note_faults = refl; grows = Grows-itself o.objects; same = on_true o.alone o.objects; stored = refl }
 
 -- ---- want of memory before anything was done
 
@@ -154,7 +156,7 @@ on_false true A a = tt
 on_false false A a = a
 
 pub unserved_still : (o : Outside) → IsUnserved no_server.NoMemory o o
-unserved_still o = record { reason = tt; left = refl; held = refl; coming = refl; same = on_true o.alone o.objects }
+unserved_still o = record { reason = tt; left = refl; held = refl; coming = refl; same = on_true o.alone o.objects; stored = refl }
 
 because_still : (asked : Option Command) (o : Outside) → Because asked o o ends.NoMemory
 because_still None o = refl
@@ -173,4 +175,5 @@ runs_still asked o = record {
   note_faults = refl;
   grows = Grows-itself o.objects;
   same = on_false (is_stdio asked) (OnTrue o.alone (o.objects ≡ o.objects)) (on_true o.alone o.objects);
+  stored = on_false (is_stdio asked) (o.stored ≡ o.stored) refl;
 }

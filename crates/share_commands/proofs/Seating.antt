@@ -51,8 +51,8 @@ one_keeps Q desks k now less here all i d below = set_each (λ j x. Q x) desks k
 
 -- ---- desks
 
-module _ {N W C L : Type 0} (coming : N → Option (List (List ℕ))) (closed : N → Option (List ClosedLine)) (failed : N → ℕ) (listens : N → Option ℕ) (moments : C → Option (List ℕ)) (objects : W → Option Objects) (alone : W → Bool) (faults : W → ℕ) where
-  waits_on : (old mid new : Desk N W C L) → Waits coming closed failed listens moments objects alone faults old mid → Waits coming closed failed listens moments objects alone faults mid new → Waits coming closed failed listens moments objects alone faults old new
+module _ {N W C L : Type 0} (coming : N → Option (List (List ℕ))) (closed : N → Option (List ClosedLine)) (failed : N → ℕ) (listens : N → Option ℕ) (moments : C → Option (List ℕ)) (objects : W → Option Objects) (alone : W → Bool) (faults : W → ℕ) (stored : W → ℕ) where
+  waits_on : (old mid new : Desk N W C L) → Waits coming closed failed listens moments objects alone faults stored old mid → Waits coming closed failed listens moments objects alone faults stored mid new → Waits coming closed failed listens moments objects alone faults stored old new
   waits_on old mid new a b = record {
     same_coming = b.same_coming ∙ a.same_coming;
     same_closed = b.same_closed ∙ a.same_closed;
@@ -62,16 +62,16 @@ module _ {N W C L : Type 0} (coming : N → Option (List (List ℕ))) (closed : 
   }
 
   -- the desk that is made ready waits, and so do the others still
-  pub one_more : (first desks : List (Desk N W C L)) (k : ℕ) (e now : Desk N W C L) → length desks ≡ length first → k < length first → AllWait coming closed failed listens moments objects alone faults (length first) first desks
-      → Waits coming closed failed listens moments objects alone faults (slice_index_or desks k e) now → AllWait coming closed failed listens moments objects alone faults (length first) first (slice_set desks k now)
+  pub one_more : (first desks : List (Desk N W C L)) (k : ℕ) (e now : Desk N W C L) → length desks ≡ length first → k < length first → AllWait coming closed failed listens moments objects alone faults stored (length first) first desks
+      → Waits coming closed failed listens moments objects alone faults stored (slice_index_or desks k e) now → AllWait coming closed failed listens moments objects alone faults stored (length first) first (slice_set desks k now)
   one_more first desks k e now count less all waits = λ i d below.
-      let here : Waits coming closed failed listens moments objects alone faults (slice_index_or first k d) now =
-      waits_on (slice_index_or first k d) (slice_index_or desks k e) now (subst (Waits coming closed failed listens moments objects alone faults (slice_index_or first k d)) (get_or_default desks k d e (omega (arith, count, less))) (all k d less)) waits in
-      set_each (λ j x. Waits coming closed failed listens moments objects alone faults (slice_index_or first j d) x) desks k now i d (omega (arith, count, less)) here (λ other. all i d below)
+      let here : Waits coming closed failed listens moments objects alone faults stored (slice_index_or first k d) now =
+      waits_on (slice_index_or first k d) (slice_index_or desks k e) now (subst (Waits coming closed failed listens moments objects alone faults stored (slice_index_or first k d)) (get_or_default desks k d e (omega (arith, count, less))) (all k d less)) waits in
+      set_each (λ j x. Waits coming closed failed listens moments objects alone faults stored (slice_index_or first j d) x) desks k now i d (omega (arith, count, less)) here (λ other. all i d below)
 
   -- that desk's door failed
-  pub it_failed : (first desks : List (Desk N W C L)) (k : ℕ) (e now : Desk N W C L) → length desks ≡ length first → k < length first → AllWait coming closed failed listens moments objects alone faults (length first) first desks
-      → Waits coming closed failed listens moments objects alone faults (slice_index_or desks k e) now → Rose (failed (slice_index_or desks k e).door) (failed now.door) → DoorFails coming closed failed listens moments objects alone faults (length first) first (slice_set desks k now)
+  pub it_failed : (first desks : List (Desk N W C L)) (k : ℕ) (e now : Desk N W C L) → length desks ≡ length first → k < length first → AllWait coming closed failed listens moments objects alone faults stored (length first) first desks
+      → Waits coming closed failed listens moments objects alone faults stored (slice_index_or desks k e) now → Rose (failed (slice_index_or desks k e).door) (failed now.door) → DoorFails coming closed failed listens moments objects alone faults stored (length first) first (slice_set desks k now)
   it_failed first desks k e now count less all waits rose = (
     one_more first desks k e now count less all waits,
     (

@@ -144,6 +144,16 @@ told_cause None mid p q r grows le cause = tt
 told_cause (Some os) None p q r grows le cause = absurd (true≢false grows)
 told_cause (Some os) (Some ms) p q r grows le cause = later_rose p q r le cause
 
+-- a cause stands where the sink's count goes on rising
+pub cause_after : (e : SessionEnd) (n m a b c : ℕ) (objects : Option Objects) (p q : ℕ) → b ≤ c → HasCause e n m a b objects p q → HasCause e n m a c objects p q
+cause_after (session_end.Done served) n m a b c objects p q later cause = tt
+cause_after (session_end.Truncated at served) n m a b c objects p q later cause = tt
+cause_after (session_end.BadMessage at flaw served) n m a b c objects p q later cause = tt
+cause_after (session_end.ReadFault served) n m a b c objects p q later cause = cause
+cause_after (session_end.WriteFault served) n m a b c objects p q later cause = omega (arith, later, cause)
+cause_after (session_end.BodyCut served sent) n m a b c objects p q later cause = cause
+cause_after (session_end.NoMemory served) n m a b c objects p q later cause = tt
+
 -- the cause of an end in a session is one in the run
 cause_before : (e : SessionEnd) (n m a b : ℕ) (old mid : Option Objects) (p q r : ℕ) → Grows old mid → p ≤ q → HasCause e n m a b mid q r → HasCause e n m a b old p r
 cause_before (session_end.Done served) n m a b old mid p q r grows le cause = tt
@@ -170,7 +180,7 @@ cause_behind (session_end.NoMemory served) n m a b c o p q le cause = tt
 -- ---- a run
 
 pub unserved : (why : NoServer) (old new : Outside) → LooksOnly old new → HasReason why old.objects new.objects old.store_faults new.store_faults → IsUnserved why old new
-unserved why old new looks reason = record { reason = reason; left = ap (λ o. o.left) looks.rest; held = ap (λ o. o.held) looks.rest; coming = ap (λ o. o.coming) looks.rest; same = looks.looked.same }
+unserved why old new looks reason = record { reason = reason; left = ap (λ o. o.left) looks.rest; held = ap (λ o. o.held) looks.rest; coming = ap (λ o. o.coming) looks.rest; same = looks.looked.same; stored = looks.stored }
 
 pub unserved_runs : (why : NoServer) (old new : Outside) → LooksOnly old new → HasReason why old.objects new.objects old.store_faults new.store_faults → Runs (Some command.Stdio) old new (end_without why)
 unserved_runs why old new looks reason = record {
@@ -179,6 +189,7 @@ unserved_runs why old new looks reason = record {
   note_faults = ap (λ o. o.note_faults) looks.rest;
   grows = looks.looked.grows;
   same = tt;
+  stored = tt;
 }
 
 pub served_runs : (config : Config) (pass : P) (e : SessionEnd) (old mid new : Outside) → LooksOnly old mid → Configures (Some config) old.objects mid.objects → Opens pass old.objects mid.objects → ServesOne (server_of config) pass e mid new
@@ -193,12 +204,15 @@ served_runs config pass e old mid new looks found opens serves = record {
         pass = pass;
         begun = shelf_of mid;
         looked = looks.looked;
+        stored = looks.stored;
         configured = found;
         opened = opens;
         last = serves.last;
+        kept = serves.kept;
+        kept_new = serves.kept_new;
         grew = serves.grew;
         known = subst (λ (k : ℕ). IsHistory caller_of May k serves.last.seen) (ap (λ (c : CellId). c.callers) serves.grew.pass.cell ∙ opens.one) serves.known;
-        session = subst (λ o. IsSession (server_of config) o.left (side o.coming (hold pass (shelf_of mid)) o.held) (side new.coming (hold serves.last (shelf_of new)) new.held) e) looks.rest serves.session;
+        session = subst (λ o. IsSession (server_of config) o.left new.left (side o.coming (hold pass (shelf_of mid)) o.held serves.kept) (side new.coming (hold serves.last (shelf_of new)) new.held serves.kept_new) e) looks.rest serves.session;
         cause = cause_before e old.read_faults new.read_faults old.write_faults new.write_faults old.objects mid.objects old.store_faults mid.store_faults new.store_faults looks.looked.grows looks.later
             (subst (λ o. HasCause e o.read_faults new.read_faults o.write_faults new.write_faults mid.objects mid.store_faults new.store_faults) looks.rest serves.cause);
       },
@@ -208,4 +222,5 @@ served_runs config pass e old mid new looks found opens serves = record {
   note_faults = serves.note_faults ∙ ap (λ o. o.note_faults) looks.rest;
   grows = Grows-on old.objects mid.objects new.objects looks.looked.grows serves.grew.objects;
   same = tt;
+  stored = tt;
 }

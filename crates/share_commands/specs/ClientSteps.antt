@@ -65,6 +65,7 @@ pub record LooksAndReads (old new : Outside) : Type 0 where
   pub notes : new.noted ≡ old.noted
   pub note_faults : new.note_faults ≡ old.note_faults
   pub looked : Looked old.objects new.objects old.alone new.alone
+  pub stored : new.stored ≡ old.stored
 
 -- nothing was noted or stored
 pub record NotesNothing (old new : Outside) : Type 0 where
@@ -72,6 +73,7 @@ pub record NotesNothing (old new : Outside) : Type 0 where
   pub note_faults : new.note_faults ≡ old.note_faults
   pub grows : Grows old.objects new.objects
   pub same : OnTrue old.alone (new.objects ≡ old.objects)
+  pub stored : new.stored ≡ old.stored
 
 -- the call that the words name, or why there is none
 abbrev pub CallOf : CallWords → (old new : Option (List ℕ)) → (before now : ℕ) → Result Call NoCall → Type 0

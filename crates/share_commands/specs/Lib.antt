@@ -8,3 +8,4 @@ pub mod ClientSteps
 pub mod Run
 pub mod Steps
 pub mod Expected
+pub mod Headline

@@ -63,3 +63,4 @@ pub record IsRun (asked : Option Command) (old new : Outside) (end : End) : Type
   pub notes : Notes old new (note end)
   pub grows : Grows old.objects new.objects
   pub same : OnFalse (is_stdio asked) (OnTrue old.alone (new.objects ≡ old.objects))
+  pub stored : OnFalse (is_stdio asked) (new.stored ≡ old.stored)

@@ -37,6 +37,7 @@ end_of serve_end.NoMemory = ends.NoMemory
 -- that was absent. Nothing was read, written or stored, and the clock wasn't asked.
 pub record OpensServer (config : Config) (found : List Step) (old new : Outside) : Type 0 where
   pub looked : Looked old.objects new.objects old.alone new.alone
+  pub stored : new.stored ≡ old.stored
   pub configured : Configures (Some config) old.objects new.objects
   pub steps : AreSteps old.objects new.objects 0 found
   pub last : Lacks (record_name_of (length found)) new.objects
@@ -52,7 +53,7 @@ IsServe old new end =
 
 -- ---- the desks
 
-module _ {N W C L : Type 0} (coming : N → Option (List (List ℕ))) (closed : N → Option (List ClosedLine)) (failed : N → ℕ) (listens : N → Option ℕ) (moments : C → Option (List ℕ)) (objects : W → Option Objects) (alone : W → Bool) (faults : W → ℕ) where
+module _ {N W C L : Type 0} (coming : N → Option (List (List ℕ))) (closed : N → Option (List ClosedLine)) (failed : N → ℕ) (listens : N → Option ℕ) (moments : C → Option (List ℕ)) (objects : W → Option Objects) (alone : W → Bool) (faults : W → ℕ) (stored : W → ℕ) where
   -- at this desk no line came and none was closed, and its store and clock weren't used
   pub record Waits (old new : Desk N W C L) : Type 0 where
     pub same_coming : coming new.door ≡ coming old.door
@@ -73,7 +74,7 @@ module _ {N W C L : Type 0} (coming : N → Option (List (List ℕ))) (closed : 
   -- The worker of that number had the place of its number at the hub, which has seen the edits that the hub was opened with, and a door that listens at the port, and did its work from there.
   abbrev pub WorksAt : CellId → Config → List Step → (port i : ℕ) → (old new : Desk N W C L) → Type 0
   WorksAt hub config found port i old new =
-      (ready : Desk N W C L) × Waits old ready × (ready.pass ≡ Some (fresh hub i (first_history found))) × (listens ready.door ≡ Some port) × DeskWorks coming closed failed listens moments objects alone faults hub (server_of config) ready new
+      (ready : Desk N W C L) × Waits old ready × (ready.pass ≡ Some (fresh hub i (first_history found))) × (listens ready.door ≡ Some port) × DeskWorks coming closed failed listens moments objects alone faults stored hub (server_of config) ready new
 
   -- So many workers served what came to the port, each at its desk, all over one hub, and there is one history.
   pub record WorkersServe (config : Config) (found : List Step) (port workers : ℕ) (e : ServeEnd) (old new : List (Desk N W C L)) : Type 0 where

@@ -88,22 +88,26 @@ pub record IsUnserved (why : NoServer) (old new : Outside) : Type 0 where
   pub held : new.held ≡ old.held
   pub coming : new.coming ≡ old.coming
   pub same : OnTrue old.alone (new.objects ≡ old.objects)
+  pub stored : new.stored ≡ old.stored
 
 abbrev pub shelf_of : Outside → Shelf
-shelf_of o = shelf o.objects o.alone o.store_faults
+shelf_of o = shelf o.objects o.alone o.store_faults o.stored
 
 -- One session was served over the input and the output, by the configuration in the store and over a hub that was opened in this run.
--- Nothing was stored before it began. Its end has its cause in this run. In what it had seen at its end each entry may stand after those before it, and is its own caller's.
+-- Nothing was stored before it began. The output kept something back before it, and behind it. Its end has its cause in this run. In what it had seen at its end each entry may stand after those before it, and is its own caller's.
 pub record IsServed (config : Config) (e : SessionEnd) (old new : Outside) : Type 0 where
   pub pass : P
   pub begun : Shelf
   pub looked : Looked old.objects begun.objects old.alone begun.alone
+  pub stored : begun.stored ≡ old.stored
   pub configured : Configures (Some config) old.objects begun.objects
   pub opened : Opens pass old.objects begun.objects
   pub last : P
+  pub kept : List ℕ
+  pub kept_new : List ℕ
   pub grew : Grew (hold pass begun) (hold last (shelf_of new))
   pub known : IsHistory caller_of May 1 last.seen
-  pub session : IsSession (server_of config) old.left (side old.coming (hold pass begun) old.held) (side new.coming (hold last (shelf_of new)) new.held) e
+  pub session : IsSession (server_of config) old.left new.left (side old.coming (hold pass begun) old.held kept) (side new.coming (hold last (shelf_of new)) new.held kept_new) e
   pub cause : HasCause e old.read_faults new.read_faults old.write_faults new.write_faults old.objects old.store_faults new.store_faults
 
 -- why a run ends so, and what it did

@@ -56,16 +56,19 @@ IsOpened (Err why) callers old new before now = HasReason why old new before now
 
 -- the store was looked at, and nothing else was used
 pub record LooksOnly (old new : Outside) : Type 0 where
-  pub rest : new ≡ record old { objects = new.objects; alone = new.alone; store_faults = new.store_faults }
+  pub rest : new ≡ record old { objects = new.objects; alone = new.alone; store_faults = new.store_faults; stored = new.stored }
   pub looked : Looked old.objects new.objects old.alone new.alone
   pub later : old.store_faults ≤ new.store_faults
+  pub stored : new.stored ≡ old.stored
 
--- One session was served by that server, from that pass on. Nothing is noted.
+-- One session was served by that server, from that pass on, with what the output kept back before it and behind it. Nothing is noted.
 pub record ServesOne (server : Server) (pass : P) (e : SessionEnd) (old new : Outside) : Type 0 where
   pub last : P
+  pub kept : List ℕ
+  pub kept_new : List ℕ
   pub grew : Grew (hold pass (shelf_of old)) (hold last (shelf_of new))
   pub known : IsHistory caller_of May last.cell.callers last.seen
-  pub session : IsSession server old.left (side old.coming (hold pass (shelf_of old)) old.held) (side new.coming (hold last (shelf_of new)) new.held) e
+  pub session : IsSession server old.left new.left (side old.coming (hold pass (shelf_of old)) old.held kept) (side new.coming (hold last (shelf_of new)) new.held kept_new) e
   pub cause : HasCause e old.read_faults new.read_faults old.write_faults new.write_faults old.objects old.store_faults new.store_faults
   pub notes : new.noted ≡ old.noted
   pub note_faults : new.note_faults ≡ old.note_faults

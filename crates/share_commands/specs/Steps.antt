@@ -14,3 +14,4 @@ pub record Runs (asked : Option Command) (old new : Outside) (end : End) : Type 
   pub note_faults : new.note_faults ≡ old.note_faults
   pub grows : Grows old.objects new.objects
   pub same : OnFalse (is_stdio asked) (OnTrue old.alone (new.objects ≡ old.objects))
+  pub stored : OnFalse (is_stdio asked) (new.stored ≡ old.stored)

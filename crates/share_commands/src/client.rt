@@ -145,6 +145,7 @@ fn stored_profile<W: Store>(alloc: Global, store: &mut W, name: &Name) -> Result
     ensures profile { IsProfile name.now (W.objects store.old) (W.objects store.new) (W.faults store.old) (W.faults store.new) result }
     ensures looked { Looked (W.objects store.old) (W.objects store.new) (W.alone store.old) (W.alone store.new) }
     ensures later { W.faults store.old ≤ W.faults store.new }
+    ensures stored { W.stored store.new ≡ W.stored store.old }
 {
     let found = match profile_at(alloc, store, name) {
         Ok(found) => found,

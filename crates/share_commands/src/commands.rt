@@ -86,7 +86,7 @@ pub fn run<
 ) -> u8
     ensures cause { (end : End) × (result ≡ status end)
         × IsRun (command_in words.now) edge.old edge.new end
-        × UsesDesks N.coming N.closed N.faults N.listens C.coming W.objects W.alone W.faults (command_in words.now) edge.old edge.new end desks.old desks.new
+        × UsesDesks N.coming N.closed N.faults N.listens C.coming W.objects W.alone W.faults W.stored (command_in words.now) edge.old edge.new end desks.old desks.new
         × UsesWay V.coming V.closed V.faults V.read_faults V.write_faults (command_in words.now) edge.old edge.new end way.old way.new }
     ensures exact { IsExact words.now edge.old edge.new result }
     ensures alone { IsExactAlone words.now edge.old edge.new result }

@@ -4,11 +4,13 @@
 
 mod client;
 mod commands;
+mod law;
 mod opening;
 mod serve;
 mod stdio;
 mod words;
 
 pub use commands::run;
+pub use law::headline;
 pub use query_command::{Edge, End, tell_memory};
 pub use words::{HELP, MOST_WORKERS, VERSION};

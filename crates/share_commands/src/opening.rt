@@ -103,6 +103,7 @@ fn stored_config<W: Store>(alloc: Global, store: &mut W) -> Result<Option<Config
     ensures config { IfSome (W.objects store.new) (λ objects. IfOk result (λ found. found ≡ config_at objects)) }
     ensures looked { Looked (W.objects store.old) (W.objects store.new) (W.alone store.old) (W.alone store.new) }
     ensures cause { Cause (W.faults store.old) (W.faults store.new) (failed_load result) }
+    ensures stored { W.stored store.new ≡ W.stored store.old }
 {
     let name = config_name(alloc)?;
     let mut piece = vec![in alloc; 0; PIECE]?;
@@ -122,6 +123,7 @@ pub(crate) fn open_server<W: Store>(
     ensures opened { IsOpened result callers (W.objects store.old) (W.objects store.new) (W.faults store.old) (W.faults store.new) }
     ensures looked { Looked (W.objects store.old) (W.objects store.new) (W.alone store.old) (W.alone store.new) }
     ensures later { W.faults store.old ≤ W.faults store.new }
+    ensures stored { W.stored store.new ≡ W.stored store.old }
 {
     let Some(config) = stored_config(alloc, store)? else {
         return Err(NoServer::Configuration);

@@ -40,7 +40,7 @@ fn make_ready<N: Listener, W: Store, C: Clock, L>(
     pass: Option<HubPass>,
     port: u16,
 ) -> bool
-    ensures waits { Waits N.coming N.closed N.faults N.listens C.coming W.objects W.alone W.faults desk.old desk.new }
+    ensures waits { Waits N.coming N.closed N.faults N.listens C.coming W.objects W.alone W.faults W.stored desk.old desk.new }
     ensures pass { desk.new.pass ≡ pass }
     ensures listens { OnTrue result (N.listens desk.new.door ≡ Some port) }
     ensures fails { OnFalse result (Rose (N.faults desk.old.door) (N.faults desk.new.door)) }
@@ -60,10 +60,10 @@ fn make_all_ready<N: Listener, W: Store, C: Clock, L>(
 ) -> bool
     requires { length desks.old ≤ length passes.items }
     ensures count { length desks.new ≡ length desks.old }
-    ensures waits { AllWait N.coming N.closed N.faults N.listens C.coming W.objects W.alone W.faults (length desks.old) desks.old desks.new }
+    ensures waits { AllWait N.coming N.closed N.faults N.listens C.coming W.objects W.alone W.faults W.stored (length desks.old) desks.old desks.new }
     ensures ready { OnTrue result ((i : ℕ) (d : _) (p : _) → i < length desks.old → (slice_index_or desks.new i d).pass ≡ Some (slice_index_or passes.items i p)) }
     ensures listens { OnTrue result ((i : ℕ) (d : _) → i < length desks.old → N.listens (slice_index_or desks.new i d).door ≡ Some port) }
-    ensures fails { OnFalse result (DoorFails N.coming N.closed N.faults N.listens C.coming W.objects W.alone W.faults (length desks.old) desks.old desks.new) }
+    ensures fails { OnFalse result (DoorFails N.coming N.closed N.faults N.listens C.coming W.objects W.alone W.faults W.stored (length desks.old) desks.old desks.new) }
 {
     let mut passes = passes.into_iter();
     for desk in desks.iter_mut() {
@@ -109,7 +109,7 @@ pub(crate) fn serve<
     ensures count { length desks.new ≡ length desks.old }
     ensures serves { (config : Config) (found : List Step) → opened.server ≡ server_of config → AllFresh opened.hub (first_history found) 0 opened.passes.items
         → IsHistory caller_of May (max 1 (length desks.old)) (first_history found)
-        → (e : ServeEnd) × (result ≡ end_is e) × IsServing N.coming N.closed N.faults N.listens C.coming W.objects W.alone W.faults config found port (length desks.old) e desks.old desks.new }
+        → (e : ServeEnd) × (result ≡ end_is e) × IsServing N.coming N.closed N.faults N.listens C.coming W.objects W.alone W.faults W.stored config found port (length desks.old) e desks.old desks.new }
 {
     let Opened {
         server,

@@ -41,8 +41,8 @@ returns-clause-cause g c =
     let end = c.match-command_of.end in
     let desks = c.args.desks.now in
     let way = c.args.way.now in
-    let same = acts_as g.N.Listener.coming g.N.Listener.closed g.N.Listener.faults g.N.Listener.listens g.C.Clock.coming g.W.Store.objects g.W.Store.alone g.W.Store.faults g.V.Link.coming g.V.Link.closed g.V.Link.faults g.V.Link.read_faults g.V.Link.write_faults in
-    let acts : Acts g.N.Listener.coming g.N.Listener.closed g.N.Listener.faults g.N.Listener.listens g.C.Clock.coming g.W.Store.objects g.W.Store.alone g.W.Store.faults g.V.Link.coming g.V.Link.closed g.V.Link.faults g.V.Link.read_faults g.V.Link.write_faults asked was mid end desks c.match-command_of.desks way c.match-command_of.way' = elim c.match-command_of.branch [
+    let same = acts_as g.N.Listener.coming g.N.Listener.closed g.N.Listener.faults g.N.Listener.listens g.C.Clock.coming g.W.Store.objects g.W.Store.alone g.W.Store.faults g.W.Store.stored g.V.Link.coming g.V.Link.closed g.V.Link.faults g.V.Link.read_faults g.V.Link.write_faults in
+    let acts : Acts g.N.Listener.coming g.N.Listener.closed g.N.Listener.faults g.N.Listener.listens g.C.Clock.coming g.W.Store.objects g.W.Store.alone g.W.Store.faults g.W.Store.stored g.V.Link.coming g.V.Link.closed g.V.Link.faults g.V.Link.read_faults g.V.Link.write_faults asked was mid end desks c.match-command_of.desks way c.match-command_of.way' = elim c.match-command_of.branch [
       | in-Ok-Some-Help w ↦ same (Some command.Help) _ _ _ _ _ _ _ _ _ _ _ _ (ap Some (sym w.in-Ok-Some-Help.field-0-0-is) ∙ sym w.in-Ok-Some-Help.field-0-is ∙ w.in-Ok-Some-Help.ensures) w.edge-is w.end-is w.desks-is w.way'-is (record { runs = help_runs _ _ _ _ w.as_bytes.ensures.value w.print-end.ensures.prints; by_desks = refl; by_way = refl })
       | in-Ok-Some-Version w ↦ same (Some command.Version) _ _ _ _ _ _ _ _ _ _ _ _ (ap Some (sym w.in-Ok-Some-Version.field-0-0-is) ∙ sym w.in-Ok-Some-Version.field-0-is ∙ w.in-Ok-Some-Version.ensures) w.edge-is w.end-is w.desks-is w.way'-is (record { runs = version_runs _ _ _ _ w.as_bytes-in-Ok-Some-Version.ensures.value w.print-end-in-Ok-Some-Version.ensures.prints; by_desks = refl; by_way = refl })
       | in-Ok-Some-Query w ↦ same (Some (command.Query w.in-Ok-Some-Query.location)) _ _ _ _ _ _ _ _ _ _ _ _ (ap Some (sym w.in-Ok-Some-Query.field-0-0-is) ∙ sym w.in-Ok-Some-Query.field-0-is ∙ w.in-Ok-Some-Query.ensures) w.edge-is w.end-is w.desks-is w.way'-is (record { runs = subst (λ l. Runs (Some (command.Query l)) was w.query-end.new.edge w.query-end.result) w.name.ensures.value (query_runs _ _ _ _ w.query-end.ensures); by_desks = refl; by_way = refl })
@@ -65,10 +65,10 @@ returns-clause-cause g c =
                 let is : used ≡ min workers (length desks) = w.used_desks-used.ensures in
                 let few : length (take used desks) ≡ used = (let a = length-take used desks in omega (arith, a, is)) in
                 let most : used ≤ length desks = omega (arith, is) in
-                let front : Front g.N.Listener.coming g.N.Listener.closed g.N.Listener.faults g.N.Listener.listens g.C.Clock.coming g.W.Store.objects g.W.Store.alone g.W.Store.faults used desks part (part ++ drop used desks) = record { most = most; count = v.serve.ensures.count ∙ few; rest = refl } in
+                let front : Front g.N.Listener.coming g.N.Listener.closed g.N.Listener.faults g.N.Listener.listens g.C.Clock.coming g.W.Store.objects g.W.Store.alone g.W.Store.faults g.W.Store.stored used desks part (part ++ drop used desks) = record { most = most; count = v.serve.ensures.count ∙ few; rest = refl } in
                 let known = subst (λ (k : ℕ). IsHistory caller_of May k (first_history found)) (w.callers_at.ensures ∙ ap (max 1) (sym few)) opened.1.known in
                 let serves = v.serve.ensures.serves config found opened.0.1 opened.1.begin known in
-                let by_desks = serves_at g.N.Listener.coming g.N.Listener.closed g.N.Listener.faults g.N.Listener.listens g.C.Clock.coming g.W.Store.objects g.W.Store.alone g.W.Store.faults config found port used workers serves.0 v.serve.result was next desks part (part ++ drop used desks) is front serves.1 opens (first_serve g.N.Listener.coming g.N.Listener.closed g.N.Listener.faults g.N.Listener.listens g.C.Clock.coming g.W.Store.objects g.W.Store.alone g.W.Store.faults config found port used (length (take used desks)) serves.0 desks part (part ++ drop used desks) few front serves.2) in
+                let by_desks = serves_at g.N.Listener.coming g.N.Listener.closed g.N.Listener.faults g.N.Listener.listens g.C.Clock.coming g.W.Store.objects g.W.Store.alone g.W.Store.faults g.W.Store.stored config found port used workers serves.0 v.serve.result was next desks part (part ++ drop used desks) is front serves.1 opens (first_serve g.N.Listener.coming g.N.Listener.closed g.N.Listener.faults g.N.Listener.listens g.C.Clock.coming g.W.Store.objects g.W.Store.alone g.W.Store.faults g.W.Store.stored config found port used (length (take used desks)) serves.0 desks part (part ++ drop used desks) few front serves.2) in
                 same (Some (command.Serve port workers)) _ _ _ _ _ _ _ _ _ _ _ _ asks w.edge-is (w.end-is ∙ v.end-is) (w.desks-is ∙ v.desks-is) w.way'-is (record { runs = hosted_runs port workers config found serves.0 v.serve.result was next looks serves.1 opens; by_desks = by_desks; by_way = refl })
             | in-Err-open_over v ↦
                 let why = v.in-Err-open_over.why in
@@ -78,12 +78,12 @@ returns-clause-cause g c =
           ]
       | in-Ok-Some-Client w ↦ same (Some (command.Client w.in-Ok-Some-Client.profile w.in-Ok-Some-Client.call_words)) _ _ _ _ _ _ _ _ _ _ _ _ (ap Some (sym w.in-Ok-Some-Client.field-0-0-is) ∙ sym w.in-Ok-Some-Client.field-0-is ∙ w.in-Ok-Some-Client.ensures) w.edge-is w.end-is w.desks-is w.way'-is (record { runs = client_runs g.V.Link.coming g.V.Link.closed g.V.Link.faults g.V.Link.read_faults g.V.Link.write_faults w.in-Ok-Some-Client.profile w.in-Ok-Some-Client.call_words was w.client-end.new.edge w.client-end.result way w.client-end.new.way w.client-end.ensures.runs w.client-end.ensures.notes; by_desks = refl; by_way = w.client-end.ensures.runs })
       | in-Ok-None w ↦ same None _ _ _ _ _ _ _ _ _ _ _ _ (sym w.in-Ok-None.field-0-is ∙ w.in-Ok-None.ensures) w.edge-is w.end-is w.desks-is w.way'-is (record { runs = wordless_runs was; by_desks = refl; by_way = refl })
-      | in-Err w ↦ same asked _ _ _ _ _ _ _ _ _ _ _ _ refl w.edge-is w.end-is w.desks-is w.way'-is (record { runs = runs_still asked was; by_desks = desks_still g.N.Listener.coming g.N.Listener.closed g.N.Listener.faults g.N.Listener.listens g.C.Clock.coming g.W.Store.objects g.W.Store.alone g.W.Store.faults asked was desks; by_way = way_still g.V.Link.coming g.V.Link.closed g.V.Link.faults g.V.Link.read_faults g.V.Link.write_faults asked was way })
+      | in-Err w ↦ same asked _ _ _ _ _ _ _ _ _ _ _ _ refl w.edge-is w.end-is w.desks-is w.way'-is (record { runs = runs_still asked was; by_desks = desks_still g.N.Listener.coming g.N.Listener.closed g.N.Listener.faults g.N.Listener.listens g.C.Clock.coming g.W.Store.objects g.W.Store.alone g.W.Store.faults g.W.Store.stored asked was desks; by_way = way_still g.V.Link.coming g.V.Link.closed g.V.Link.faults g.V.Link.read_faults g.V.Link.write_faults asked was way })
     ] in (
       end,
       c.status.ensures,
       told_runs _ _ _ _ _ acts.runs c.tell.ensures,
-      desks_told g.N.Listener.coming g.N.Listener.closed g.N.Listener.faults g.N.Listener.listens g.C.Clock.coming g.W.Store.objects g.W.Store.alone g.W.Store.faults asked was mid c.tell.new.edge (note end) end desks c.match-command_of.desks c.tell.ensures acts.by_desks,
+      desks_told g.N.Listener.coming g.N.Listener.closed g.N.Listener.faults g.N.Listener.listens g.C.Clock.coming g.W.Store.objects g.W.Store.alone g.W.Store.faults g.W.Store.stored asked was mid c.tell.new.edge (note end) end desks c.match-command_of.desks c.tell.ensures acts.by_desks,
       way_told g.V.Link.coming g.V.Link.closed g.V.Link.faults g.V.Link.read_faults g.V.Link.write_faults asked was mid c.tell.new.edge (note end) end way c.match-command_of.way' c.tell.ensures acts.by_way,
     )
 
