@@ -54,10 +54,8 @@ Gives (Err fault.BadRecord) read = read ≡ None
 Gives (Err fault.NoMemory) read = ⊤
 
 abbrev pub lacks_memory : RecordFault → Bool
-lacks_memory fault.NotUtf8 = false
-lacks_memory fault.NotJson = false
-lacks_memory fault.BadRecord = false
 lacks_memory fault.NoMemory = true
+lacks_memory _ = false
 
 -- The answer is the edit or the fault of a record. Want of memory says nothing.
 abbrev pub GivesRecord : Result Edit RecordFault → Result Edit RecordFault → Type 0

@@ -31,32 +31,18 @@ removed_file version time f = record { kind = kind.Remove; path = f.path; values
 
 -- a file of changed rows ("Add CDC File")
 abbrev pub row_change : ℕ → ℤ → Action → Option ChangedFile
-row_change version time (action.Protocol p) = None
-row_change version time (action.MetaData m) = None
-row_change version time (action.Add f) = None
-row_change version time (action.Remove f) = None
 row_change version time (action.Cdc f) = Some (row_file version time f)
-row_change version time (action.Txn t) = None
-row_change version time (action.CommitInfo i) = None
+row_change version time _ = None
 
 -- a file that is added or removed with its data, where that isn't merely arranged anew ("Add File and Remove File", `dataChange`)
 abbrev pub file_change : ℕ → ℤ → Action → Option ChangedFile
-file_change version time (action.Protocol p) = None
-file_change version time (action.MetaData m) = None
 file_change version time (action.Add f) = if f.data_change then Some (added_file version time f) else None
 file_change version time (action.Remove f) = if f.data_change then Some (removed_file version time f) else None
-file_change version time (action.Cdc f) = None
-file_change version time (action.Txn t) = None
-file_change version time (action.CommitInfo i) = None
+file_change version time _ = None
 
 abbrev pub is_cdc : Action → Bool
-is_cdc (action.Protocol p) = false
-is_cdc (action.MetaData m) = false
-is_cdc (action.Add f) = false
-is_cdc (action.Remove f) = false
 is_cdc (action.Cdc f) = true
-is_cdc (action.Txn t) = false
-is_cdc (action.CommitInfo i) = false
+is_cdc _ = false
 
 -- the changes of a commit, in its order: its files of changed rows alone where it has any, else its files that are added or removed with their data
 abbrev pub commit_changes : ℕ → ℤ → List Action → List ChangedFile

@@ -79,8 +79,6 @@ TellsUrl (Some target) result = ¬ (result ≡ Err fault.BadUrl)
 
 -- A url that is no link is told, but where memory is wanting, and only such a one.
 abbrev pub TellsBadUrl : Call → Result ⊤ ClientFault → Type 0
-TellsBadUrl calls.Tables result = ¬ (result ≡ Err fault.BadUrl)
-TellsBadUrl (calls.Read t body) result = ¬ (result ≡ Err fault.BadUrl)
-TellsBadUrl (calls.Changes t from to) result = ¬ (result ≡ Err fault.BadUrl)
 TellsBadUrl (calls.Fetch url) result = TellsUrl (target_in url) result
 TellsBadUrl (calls.FetchPieces url piece) result = TellsUrl (target_in url) result
+TellsBadUrl _ result = ¬ (result ≡ Err fault.BadUrl)

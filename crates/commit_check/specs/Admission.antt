@@ -49,12 +49,7 @@ is_written p = nat_le p.min_writer 4 || (p.min_writer == 7 && list_all is_known_
 -- whether the protocol, if it is one, is that of a table that is written
 abbrev pub keeps_written : Action → Bool
 keeps_written (action.Protocol p) = is_written p
-keeps_written (action.MetaData m) = true
-keeps_written (action.Add f) = true
-keeps_written (action.Remove f) = true
-keeps_written (action.Cdc f) = true
-keeps_written (action.Txn t) = true
-keeps_written (action.CommitInfo i) = true
+keeps_written _ = true
 
 -- the protocol that holds, and those that are offered, are such
 abbrev pub stays_written : Option Protocol → List Action → Bool
@@ -64,13 +59,10 @@ abbrev pub unwritten : Option Protocol → List Action → Option Conflict
 unwritten p offered = if stays_written p offered then None else Some conflict.WriterUnsupported
 
 abbrev pub path_of : Action → Option (List ℕ)
-path_of (action.Protocol p) = None
-path_of (action.MetaData m) = None
 path_of (action.Add f) = Some f.path
 path_of (action.Remove f) = Some f.path
 path_of (action.Cdc f) = Some f.path
-path_of (action.Txn t) = None
-path_of (action.CommitInfo i) = None
+path_of _ = None
 
 abbrev pub has_no_name : List ℕ → Option (List ℕ) → Bool
 has_no_name location None = false
@@ -111,13 +103,8 @@ abbrev pub bad_offer : List (List Action) → ℕ → Offer → Option Conflict
 bad_offer log now offer = option_map (λ n. conflict.BadOffer n) (bad_place log now offer)
 
 abbrev pub removes_data : Action → Bool
-removes_data (action.Protocol p) = false
-removes_data (action.MetaData m) = false
-removes_data (action.Add f) = false
 removes_data (action.Remove f) = f.data_change
-removes_data (action.Cdc f) = false
-removes_data (action.Txn t) = false
-removes_data (action.CommitInfo i) = false
+removes_data _ = false
 
 -- "Append-only Tables"
 abbrev pub takes_data : Option MetaData → List Action → Bool
@@ -131,13 +118,8 @@ is_live_at None path = false
 is_live_at (Some state) path = is_live state.files path
 
 abbrev pub removes_absent : Option State → Action → Bool
-removes_absent state (action.Protocol p) = false
-removes_absent state (action.MetaData m) = false
-removes_absent state (action.Add f) = false
 removes_absent state (action.Remove f) = not (is_live_at state f.path)
-removes_absent state (action.Cdc f) = false
-removes_absent state (action.Txn t) = false
-removes_absent state (action.CommitInfo i) = false
+removes_absent state _ = false
 
 -- an action removes a path that wasn't live at the version that was read
 abbrev pub absent : Option State → List Action → Option Conflict

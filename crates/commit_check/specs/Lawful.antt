@@ -9,13 +9,8 @@ use Rattle.log_replay.specs.Reconciliation.{actions_in, last_meta, live_files}
 use Rattle.log_replay.specs.Settings.{turns_on}
 
 abbrev pub is_info : Action → Bool
-is_info (action.Protocol p) = false
-is_info (action.MetaData m) = false
-is_info (action.Add f) = false
-is_info (action.Remove f) = false
-is_info (action.Cdc f) = false
-is_info (action.Txn t) = false
 is_info (action.CommitInfo i) = true
+is_info _ = false
 
 -- the first action is a commitInfo, and no other is
 abbrev pub begins_with_info : List Action → Bool
@@ -36,13 +31,9 @@ is_live files path = list_any (λ f. bytes_eq f.path path) files
 
 -- no deletion vector; what is removed is live, and no data where files may be added alone
 abbrev pub is_lawful_action : List AddFile → Bool → Action → Bool
-is_lawful_action files append_only (action.Protocol p) = true
-is_lawful_action files append_only (action.MetaData m) = true
 is_lawful_action files append_only (action.Add f) = not f.vector
 is_lawful_action files append_only (action.Remove f) = not f.vector && (is_live files f.path && not (append_only && f.data_change))
-is_lawful_action files append_only (action.Cdc f) = true
-is_lawful_action files append_only (action.Txn t) = true
-is_lawful_action files append_only (action.CommitInfo i) = true
+is_lawful_action files append_only _ = true
 
 -- the commit may be added to the log
 abbrev pub is_lawful : List (List Action) → List Action → Bool

@@ -22,13 +22,9 @@ ReadStillHolds = (log : List (List Action)) (now : ℕ) (offer : Offer) (commit 
 
 -- an action by which a commit is known again: each but a change file and a commitInfo
 abbrev pub is_marked : Action → Bool
-is_marked (action.Protocol p) = true
-is_marked (action.MetaData m) = true
-is_marked (action.Add f) = true
-is_marked (action.Remove f) = true
 is_marked (action.Cdc f) = false
-is_marked (action.Txn t) = true
 is_marked (action.CommitInfo i) = false
+is_marked _ = true
 
 -- an offer whose commit is in the log isn't admitted again, at whatever moment and whatever came since: so who doesn't know whether it was taken may make it again, with the same version read
 abbrev pub RetriesAreRefused : Type 0

@@ -41,41 +41,21 @@ paths_read reads state = map (λ f. f.path) (files_read reads state)
 -- ---- what an action has
 
 abbrev pub added_file : Action → Option AddFile
-added_file (action.Protocol p) = None
-added_file (action.MetaData m) = None
 added_file (action.Add f) = Some f
-added_file (action.Remove f) = None
-added_file (action.Cdc f) = None
-added_file (action.Txn t) = None
-added_file (action.CommitInfo i) = None
+added_file _ = None
 
 abbrev pub added_path : Action → Option (List ℕ)
-added_path (action.Protocol p) = None
-added_path (action.MetaData m) = None
 added_path (action.Add f) = Some f.path
-added_path (action.Remove f) = None
-added_path (action.Cdc f) = None
-added_path (action.Txn t) = None
-added_path (action.CommitInfo i) = None
+added_path _ = None
 
 abbrev pub removed_path : Action → Option (List ℕ)
-removed_path (action.Protocol p) = None
-removed_path (action.MetaData m) = None
-removed_path (action.Add f) = None
 removed_path (action.Remove f) = Some f.path
-removed_path (action.Cdc f) = None
-removed_path (action.Txn t) = None
-removed_path (action.CommitInfo i) = None
+removed_path _ = None
 
 -- the application whose txn it is ("Transaction Identifiers")
 abbrev pub app_of : Action → Option (List ℕ)
-app_of (action.Protocol p) = None
-app_of (action.MetaData m) = None
-app_of (action.Add f) = None
-app_of (action.Remove f) = None
-app_of (action.Cdc f) = None
 app_of (action.Txn t) = Some t.app
-app_of (action.CommitInfo i) = None
+app_of _ = None
 
 -- the paths that actions add, those that they remove, and the applications whose txns they have
 abbrev pub paths_added : List Action → List (List ℕ)

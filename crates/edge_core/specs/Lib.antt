@@ -1,4 +1,3 @@
-pub mod Acknowledged
 pub mod Arrivals
 pub mod Calls
 pub mod Clocks
@@ -13,3 +12,4 @@ pub mod MemoryLines
 pub mod Names
 pub mod Objects
 pub mod Stored
+pub mod StoredPuts

@@ -125,7 +125,7 @@ impl Store for MemStore {
     ghost use Rattle.edge_core.specs.Objects.{Gets, Measures, Puts, Lists, failed_get, failed_size, failed_put, failed_list};
     ghost use Rattle.edge_core.specs.Calls.{due, Counts};
     ghost use Rattle.edge_core.specs.Memory.{store_shelf, store_objects, store_alone, store_faults, store_stored, store_calls, found_shelf, put_shelf, put_fails, Waits};
-    ghost use Rattle.edge_core.specs.Acknowledged.{acknowledged};
+    ghost use Rattle.edge_core.specs.StoredPuts.{stored_after};
 
     ghost objects = { λ s. Some (store_objects s) };
 
@@ -180,7 +180,7 @@ impl Store for MemStore {
         ensures object { Puts (Some (store_objects self.old)) (Some (store_objects self.new)) (store_alone self.old) name.now bytes.now result }
         ensures stays { OnTrue (store_alone self.old) (store_alone self.new ≡ true) }
         ensures cause { Cause (store_faults self.old) (store_faults self.new) (failed_put result) }
-        ensures stored { store_stored self.new ≡ acknowledged (store_stored self.old) result }
+        ensures stored { store_stored self.new ≡ stored_after (store_stored self.old) result }
         ensures fails { failed_put result ≡ put_fails self.old name.now bytes.now }
         ensures counts { Counts (store_calls self.old) (store_calls self.new) (failed_put result) }
         ensures shelf { store_shelf self.new ≡ put_shelf self.old name.now bytes.now }

@@ -2,7 +2,7 @@
 ghost use Rattle.std.specs.Prelude.{◌≡◌, ℕ, ◌<◌, Option, IfSome, Bool, true, length};
 ghost use Rattle.std.specs.Bool.{OnTrue};
 ghost use Rattle.edge_core.specs.Faults.{Cause};
-ghost use Rattle.edge_core.specs.Acknowledged.{acknowledged};
+ghost use Rattle.edge_core.specs.StoredPuts.{stored_after};
 ghost use Rattle.edge_core.specs.Objects.{Objects, Gets, Measures, Puts, Lists, failed_get, failed_size, failed_put, failed_list};
 
 use crate::{Name, Segments};
@@ -92,7 +92,7 @@ pub trait Store {
         ensures object { Puts (objects self.old) (objects self.new) (alone self.old) name.now bytes.now result }
         ensures stays { OnTrue (alone self.old) (alone self.new ≡ true) }
         ensures cause { Cause (faults self.old) (faults self.new) (failed_put result) }
-        ensures stored { stored self.new ≡ acknowledged (stored self.old) result };
+        ensures stored { stored self.new ≡ stored_after (stored self.old) result };
 
     /// Whether a listing shows the objects of one moment, so that a name that it lacks was absent while the names that it has were
     /// there. A store that tells its objects does; a folder that others add to while it is read may show a later object and lack an

@@ -39,16 +39,12 @@ pub record PassesOver (most : ℕ) (stream : List ℕ) (heads : List HeadText) (
 -- no interim head
 abbrev pub IsFinal : HeadReading ResponseHead → Type 0
 IsFinal (headed head rest) = is_interim head ≡ false
-IsFinal nothing = ⊤
-IsFinal cut = ⊤
-IsFinal (faulty flaw) = ⊤
+IsFinal _ = ⊤
 
 -- A switch of protocols (RFC 9110, section 15.2.2) answers a request that asked for one, which none here does.
 abbrev pub without_switch : HeadReading ResponseHead → HeadReading ResponseHead
 without_switch (headed head rest) = if head.status == 101 then faulty BadMessage else headed head rest
-without_switch nothing = nothing
-without_switch cut = cut
-without_switch (faulty flaw) = faulty flaw
+without_switch reading = reading
 
 -- what stands behind all interim heads, where all heads together have at most so many bytes
 abbrev pub ReadsFinalHead : ℕ → List ℕ → HeadReading ResponseHead → Type 0

@@ -54,10 +54,7 @@ IsHeadShort Reads bytes = Reads bytes nothing ⊎ Reads bytes cut
 -- a head has as many bytes as it tells, at least one and at most so many
 abbrev pub IsCounted : {H E : Type 0} → ℕ → List ℕ → Result (HeadRead H) E → Type 0
 IsCounted most used (Ok (read.Whole head len)) = (len ≡ length used) × (0 < len) × (len ≤ most)
-IsCounted most used (Ok read.Nothing) = ⊤
-IsCounted most used (Ok read.Cut) = ⊤
-IsCounted most used (Ok (read.Refused flaw)) = ⊤
-IsCounted most used (Err e) = ⊤
+IsCounted most used _ = ⊤
 
 -- interim heads were passed over: what stands behind them is read with what is left of the room
 pub record IsPassing {H : Type 0} (ReadsFinal : ℕ → List ℕ → HeadReading H → Type 0) (most room : ℕ) (used : List ℕ) : Type 0 where

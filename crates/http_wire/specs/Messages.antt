@@ -10,11 +10,7 @@ use Rattle.http_wire.specs.declared.wire.Message.TheVariants as message
 -- no fault is told
 abbrev pub IsNoFault : {E : Type 0} → Result Message E → Type 0
 IsNoFault (Ok message.ReadFault) = ⊥
-IsNoFault (Ok (message.Request at head body closes)) = ⊤
-IsNoFault (Ok message.End) = ⊤
-IsNoFault (Ok (message.Truncated at)) = ⊤
-IsNoFault (Ok (message.Bad at flaw)) = ⊤
-IsNoFault (Err e) = ⊤
+IsNoFault _ = ⊤
 
 -- what stands behind the head is read so
 abbrev pub ReadsBehind : Head → List ℕ → Reading → Type 0

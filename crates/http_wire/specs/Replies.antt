@@ -13,25 +13,16 @@ use Rattle.http_wire.specs.declared.responses.Reply.TheVariants as reply
 
 abbrev pub is_fault : {E : Type 0} → Result Reply E → Bool
 is_fault (Ok reply.ReadFault) = true
-is_fault (Ok (reply.Response at status fields body)) = false
-is_fault (Ok (reply.Truncated at)) = false
-is_fault (Ok (reply.Bad at)) = false
-is_fault (Err e) = false
+is_fault _ = false
 
 abbrev pub is_response : {E : Type 0} → Result Reply E → Bool
 is_response (Ok (reply.Response at status fields body)) = true
-is_response (Ok (reply.Truncated at)) = false
-is_response (Ok (reply.Bad at)) = false
-is_response (Ok reply.ReadFault) = false
-is_response (Err e) = false
+is_response _ = false
 
 -- P holds of the body of a response
 abbrev pub OnResponse : {E : Type 0} → Result Reply E → (List ℕ → Type 0) → Type 0
 OnResponse (Ok (reply.Response at status fields body)) P = P body.items
-OnResponse (Ok (reply.Truncated at)) P = ⊤
-OnResponse (Ok (reply.Bad at)) P = ⊤
-OnResponse (Ok reply.ReadFault) P = ⊤
-OnResponse (Err e) P = ⊤
+OnResponse _ P = ⊤
 
 -- ---- where the stream is told
 
@@ -78,10 +69,7 @@ IsReplyShort to_head bytes = ReadsResponseMessage to_head bytes truncated ⊎ Go
 
 abbrev pub is_head_fault : {E : Type 0} → Result FinalHead E → Bool
 is_head_fault (Ok final.ReadFault) = true
-is_head_fault (Ok (final.Head at head)) = false
-is_head_fault (Ok (final.Truncated at)) = false
-is_head_fault (Ok (final.Bad at)) = false
-is_head_fault (Err e) = false
+is_head_fault _ = false
 
 abbrev pub TellsHeadAt : {E : Type 0} → (Reads : HeadReading ResponseHead → Type 0) → ℕ → List ℕ → Result FinalHead E → Type 0
 TellsHeadAt Reads place ys (Ok (final.Head at head)) = (at ≡ place) × Reads (headed head ys)

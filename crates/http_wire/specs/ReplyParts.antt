@@ -13,17 +13,11 @@ use Rattle.http_wire.specs.declared.responses.Reply.TheVariants as reply
 -- no fault is told
 abbrev pub IsNoFault : {E : Type 0} → Result Reply E → Type 0
 IsNoFault (Ok reply.ReadFault) = ⊥
-IsNoFault (Ok (reply.Response at status fields body)) = ⊤
-IsNoFault (Ok (reply.Truncated at)) = ⊤
-IsNoFault (Ok (reply.Bad at)) = ⊤
-IsNoFault (Err e) = ⊤
+IsNoFault _ = ⊤
 
 abbrev pub IsNoHeadFault : {E : Type 0} → Result FinalHead E → Type 0
 IsNoHeadFault (Ok final.ReadFault) = ⊥
-IsNoHeadFault (Ok (final.Head at head)) = ⊤
-IsNoHeadFault (Ok (final.Truncated at)) = ⊤
-IsNoHeadFault (Ok (final.Bad at)) = ⊤
-IsNoHeadFault (Err e) = ⊤
+IsNoHeadFault _ = ⊤
 
 -- what stands behind the last head is read so
 abbrev pub ReadsBehind : Bool → ResponseHead → List ℕ → ResponseReading → Type 0

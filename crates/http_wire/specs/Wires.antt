@@ -15,46 +15,28 @@ pub record Connection : Type 0 where
 
 abbrev pub is_fault : {E : Type 0} → Result Message E → Bool
 is_fault (Ok message.ReadFault) = true
-is_fault (Ok (message.Request at head body closes)) = false
-is_fault (Ok message.End) = false
-is_fault (Ok (message.Truncated at)) = false
-is_fault (Ok (message.Bad at flaw)) = false
-is_fault (Err e) = false
+is_fault _ = false
 
 abbrev pub is_request : {E : Type 0} → Result Message E → Bool
 is_request (Ok (message.Request at head body closes)) = true
-is_request (Ok message.End) = false
-is_request (Ok (message.Truncated at)) = false
-is_request (Ok (message.Bad at flaw)) = false
-is_request (Ok message.ReadFault) = false
-is_request (Err e) = false
+is_request _ = false
 
 -- P holds of the body of a request
 abbrev pub OnRequest : {E : Type 0} → Result Message E → (List ℕ → Type 0) → Type 0
 OnRequest (Ok (message.Request at head body closes)) P = P body.items
-OnRequest (Ok message.End) P = ⊤
-OnRequest (Ok (message.Truncated at)) P = ⊤
-OnRequest (Ok (message.Bad at flaw)) P = ⊤
-OnRequest (Ok message.ReadFault) P = ⊤
-OnRequest (Err e) P = ⊤
+OnRequest _ P = ⊤
 
 -- the request that the answer tells
 abbrev pub request_of : {E : Type 0} → Result Message E → Option Request
 request_of (Ok (message.Request at head body closes)) = Some (record { at = at; head = head; body = body.items; closes = closes })
-request_of (Ok message.End) = None
-request_of (Ok (message.Truncated at)) = None
-request_of (Ok (message.Bad at flaw)) = None
-request_of (Ok message.ReadFault) = None
-request_of (Err e) = None
+request_of _ = None
 
 -- what ends the messages, by the answer; a fault and want of memory say nothing of the stream
 abbrev pub stop_of : {E : Type 0} → Result Message E → Option Stop
-stop_of (Ok (message.Request at head body closes)) = None
 stop_of (Ok message.End) = Some stop.ended
 stop_of (Ok (message.Truncated at)) = Some (stop.truncated at)
 stop_of (Ok (message.Bad at flaw)) = Some (stop.bad at flaw)
-stop_of (Ok message.ReadFault) = None
-stop_of (Err e) = None
+stop_of _ = None
 
 -- ---- where the stream is told
 

@@ -96,12 +96,8 @@ failed_refusal refusal.StoreFault = true
 failed_refusal refusal.NoMemory = false
 
 abbrev pub failed_edit : Result ℕ EditEnd → Bool
-failed_edit (Ok n) = false
-failed_edit (Err (end.CatalogBlocked n)) = false
-failed_edit (Err end.Contended) = false
-failed_edit (Err (end.Refused r)) = false
 failed_edit (Err end.StoreFault) = true
-failed_edit (Err end.NoMemory) = false
+failed_edit _ = false
 
 -- ---- the store
 
@@ -129,8 +125,5 @@ pub record Perhaps (old new : Option Objects) (was is : Bool) (e : Edit) (q : P)
 -- What an edit's call leaves in the store: after Ok the record of that number, after a fault perhaps the next one, else nothing.
 abbrev pub Leaves : Result ℕ EditEnd → Edit → Option Objects → Option Objects → Bool → Bool → P → Type 0
 Leaves (Ok n) e old new was is q = Stored old new was is n e
-Leaves (Err (end.CatalogBlocked n)) e old new was is q = Looked old new was is
-Leaves (Err end.Contended) e old new was is q = Looked old new was is
-Leaves (Err (end.Refused r)) e old new was is q = Looked old new was is
 Leaves (Err end.StoreFault) e old new was is q = Perhaps old new was is e q
-Leaves (Err end.NoMemory) e old new was is q = Looked old new was is
+Leaves _ e old new was is q = Looked old new was is

@@ -15,7 +15,5 @@ IsNewLog (Ok s) location old new = (s.location ≡ location) × IsKeptLog s.comm
 IsNewLog (Err r) location old new = ⊤
 
 abbrev pub failed_allowed : Allowed → Bool
-failed_allowed (allowed.Fits l) = false
-failed_allowed (allowed.Refused r) = false
 failed_allowed (allowed.Failed load.StoreFault) = true
-failed_allowed (allowed.Failed load.NoMemory) = false
+failed_allowed _ = false

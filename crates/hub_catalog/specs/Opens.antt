@@ -33,11 +33,8 @@ refusal_for load.StoreFault = refusal.StoreFault
 refusal_for load.NoMemory = refusal.NoMemory
 
 abbrev pub failed_open : {X : Type 0} → Result X OpenRefusal → Bool
-failed_open (Ok x) = false
-failed_open (Err (refusal.Record n f)) = false
-failed_open (Err (refusal.Edit n r)) = false
 failed_open (Err refusal.StoreFault) = true
-failed_open (Err refusal.NoMemory) = false
+failed_open _ = false
 
 -- The record of that number is none, or the catalogue refuses its edit after those before it.
 abbrev pub IsNoOpening : OpenRefusal → ℕ → Option Objects → List Edit → Type 0

@@ -27,10 +27,8 @@ IsAhead ahead.Absent n new = Lacks (record_name_of n) new
 IsAhead (ahead.Failed r) n new = ⊤
 
 abbrev pub failed_ahead : Ahead → Bool
-failed_ahead ahead.There = false
-failed_ahead ahead.Absent = false
 failed_ahead (ahead.Failed load.StoreFault) = true
-failed_ahead (ahead.Failed load.NoMemory) = false
+failed_ahead _ = false
 
 abbrev pub failed_refresh : Result RefreshedCatalog CatalogRefusal → Bool
 failed_refresh (Ok r) = false

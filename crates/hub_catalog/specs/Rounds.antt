@@ -40,10 +40,8 @@ failed_next (next.End x) = failed_refusal x
 -- the edit was published, or memory was wanting before or after
 abbrev pub PublishesNext : Next → Step → P → P → Type 0
 PublishesNext (next.Found m) x p q = Goes p q (x ∷ []) × (m ≡ length (edits q.seen))
-PublishesNext next.Absent x p q = ⊥
-PublishesNext (next.End (refusal.Blocked n)) x p q = ⊥
-PublishesNext (next.End refusal.StoreFault) x p q = ⊥
 PublishesNext (next.End refusal.NoMemory) x p q = Stops p q [] None Abort ⊎ Stops p q (x ∷ []) None Abort
+PublishesNext _ x p q = ⊥
 
 -- how many found edits there are in a round that ended so
 abbrev pub OneFound : CatalogRefusal → ℕ → Type 0
@@ -77,17 +75,13 @@ Tries tried.StoreFault e l p q = Stops p q [] None Abort
 Tries tried.NoMemory e l p q = Stops p q [] None Abort
 
 abbrev pub failed_tried : Tried → Bool
-failed_tried tried.Done = false
-failed_tried tried.Exists = false
 failed_tried tried.StoreFault = true
-failed_tried tried.NoMemory = false
+failed_tried _ = false
 
 -- how many puts the store has stored after a try
 abbrev pub acknowledged_tried : ℕ → Tried → ℕ
 acknowledged_tried before tried.Done = before + 1
-acknowledged_tried before tried.Exists = before
-acknowledged_tried before tried.StoreFault = before
-acknowledged_tried before tried.NoMemory = before
+acknowledged_tried before _ = before
 
 abbrev pub TriedStore : Tried → Edit → ℕ → Option Objects → Option Objects → Bool → Bool → P → Type 0
 TriedStore tried.Done e n old new was is q = Stored old new was is n e

@@ -1,5 +1,5 @@
 -- What the steps of a commit do, one after another.
-use Rattle.std.specs.Prelude.{◌≡◌, ℕ, ◌+◌, ◌^◌, ◌≤◌, ◌<◌, Bool, true, false, List, [], ◌∷◌, ◌++◌, Option, Some, None, Result, Ok, Err, IfSome, IsSome, length}
+use Rattle.std.specs.Prelude.{◌≡◌, ℕ, ◌+◌, ◌^◌, ◌≤◌, ◌<◌, Bool, true, false, List, [], ◌∷◌, ◌++◌, Option, Some, None, Result, Err, IfSome, IsSome, length}
 use Rattle.std.specs.FinMap as finmap
 use Rattle.edge_core.specs.Objects.{Objects}
 use Rattle.log_actions.specs.declared.actions.Action.{Action}
@@ -61,19 +61,13 @@ PlacedStore place.StoreFault name bytes old new was is = AtMost old new was is (
 PlacedStore place.NoMemory name bytes old new was is = Looked old new was is
 
 abbrev pub failed_place : PlaceEnd → Bool
-failed_place place.Done = false
-failed_place place.Exists = false
-failed_place place.Limit = false
 failed_place place.StoreFault = true
-failed_place place.NoMemory = false
+failed_place _ = false
 
 -- how many puts the store has stored after it
 abbrev pub acknowledged_place : ℕ → PlaceEnd → ℕ
 acknowledged_place before place.Done = before + 1
-acknowledged_place before place.Exists = before
-acknowledged_place before place.Limit = before
-acknowledged_place before place.StoreFault = before
-acknowledged_place before place.NoMemory = before
+acknowledged_place before _ = before
 
 -- ---- rounds
 
@@ -97,14 +91,10 @@ failed_again (Some x) = failed_end x
 
 -- how many commits a round found that ended so
 abbrev pub OneFound : Result ℕ CommitRefusal → ℕ → Type 0
-OneFound (Ok v) m = m ≡ 0
 OneFound (Err refusal.NotLoaded) m = ⊥
-OneFound (Err (refusal.Blocked n)) m = m ≡ 0
 OneFound (Err refusal.Contended) m = ⊥
-OneFound (Err (refusal.Conflict c)) m = m ≡ 0
-OneFound (Err refusal.Limit) m = m ≡ 0
-OneFound (Err refusal.StoreFault) m = m ≡ 0
 OneFound (Err refusal.NoMemory) m = m ≤ 1
+OneFound _ m = m ≡ 0
 
 -- from where the caller had begun on: found commits, and then the acts that end it
 pub record CommitRuns (r : Result ℕ CommitRefusal) (now : ℕ) (o : Offer) (old new : Option Objects) (p q : P) (j : ℕ) : Type 0 where

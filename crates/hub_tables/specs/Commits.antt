@@ -76,23 +76,12 @@ HasNext now o old new log = (c : List Action) × (admitted log now o ≡ Ok c) �
 -- admitted one, under the next version's; else nothing.
 abbrev pub CommitLeft : Result ℕ CommitRefusal → ℕ → Offer → ℕ → Option Objects → Option Objects → Bool → Bool → P → Type 0
 CommitLeft (Ok v) now o j old new was is q = (c : List Action) × EndsOwn q j c × Places old new was is (commit_name o.location v) (commit_text c)
-CommitLeft (Err refusal.NotLoaded) now o j old new was is q = Looked old new was is
-CommitLeft (Err (refusal.Blocked n)) now o j old new was is q = Looked old new was is
-CommitLeft (Err refusal.Contended) now o j old new was is q = Looked old new was is
-CommitLeft (Err (refusal.Conflict c)) now o j old new was is q = Looked old new was is
-CommitLeft (Err refusal.Limit) now o j old new was is q = Looked old new was is
 CommitLeft (Err refusal.StoreFault) now o j old new was is q = AtMost old new was is (There (table_on j q.seen) (λ t. HasNext now o old new t.commits))
-CommitLeft (Err refusal.NoMemory) now o j old new was is q = Looked old new was is
+CommitLeft _ now o j old new was is q = Looked old new was is
 
 abbrev pub CommitLeaves : Result ℕ CommitRefusal → ℕ → Offer → Option Objects → Option Objects → Bool → Bool → P → Type 0
 CommitLeaves r now o old new was is q = ((r ≡ Err refusal.NotLoaded) × Looked old new was is) ⊎ OnLog o q (λ j. CommitLeft r now o j old new was is q)
 
 abbrev pub failed_commit : Result ℕ CommitRefusal → Bool
-failed_commit (Ok v) = false
-failed_commit (Err refusal.NotLoaded) = false
-failed_commit (Err (refusal.Blocked n)) = false
-failed_commit (Err refusal.Contended) = false
-failed_commit (Err (refusal.Conflict c)) = false
-failed_commit (Err refusal.Limit) = false
 failed_commit (Err refusal.StoreFault) = true
-failed_commit (Err refusal.NoMemory) = false
+failed_commit _ = false

@@ -59,7 +59,5 @@ Refreshes (Err refusal.StoreFault) location old new p q = Adds p q [] ⊎ ((j : 
 Refreshes (Err refusal.NoMemory) location old new p q = Adds p q [] ⊎ ((j : ℕ) × (log_at q.seen location ≡ Some j) × RefreshCut location new p q j)
 
 abbrev pub failed_refresh : Result Refreshed RefreshRefusal → Bool
-failed_refresh (Ok r) = false
-failed_refresh (Err refusal.NotLoaded) = false
 failed_refresh (Err refusal.StoreFault) = true
-failed_refresh (Err refusal.NoMemory) = false
+failed_refresh _ = false

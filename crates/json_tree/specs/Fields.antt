@@ -1,6 +1,6 @@
 -- The fields of a JSON object, by their kinds.
 use Rattle.std.specs.Prelude.{ℕ, ℤ, List, [], ◌∷◌, Option, Some, None, Result, Ok, Err, option_map, option_and_then, is_some, cond}
-use Rattle.serde_json.specs.Data.{Data, null, boolean, number, string, array, object, Items, no_items, item, Members, no_members, member}
+use Rattle.serde_json.specs.Data.{Data, null, string, Items, no_items, item, Members, no_members, member}
 use Rattle.serde_json.specs.Find.{get, as_number, as_str, as_array, as_object, as_i64}
 use Rattle.json_tree.specs.declared.fields.FieldFault.{FieldFault}
 use Rattle.json_tree.specs.declared.fields.FieldFault.TheVariants.{WrongKind}
@@ -8,11 +8,7 @@ use Rattle.json_tree.specs.declared.fields.FieldFault.TheVariants.{WrongKind}
 -- a value, unless it is null
 abbrev pub non_null : Data → Option Data
 non_null null = None
-non_null (boolean b) = Some (boolean b)
-non_null (number n) = Some (number n)
-non_null (string s) = Some (string s)
-non_null (array ds) = Some (array ds)
-non_null (object ms) = Some (object ms)
+non_null d = Some d
 
 -- the member of that name, unless it is null
 abbrev pub present : List ℕ → Data → Option Data
@@ -50,11 +46,8 @@ texts d = option_and_then texts_of (as_array d)
 -- a text or null
 abbrev pub text_or_null : Data → Option (Option (List ℕ))
 text_or_null null = Some None
-text_or_null (boolean b) = None
-text_or_null (number n) = None
 text_or_null (string s) = Some (Some s)
-text_or_null (array ds) = None
-text_or_null (object ms) = None
+text_or_null _ = None
 
 -- a name with a text or null
 abbrev pub pair_in : List ℕ → Data → Option (List ℕ × Option (List ℕ))

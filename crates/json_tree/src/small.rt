@@ -20,7 +20,7 @@ pub struct Milliseconds;
 
 /// What a version of a table's log counts: the commits before it.
 #[derive(Clone, Copy, PartialEq, Eq, Drop)]
-pub struct Commits;
+pub struct CommitsBefore;
 
 /// What an edition counts: how often something was done.
 #[derive(Clone, Copy, PartialEq, Eq, Drop)]
@@ -34,7 +34,7 @@ pub struct Elements;
 pub type Millis = Small<Milliseconds>;
 
 /// A version of a table's log, below 2^63.
-pub type Version = Small<Commits>;
+pub type Version = Small<CommitsBefore>;
 
 /// How often something was done of which a later doing is another one, below 2^63: never is 0.
 pub type Edition = Small<Doings>;

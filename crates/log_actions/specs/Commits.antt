@@ -7,44 +7,27 @@ use Rattle.log_actions.specs.Paths.{is_good_path}
 
 abbrev pub is_protocol : Action → Bool
 is_protocol (action.Protocol p) = true
-is_protocol (action.MetaData m) = false
-is_protocol (action.Add f) = false
-is_protocol (action.Remove f) = false
-is_protocol (action.Cdc f) = false
-is_protocol (action.Txn t) = false
-is_protocol (action.CommitInfo i) = false
+is_protocol _ = false
 
 abbrev pub is_meta_data : Action → Bool
-is_meta_data (action.Protocol p) = false
 is_meta_data (action.MetaData m) = true
-is_meta_data (action.Add f) = false
-is_meta_data (action.Remove f) = false
-is_meta_data (action.Cdc f) = false
-is_meta_data (action.Txn t) = false
-is_meta_data (action.CommitInfo i) = false
+is_meta_data _ = false
 
 -- whether the path that an action has, if it has one, is good
 abbrev pub has_good_path : Action → Bool
-has_good_path (action.Protocol p) = true
-has_good_path (action.MetaData m) = true
 has_good_path (action.Add f) = is_good_path f.path
 has_good_path (action.Remove f) = is_good_path f.path
 has_good_path (action.Cdc f) = is_good_path f.path
-has_good_path (action.Txn t) = true
-has_good_path (action.CommitInfo i) = true
+has_good_path _ = true
 
 abbrev pub unless : Bool → List ℕ → Option (List ℕ)
 unless vector path = if vector then None else Some path
 
 -- the path of an add or a remove without a deletion vector
 abbrev pub counted_path : Action → Option (List ℕ)
-counted_path (action.Protocol p) = None
-counted_path (action.MetaData m) = None
 counted_path (action.Add f) = unless f.vector f.path
 counted_path (action.Remove f) = unless f.vector f.path
-counted_path (action.Cdc f) = None
-counted_path (action.Txn t) = None
-counted_path (action.CommitInfo i) = None
+counted_path _ = None
 
 -- each stands among them once
 abbrev pub are_distinct : List (List ℕ) → Bool

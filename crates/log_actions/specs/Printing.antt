@@ -124,10 +124,6 @@ line_text a = compact_text (action_data a)
 
 -- whether there is a deletion vector, which a line leaves out
 abbrev pub has_vector : Action → Bool
-has_vector (action.Protocol p) = false
-has_vector (action.MetaData m) = false
 has_vector (action.Add f) = f.vector
 has_vector (action.Remove f) = f.vector
-has_vector (action.Cdc f) = false
-has_vector (action.Txn t) = false
-has_vector (action.CommitInfo i) = false
+has_vector _ = false

@@ -28,7 +28,5 @@ failed_load (Err load.NoMemory) = false
 
 -- whether a step ended with a fault of the store
 abbrev pub failed_step : {X : Type 0} → Result X Stop → Bool
-failed_step (Ok x) = false
-failed_step (Err (stop.Blocked c)) = false
 failed_step (Err (stop.Failed load.StoreFault)) = true
-failed_step (Err (stop.Failed load.NoMemory)) = false
+failed_step _ = false

@@ -73,10 +73,8 @@ only_item (item d (item e ds)) = None
 
 -- the two children
 abbrev pub two_items : Items → Option (Data × Data)
-two_items no_items = None
-two_items (item d no_items) = None
 two_items (item d (item e no_items)) = Some (d, e)
-two_items (item d (item e (item f ds))) = None
+two_items _ = None
 
 -- a comparison of two leaves
 abbrev pub comparison_of : (Data → Option Leaf) → Comparison → Data × Data → Option Tree

@@ -35,9 +35,9 @@ shown_by by.Nothing values = false
 shown_by (by.Where pred) values = is_true (bound_truth values pred)
 
 -- whether this shows a file
-abbrev pub is_seen : Shown → AddFile → Bool
-is_seen s file = shown_by s.by file.values
+abbrev pub shown_in : Shown → AddFile → Bool
+shown_in s file = shown_by s.by file.values
 
 -- what is shown of tables with this metaData by such a text
 abbrev pub IsShown : Option (List ℕ) → MetaData → Shown → Type 0
-IsShown only meta s = (file : AddFile) → is_seen s file ≡ shows only meta file
+IsShown only meta s = (file : AddFile) → shown_in s file ≡ shows only meta file

@@ -53,36 +53,20 @@ of_test true = True
 of_test false = False
 
 abbrev pub boolean_in : Typed → Option Bool
-boolean_in null = None
 boolean_in (boolean b) = Some b
-boolean_in (whole n) = None
-boolean_in (text t) = None
-boolean_in (day d) = None
-boolean_in unread = None
+boolean_in _ = None
 
 abbrev pub whole_in : Typed → Option ℤ
-whole_in null = None
-whole_in (boolean b) = None
 whole_in (whole n) = Some n
-whole_in (text t) = None
-whole_in (day d) = None
-whole_in unread = None
+whole_in _ = None
 
 abbrev pub text_in : Typed → Option (List ℕ)
-text_in null = None
-text_in (boolean b) = None
-text_in (whole n) = None
 text_in (text t) = Some t
-text_in (day d) = None
-text_in unread = None
+text_in _ = None
 
 abbrev pub day_in : Typed → Option ℤ
-day_in null = None
-day_in (boolean b) = None
-day_in (whole n) = None
-day_in (text t) = None
 day_in (day d) = Some d
-day_in unread = None
+day_in _ = None
 
 abbrev pub text_order : List ℕ → Option (List ℕ) → Option Ordering
 text_order t other = option_map (slice_cmp nat_cmp t) other
@@ -119,11 +103,7 @@ if_ordered c (Some o) = of_test (holds c o)
 
 abbrev pub is_null : Typed → Bool
 is_null null = true
-is_null (boolean b) = false
-is_null (whole n) = false
-is_null (text t) = false
-is_null (day d) = false
-is_null unread = false
+is_null _ = false
 
 -- a file's text at a column, nothing where it is null or missing
 abbrev pub text_of_column : List ℕ → Pairs → Option (List ℕ)

@@ -1,6 +1,6 @@
 // Which files of a table are shown where it is shared in part.
 ghost use Rattle.std.specs.Prelude.{◌≡◌, IfOk, option_copied};
-ghost use Rattle.pred_tree.specs.Shown.{IsShown, is_seen};
+ghost use Rattle.pred_tree.specs.Shown.{IsShown, shown_in};
 
 use crate::{BoundPred, bind, pred_of};
 use log_actions::{AddFile, MetaData};
@@ -43,7 +43,7 @@ impl Shown {
 
     /// Whether the file is shown. Takes no memory.
     pub fn shows(&self, file: &AddFile) -> bool
-        ensures { result ≡ is_seen self.now file.now }
+        ensures { result ≡ shown_in self.now file.now }
     {
         match &self.by {
             ShownBy::All => true,

@@ -29,10 +29,8 @@ replay_fault no_state.NoMemory = fault.NoMemory
 
 -- whether a call of the store failed
 abbrev pub failed_lines : Result (Vec ℕ Global) LinesFault → Bool
-failed_lines (Ok text) = false
-failed_lines (Err (fault.Refused why)) = false
 failed_lines (Err fault.StoreFault) = true
-failed_lines (Err fault.NoMemory) = false
+failed_lines _ = false
 
 -- The version is the one that is meant, or it is said why there is none. Want of memory says nothing.
 abbrev pub IsVersion : Result ℕ Unresolved → Result ℕ LinesFault → Type 0

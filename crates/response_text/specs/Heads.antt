@@ -58,18 +58,10 @@ size_fields (Some size) = (codes "Content-Range", codes "bytes */" ++ decimal si
 abbrev pub status_fields : Status → Fields
 status_fields (status.Ok version) = version_fields version
 status_fields (status.PartialContent range) = (codes "Content-Range", range_text range) ∷ []
-status_fields status.BadRequest = []
 status_fields status.Unauthorized = (codes "WWW-Authenticate", codes "Bearer") ∷ []
-status_fields status.Forbidden = []
-status_fields status.NotFound = []
 status_fields (status.MethodNotAllowed method) = (codes "Allow", allowed_names method) ∷ []
-status_fields status.Conflict = []
-status_fields status.ContentTooLarge = []
 status_fields (status.RangeNotSatisfiable size) = size_fields size
-status_fields status.RequestHeaderFieldsTooLarge = []
-status_fields status.InternalServerError = []
-status_fields status.NotImplemented = []
-status_fields status.ServiceUnavailable = []
+status_fields _ = []
 
 -- of the bytes of a file parts may be asked for (RFC 9110, section 14.3)
 abbrev pub unit_fields : ContentType → Fields

@@ -2,7 +2,7 @@
 use Rattle.std.proofs.Common.{◌≡◌, ◌≢◌, ℕ, List, [], ◌∷◌, ◌++◌, Bool, true, false, cond, Option, Some, None, refl, sym, ap, ◌∙◌, subst, bytes_eq, true≢false, arith}
 use Rattle.std.specs.Prelude.{unwrap_or}
 use Rattle.std.specs.Option.{IfSome}
-use Rattle.share_catalog.specs.Catalogue.{IsHolder, credential, has_digest, is_holder, is_of, last_credential, last_word, refusal_of, says_credential, says_recipient}
+use Rattle.share_catalog.specs.Catalogue.{IsHolder, has_digest, is_holder, is_of, last_credential, last_word, refusal_of, says_credential, says_recipient}
 use Rattle.share_catalog.specs.Fits.{Fits}
 use Rattle.share_catalog.specs.Maps.{Maps, after, holder_in}
 use Rattle.share_catalog.specs.Views.{name_of, token}

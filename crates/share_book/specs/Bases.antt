@@ -69,11 +69,8 @@ ReplaysAt history ask before after = (r : Option Replay) × MakesFound (commits_
 
 -- files that are found of a log are its state at a version
 abbrev pub PartStands : Log → PartFound → Type 0
-PartStands log part_found.Nothing = ⊤
-PartStands log (part_found.Version version) = ⊤
 PartStands log (part_found.Files version state) = IsStateIn log.commits state
-PartStands log (part_found.Feed feed) = ⊤
-PartStands log (part_found.Refused why) = ⊤
+PartStands log _ = ⊤
 
 abbrev pub FilesStand : List Entry → Found → Type 0
 FilesStand history (found.Names names) = ⊤

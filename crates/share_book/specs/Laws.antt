@@ -73,14 +73,17 @@ ForeignEntriesLeaveViews = (history : List Entry) (e : Entry) (r : List ℕ) →
 abbrev pub Finds : List Entry → List ℕ → List ℕ → Type 0
 Finds history digest r = name_of (edits history) (token digest) ≡ Some r
 
+-- the recipient's credential now has the digest: an earlier one doesn't count
+abbrev pub Holds : List Entry → List ℕ → List ℕ → Type 0
+Holds history digest r = There (credential (edits history) r) (λ c. c.digest ≡ digest)
+
 -- an edit that gives nobody a credential of the digest
 abbrev pub GivesNobody : List ℕ → Edit → Type 0
 GivesNobody digest x = (r : List ℕ) → IfSome (says_credential r x) (λ c. c.digest ≢ digest)
 
--- The same by a token. It finds the one recipient whose credential now has its digest, so that one that was rotated away finds nobody; it shows what that recipient is shown, and nothing else; a foreign entry takes it from nobody, and it finds
--- nobody until it is given to somebody.
+-- The same by a token. It finds who holds it now, so that one that was rotated away finds nobody; it shows what that recipient sees, and no more; a foreign entry leaves what it shows; and one that finds nobody finds nobody until it is given.
 pub record TokensShowViews : Type 0 where
-  pub holder : (history : List Entry) (digest r : List ℕ) → IsLegal history → (Finds history digest r → There (credential (edits history) r) (λ c. c.digest ≡ digest)) × (There (credential (edits history) r) (λ c. c.digest ≡ digest) → Finds history digest r)
+  pub holder : (history : List Entry) (digest r : List ℕ) → IsLegal history → (Finds history digest r → Holds history digest r) × (Holds history digest r → Finds history digest r)
   pub shown : (history other : List Entry) (digest r : List ℕ) → IsLegal history → IsLegal other → Finds history digest r → ShowsTheSame history other r → view_by history (token digest) ≡ view_by other (token digest)
   pub entries : (history : List Entry) (e : Entry) (digest r : List ℕ) → IsLegal (history ++ e ∷ []) → Finds history digest r → IsForeign history r e → view_by (history ++ e ∷ []) (token digest) ≡ view_by history (token digest)
   pub nobody : (history : List Entry) (e : Entry) (digest : List ℕ) → IsLegal (history ++ e ∷ []) → view_by history (token digest) ≡ None → IfSome (edit_in e) (GivesNobody digest) → view_by (history ++ e ∷ []) (token digest) ≡ None

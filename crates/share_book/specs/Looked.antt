@@ -53,7 +53,4 @@ commits_by history r (want.Table t p) = let spot = catalog.shared (edits history
 -- a version that was found is kept
 abbrev pub IsKept : Log → PartFound → Type 0
 IsKept log (part_found.Version version) = version < length log.commits
-IsKept log part_found.Nothing = ⊤
-IsKept log (part_found.Files version state) = ⊤
-IsKept log (part_found.Feed feed) = ⊤
-IsKept log (part_found.Refused why) = ⊤
+IsKept log _ = ⊤

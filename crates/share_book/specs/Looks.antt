@@ -84,12 +84,8 @@ commits_of view w = option_and_then (commits_in w) view
 -- ---- and when they are made
 
 abbrev pub part_with : Option (List (List Action)) → PartFound → PartFound
-part_with None p = p
-part_with (Some commits) part_found.Nothing = part_found.Nothing
 part_with (Some commits) (part_found.Version version) = files_of version (state_of commits)
-part_with (Some commits) (part_found.Files version state) = part_found.Files version state
-part_with (Some commits) (part_found.Feed feed) = part_found.Feed feed
-part_with (Some commits) (part_found.Refused why) = part_found.Refused why
+part_with _ p = p
 
 abbrev pub found_with : Option (List (List Action)) → Found → Found
 found_with commits (found.Names names) = found.Names names

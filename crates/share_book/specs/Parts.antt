@@ -34,9 +34,7 @@ resolved_at log b = resolved (marks_in log.commits) log.blocked b
 
 abbrev pub is_latest : Bound → Bool
 is_latest bound.Latest = true
-is_latest (bound.Version v) = false
-is_latest (bound.AtOrBefore m) = false
-is_latest (bound.AtOrAfter m) = false
+is_latest _ = false
 
 -- the version that a bound means, where earlier ones are shared or it is the latest
 abbrev pub head_found : Bool → Log → Bound → PartFound
@@ -97,10 +95,7 @@ up_to log version = take (version + 1) log.commits
 -- a version that was found, with its files
 abbrev pub with_files : Log → PartFound → PartFound
 with_files log (part_found.Version version) = files_of version (state_of (up_to log version))
-with_files log part_found.Nothing = part_found.Nothing
-with_files log (part_found.Files version state) = part_found.Files version state
-with_files log (part_found.Feed feed) = part_found.Feed feed
-with_files log (part_found.Refused why) = part_found.Refused why
+with_files log found = found
 
 -- ---- a part
 
@@ -125,16 +120,10 @@ version_of history log (part.PinnedFeed from to) = pinned_feed log from to
 -- the commits of which the files of a version are made
 abbrev pub commits_by : Log → PartFound → Option (List (List Action))
 commits_by log (part_found.Version version) = Some (up_to log version)
-commits_by log part_found.Nothing = None
-commits_by log (part_found.Files version state) = None
-commits_by log (part_found.Feed feed) = None
-commits_by log (part_found.Refused why) = None
+commits_by log _ = None
 
 -- those that a part wants, none where no files are asked or no version is found
 abbrev pub commits_for : Log → Part → PartFound → Option (List (List Action))
 commits_for log (part.Files b) found = commits_by log found
 commits_for log (part.PinnedFiles version) found = commits_by log found
-commits_for log part.Place found = None
-commits_for log (part.Head b) found = None
-commits_for log (part.Feed from to) found = None
-commits_for log (part.PinnedFeed from to) found = None
+commits_for log _ found = None

@@ -30,26 +30,21 @@ EditionsRise = (edits : List Edit) (e : Edit) (r s : List ℕ) (t : TableName)
     → (grant_edition edits r s ≤ grant_edition (with edits e) r s) × (binding_edition edits t ≤ binding_edition (with edits e) t)
 
 abbrev pub names_recipient : List ℕ → Edit → Bool
-names_recipient r (edit.NewShare n) = false
-names_recipient r (edit.DropShare n) = false
-names_recipient r (edit.Bind t b) = false
-names_recipient r (edit.Unbind t) = false
 names_recipient r (edit.NewRecipient n c) = bytes_eq n r
 names_recipient r (edit.Rotate n c) = bytes_eq n r
 names_recipient r (edit.DropRecipient n) = bytes_eq n r
 names_recipient r (edit.Grant a s) = bytes_eq a r
 names_recipient r (edit.Revoke a s) = bytes_eq a r
+names_recipient r _ = false
 
 abbrev pub names_share : List ℕ → Edit → Bool
 names_share s (edit.NewShare n) = bytes_eq n s
 names_share s (edit.DropShare n) = bytes_eq n s
 names_share s (edit.Bind t b) = bytes_eq t.share s
 names_share s (edit.Unbind t) = bytes_eq t.share s
-names_share s (edit.NewRecipient n c) = false
-names_share s (edit.Rotate n c) = false
-names_share s (edit.DropRecipient n) = false
 names_share s (edit.Grant a n) = bytes_eq n s
 names_share s (edit.Revoke a n) = bytes_eq n s
+names_share s _ = false
 
 -- an edit that doesn't name the recipient leaves its credential, and what it is granted of a share that the edit doesn't name
 abbrev pub LeavesOthers : Type 0

@@ -33,14 +33,7 @@ SaysRefusal body None = (refusal : Refusal) (detail : List ℕ) → IsUtf8 detai
 abbrev pub TellsRefused : Response → ClientFault → Type 0
 TellsRefused r (fault.Refused status refusal) = (status ≡ r.status) × SaysRefusal r.body.items refusal
 TellsRefused r fault.NoMemory = ⊤
-TellsRefused r (fault.BadReply at) = ⊥
-TellsRefused r (fault.PageChanged first other) = ⊥
-TellsRefused r (fault.SizeChanged first other) = ⊥
-TellsRefused r fault.TooManyPages = ⊥
-TellsRefused r fault.BadUrl = ⊥
-TellsRefused r fault.PeerFault = ⊥
-TellsRefused r fault.ReadFault = ⊥
-TellsRefused r fault.WriteFault = ⊥
+TellsRefused r _ = ⊥
 
 -- a whole response came of a status that is fine
 pub record AnswersWith (w : Wanted) (target : Target) (text : List ℕ) (r : Response) (old new : Side) : Type 0 where

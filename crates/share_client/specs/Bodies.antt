@@ -1,6 +1,6 @@
 -- The body of a query (Delta Sharing PROTOCOL.md, "Read Data from a Table"): a JSON object, here without a number that isn't whole.
 use Rattle.std.specs.Prelude.{ℕ, List, [], Bool, false, not, ◌&&◌, is_some, Option, Some, None, Result, Ok, Err, if◌then◌else◌, codes}
-use Rattle.serde_json.specs.Data.{Data, null, boolean, number, string, array, object, put}
+use Rattle.serde_json.specs.Data.{Data, string, object, put}
 use Rattle.serde_json.specs.Find.{as_object}
 use Rattle.serde_json.specs.Written.{compact_text, has_float}
 use Rattle.json_tree.specs.Tree.{tree_in}
@@ -24,11 +24,7 @@ query_in text = if is_query_text text then Some text else None
 -- the object with that page token
 abbrev pub with_token : List ℕ → Data → Data
 with_token token (object ms) = object (put (codes "pageToken") (string token) ms)
-with_token token null = null
-with_token token (boolean b) = boolean b
-with_token token (number n) = number n
-with_token token (string s) = string s
-with_token token (array ds) = array ds
+with_token token d = d
 
 abbrev pub printed : List ℕ → Result Data TreeFault → List ℕ
 printed token (Ok d) = compact_text (with_token token d)

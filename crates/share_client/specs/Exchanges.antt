@@ -22,12 +22,7 @@ TalkFails to_head text bytes written (fault.BadReply at) = (at ≡ 0) × (writte
 TalkFails to_head text bytes written fault.ReadFault = written ≡ text
 TalkFails to_head text bytes written fault.WriteFault = IsPrefix written text
 TalkFails to_head text bytes written fault.NoMemory = written ≡ text
-TalkFails to_head text bytes written fault.PeerFault = ⊥
-TalkFails to_head text bytes written fault.BadUrl = ⊥
-TalkFails to_head text bytes written fault.TooManyPages = ⊥
-TalkFails to_head text bytes written (fault.Refused status refusal) = ⊥
-TalkFails to_head text bytes written (fault.PageChanged first other) = ⊥
-TalkFails to_head text bytes written (fault.SizeChanged first other) = ⊥
+TalkFails to_head text bytes written _ = ⊥
 
 abbrev pub Talked : Bool → (text bytes written : List ℕ) → Result Response ClientFault → Type 0
 Talked to_head text bytes written (Ok r) = (written ≡ text) × HoldsResponse to_head bytes r

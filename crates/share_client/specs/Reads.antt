@@ -9,14 +9,7 @@ use Rattle.share_client.specs.declared.fault.ClientFault.TheVariants as fault
 abbrev pub Unread : {X : Type 0} → Option X → ClientFault → Type 0
 Unread read (fault.BadReply at) = (at ≡ 0) × (read ≡ None)
 Unread read fault.NoMemory = ⊤
-Unread read (fault.Refused status refusal) = ⊥
-Unread read (fault.PageChanged first other) = ⊥
-Unread read (fault.SizeChanged first other) = ⊥
-Unread read fault.TooManyPages = ⊥
-Unread read fault.BadUrl = ⊥
-Unread read fault.PeerFault = ⊥
-Unread read fault.ReadFault = ⊥
-Unread read fault.WriteFault = ⊥
+Unread read _ = ⊥
 
 abbrev pub GivesText : Result (Option (List ℕ)) ClientFault → Option (Option (List ℕ)) → Type 0
 GivesText (Ok text) read = read ≡ Some text

@@ -27,32 +27,19 @@ pub record TablePage (X : Type 0) : Type 0 where
 -- the file of a line that has one
 abbrev pub file_in : Line → Option FileLine
 file_in (line.File f) = Some f
-file_in line.Protocol = None
-file_in (line.MetaData m) = None
-file_in (line.Add f) = None
-file_in (line.Cdf f) = None
-file_in (line.Remove f) = None
-file_in (line.End e) = None
+file_in _ = None
 
 -- a line of a change
 abbrev pub change_in : Line → Option Line
 change_in (line.Add f) = Some (line.Add f)
 change_in (line.Cdf f) = Some (line.Cdf f)
 change_in (line.Remove f) = Some (line.Remove f)
-change_in (line.File f) = None
-change_in line.Protocol = None
-change_in (line.MetaData m) = None
-change_in (line.End e) = None
+change_in _ = None
 
 -- the token of an end, which has to be the last line
 abbrev pub token_of : Line → (last : Bool) → Option (Option (List ℕ))
 token_of (line.End e) last = if last then Some (unless_empty e.token) else None
-token_of line.Protocol last = None
-token_of (line.MetaData m) last = None
-token_of (line.File f) last = None
-token_of (line.Add f) last = None
-token_of (line.Cdf f) last = None
-token_of (line.Remove f) last = None
+token_of _ last = None
 
 abbrev pub after_protocol : List Line → Option (List Line)
 after_protocol (line.Protocol ∷ ls) = Some ls

@@ -15,14 +15,7 @@ use Rattle.share_client.specs.declared.page_head.PageHead.{PageHead}
 abbrev pub TellsChange : Option (List ℕ × List ℕ) → ClientFault → Type 0
 TellsChange change (fault.PageChanged first other) = change ≡ Some (first, other)
 TellsChange change fault.NoMemory = ⊤
-TellsChange change (fault.BadReply at) = ⊥
-TellsChange change (fault.Refused status refusal) = ⊥
-TellsChange change (fault.SizeChanged first other) = ⊥
-TellsChange change fault.TooManyPages = ⊥
-TellsChange change fault.BadUrl = ⊥
-TellsChange change fault.PeerFault = ⊥
-TellsChange change fault.ReadFault = ⊥
-TellsChange change fault.WriteFault = ⊥
+TellsChange change _ = ⊥
 
 abbrev pub Compares : Option (List ℕ × List ℕ) → Result ⊤ ClientFault → Type 0
 Compares change (Ok same) = change ≡ None

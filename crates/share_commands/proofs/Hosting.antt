@@ -51,7 +51,7 @@ fresh_at hub h (q ∷ ps) n (suc i) p all less =
     let same : n + 1 + i ≡ n + suc i = omega arith in
     fresh_at hub h ps (n + 1) i p all.1 (omega (arith, less)) ∙ ap (λ z. fresh hub z h) same
 
-pub numbered : (hub : CellId) (h : List Entry) (ps : List P) (i : ℕ) (p : P) → AllFresh hub h 0 ps → i < length ps → slice_index_or ps i p ≡ fresh hub i h
+numbered : (hub : CellId) (h : List Entry) (ps : List P) (i : ℕ) (p : P) → AllFresh hub h 0 ps → i < length ps → slice_index_or ps i p ≡ fresh hub i h
 numbered hub h ps i p all less =
     let same : 0 + i ≡ i = omega arith in
     fresh_at hub h ps 0 i p all less ∙ ap (λ z. fresh hub z h) same

@@ -14,8 +14,10 @@ use Rattle.hub_catalog.specs.Opens.{first_history}
 use Rattle.share_book.specs.History.{caller_of}
 use Rattle.share_book.specs.Views.{view_by}
 use Rattle.share_book.specs.declared.entry.Entry.{Entry}
+use Rattle.query_body.specs.declared.query.QueryBody.{QueryBody}
 use Rattle.share_catalog.specs.Views.{named}
-use Rattle.share_commands.specs.Headline.{AreConnections, AreReplies, EqualViewsAnswerAlike, IsByView, IsIn, QueriesAreWhole, ServeKeeps, StdioKeeps, WritesReplies, own_view, reply_by}
+use Rattle.share_catalog.specs.declared.table_name.TableName.{TableName}
+use Rattle.share_commands.specs.Headline.{AreConnections, AreReplies, EqualViewsAnswerAlike, IsAnswered, IsByView, IsIn, QueriesAreWhole, ServeKeeps, SpellsNext, StdioKeeps, WritesReplies, own_view, reply_by}
 use Rattle.share_commands.specs.Serve.{WorkersServe, WorksAt}
 use Rattle.share_config.specs.declared.config.Config.{Config}
 use Rattle.share_pool.specs.Desks.{DeskWorks}
@@ -61,17 +63,24 @@ own_is keys (request.ByLink link) history = by_parts (parts_of keys.link link.ta
     by_parts None = refl
     by_parts (Some parts) = refl
 
+answer_is : (keys : ReplyKeys) (point seen : List Entry) (moment : ℕ) (r : Request) → point ≡ seen → answered_at keys seen moment r ≡ answered keys (own_view keys r point) moment r
+answer_is keys point seen moment r at = ap (λ view. answered keys view moment r) (own_is keys r seen ∙ ap (own_view keys r) (sym at))
+
 reply_is : (keys : ReplyKeys) (point seen : List Entry) (moment : ℕ) (r : Request) → point ≡ seen → reply_of keys (answered_at keys seen moment r) ≡ reply_by keys (own_view keys r point) moment r
-reply_is keys point seen moment r at =
-    ap (λ view. reply_of keys (answered keys view moment r)) (own_is keys r seen ∙ ap (own_view keys r) (sym at))
+reply_is keys point seen moment r at = ap (reply_of keys) (answer_is keys point seen moment r at)
 
 pub writes_replies : WritesReplies
-writes_replies server t text old new w = (by_view, w.point)
+writes_replies server t text old new w = (by_view, spells_next, w.point)
   where
     by_view : IsByView server t old.hold.shelf new.hold.shelf
     by_view is =
         let views = subst (λ b. AnswersBy server (request_of t) b t.moment t.response old.hold new.hold) is w.answers in
         subst (λ p. ReplyIs p t.response old.hold.shelf new.hold.shelf) (reply_is server.keys t.point new.hold.pass.seen t.moment (request_of t) w.point) views.reply
+
+    spells_next : SpellsNext server t
+    spells_next is =
+        let views = subst (λ b. AnswersBy server (request_of t) b t.moment t.response old.hold new.hold) is w.answers in
+        subst (chain.NextIsSpelt server.keys) (answer_is server.keys t.point new.hold.pass.seen t.moment (request_of t) w.point) views.spelt
 
 -- ---- one connection
 
@@ -81,6 +90,7 @@ are_replies server history old new (t ∷ turns) r before =
     let w = r.1.responds in (
       subst (λ (p : List Entry). IsPrefix old.side.hold.pass.seen p) (sym w.point) w.grew.pass.seen,
       (old.side.hold.shelf, r.0.side.hold.shelf, (writes_replies server t _ old.side r.0.side w).0),
+      (writes_replies server t _ old.side r.0.side w).1,
       subst (λ (p : List Entry). AreReplies server history p turns) (sym w.point) (are_replies server history r.0 new turns r.2 before),
     )
 
@@ -152,14 +162,28 @@ equal_views server t t' before after before' after' is here there same_request s
 
 -- ---- a run
 
-queries : chain.ChainsAreWhole → (keys : ReplyKeys) (history : List Entry) → QueriesAreWhole keys history
-queries whole keys history name t turns is typed = whole keys name history t turns is typed
+-- the turns of a chain that connections have answered are spelt
+turn_spelt : (server : Server) (name : TableName) (t : chain.Turn QueryBody) → IsAnswered server name t → chain.NextIsSpelt server.keys (chain.answer_at chain.by_files server.keys name t)
+turn_spelt server name t a =
+    let keys = server.keys in
+    let u = a.turn in
+    let own : chain.NextIsSpelt keys (answered_at keys t.point u.moment (request_of u)) =
+    subst (chain.NextIsSpelt keys) (sym (answer_is keys u.point t.point u.moment (request_of u) a.point)) (a.spelt a.recipient) in
+    subst (λ (r : Request). chain.NextIsSpelt keys (answered_at keys t.point t.moment r)) a.asks
+    (subst (λ (m : ℕ). chain.NextIsSpelt keys (answered_at keys t.point m (request_of u))) a.moment own)
+
+turns_spelt : (server : Server) (name : TableName) (turns : List (chain.Turn QueryBody)) → All (IsAnswered server name) turns → chain.AreSpelt chain.by_files server.keys name turns
+turns_spelt server name [] all = tt
+turns_spelt server name (t ∷ turns) all = (turn_spelt server name t (All-head (IsAnswered server name) t turns all), turns_spelt server name turns (All-tail (IsAnswered server name) t turns all))
+
+queries : chain.ChainsAreWhole → (server : Server) (history : List Entry) → QueriesAreWhole server history
+queries whole server history name t turns is all = whole server.keys name history t turns is (turns_spelt server name (t ∷ turns) all)
 
 pub stdio_keeps : chain.ChainsAreWhole → StdioKeeps
 stdio_keeps whole config e old new s = record {
   legal = s.known.legal;
   replies = session_replies (server_of config) s.last.seen _ _ _ _ e s.session (prefix_self s.last.seen);
-  queries = queries whole (server_of config).keys s.last.seen;
+  queries = queries whole (server_of config) s.last.seen;
 }
 
 -- what holds of the first elements holds at a place among them, or there is no such place
@@ -228,5 +252,5 @@ module _ {N W C : Type 0} (L : Type 0) (coming : N → Option (List (List ℕ)))
         subst (λ p. IsSomeAnd p (λ q. IsIn x (mine caller_of q))) (sym works.has)
         (own_in works.after.number x w.history (mine caller_of works.after) isin (by_it ∙ sym number) (stands_at config found port workers e old new w i d below).1);
     nobody_else = λ x isin. below_in (max 1 workers) isin.0 x isin.1 (subst (AllBelow caller_of (max 1 workers)) isin.2 w.one.known.below);
-    queries = queries whole (server_of config).keys w.history;
+    queries = queries whole (server_of config) w.history;
   }

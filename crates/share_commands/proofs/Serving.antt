@@ -1,9 +1,10 @@
 -- From the store to a server, and from a session to a run.
 use Rattle.std.proofs.Common.{◌≡◌, ℕ, ◌<◌, ◌≤◌, ◌^◌, List, [], ◌∷◌, length, Option, Some, None, refl, sym, ap, ◌∙◌, subst, arith, Result, Ok, Err, Bool, true, false, true≢false, inl, inr}
-use Rattle.std.specs.Prelude.{IfOk, IfSome, nat_le, option_and_then, if◌then◌else◌}
+use Rattle.std.specs.Prelude.{All, IfOk, IfSome, nat_le, option_and_then, if◌then◌else◌}
 use Rattle.std.specs.FinMap as map
 use Rattle.std.proofs.lemmas.Bool.{le-leb}
 use Rattle.std.proofs.lemmas.Bool.Decides.{nat_tests}
+use Rattle.std.proofs.lemmas.List.Elements.{All-head}
 use Rattle.turn_cell.specs.Entries.{IsHistory}
 use Rattle.turn_cell.specs.Passes.{CellId}
 use Rattle.edge_core.specs.Faults.{Cause, Rose}
@@ -21,7 +22,7 @@ use Rattle.share_config.specs.declared.config.Config.{Config}
 use Rattle.share_book.specs.declared.entry.Entry.{Entry}
 use Rattle.share_book.specs.History.{caller_of}
 use Rattle.share_book.specs.Legal.{May}
-use Rattle.hub_calls.specs.Calls.{P}
+use Rattle.hub_calls.specs.Calls.{IsKnown, P}
 use Rattle.hub_catalog.specs.CatalogCalls.{Step}
 use Rattle.hub_catalog.specs.Edits.{AreSteps}
 use Rattle.hub_catalog.specs.Opens.{OpensAs, first_history, failed_open}
@@ -110,10 +111,10 @@ hub_reason (refusal.Edit number fault) config old mid new before between now fir
 hub_reason refusal.StoreFault config old mid new before between now first last found le cause opens = later_rose before between now le cause.rose
 hub_reason refusal.NoMemory config old mid new before between now first last found le cause opens = tt
 
--- what the first pass knows of the history with which it was made
-pub known_first : (cell : CellId) (h : List Entry) (first : P) (callers : ℕ) → first ≡ fresh cell 0 h → cell.callers ≡ callers → IsHistory caller_of May first.cell.callers first.seen → IsHistory caller_of May callers h
-known_first cell h first callers is are known =
-    subst (λ (k : ℕ). IsHistory caller_of May k h) are (subst (λ (p : P). IsHistory caller_of May p.cell.callers p.seen) is known)
+-- what the passes of a hub that was opened know of its history
+pub known_first : (cell : CellId) (h : List Entry) (passes : List P) (callers : ℕ) → AllFresh cell h 0 passes → 0 < length passes → cell.callers ≡ callers → All IsKnown passes → IsHistory caller_of May callers h
+known_first cell h [] callers begin some are known = absurd (omega (arith, some))
+known_first cell h (p ∷ ps) callers begin some are known = subst (λ (k : ℕ). IsHistory caller_of May k h) are (subst IsKnown begin.0 (All-head IsKnown p ps known))
 
 -- the passes of a hub that was opened are new
 pub opens_for : (cell : CellId) (found : List Step) (passes : List P) (callers : ℕ) (old mid new : Option Objects) → length passes ≡ callers → cell.callers ≡ callers → AllFresh cell (first_history found) 0 passes → IsHistory caller_of May callers (first_history found)

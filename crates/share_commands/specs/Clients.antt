@@ -115,11 +115,5 @@ module _ {V : Type 0} (coming : V → Option (List PeerLine)) (closed : V → Op
 
   -- what a run does to the way: `client` alone uses it
   abbrev pub UsesWay : Option Command → Outside → Outside → End → (way way' : V) → Type 0
-  UsesWay None old new end way way' = way' ≡ way
-  UsesWay (Some command.Help) old new end way way' = way' ≡ way
-  UsesWay (Some command.Version) old new end way way' = way' ≡ way
-  UsesWay (Some (command.Query location)) old new end way way' = way' ≡ way
-  UsesWay (Some command.Stdio) old new end way way' = way' ≡ way
-  UsesWay (Some (command.Rehearse number)) old new end way way' = way' ≡ way
-  UsesWay (Some (command.Serve port workers)) old new end way way' = way' ≡ way
   UsesWay (Some (command.Client name call_words)) old new end way way' = RunsBy name call_words old new end way way'
+  UsesWay _ old new end way way' = way' ≡ way

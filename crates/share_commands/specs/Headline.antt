@@ -1,5 +1,5 @@
 -- The promise of a server, on a page. Of a run of `serve`, and of one of `stdio`: there is one gapless history, and each reply to a recipient is one function of its request, the moment and its own view, at a point of that history that isn't before what its connection had seen. So worlds with equal views answer alike, links included; and the pages of a completed query together list exactly once each file of the version first pinned that the predicate doesn't make false.
-use Rattle.std.specs.Prelude.{◌≡◌, ◌⊎◌, ℕ, ◌<◌, Bool, List, [], ◌∷◌, ◌++◌, Option, None, max, option_and_then, slice_index_or}
+use Rattle.std.specs.Prelude.{◌≡◌, ◌⊎◌, ℕ, ◌<◌, All, Bool, List, [], ◌∷◌, ◌++◌, Option, None, max, option_and_then, slice_index_or}
 use Rattle.std.specs.Option.{IsSomeAnd}
 use mathlib.Core.List.{IsPrefix}
 use Rattle.edge_core.specs.Lines.{ClosedLine}
@@ -58,16 +58,20 @@ is_recipients server t = by_request server (request_of t) ≡ by.view
 abbrev pub IsByView : Server → Turn → (before after : Shelf) → Type 0
 IsByView server t before after = is_recipients server t → ReplyIs (reply_by server.keys (own_view server.keys (request_of t) t.point) t.moment (request_of t)) t.response before after
 
+-- Where it is a page of files or of changes behind which another is left, there is a token of where that begins, and the token is read again.
+abbrev pub SpellsNext : Server → Turn → Type 0
+SpellsNext server t = is_recipients server t → chain.NextIsSpelt server.keys (answered server.keys (own_view server.keys (request_of t) t.point) t.moment (request_of t))
+
 -- whatever is written of a response, all or a part of it, is of such a reply, at what was seen then
 abbrev pub WritesReplies : Type 0
-WritesReplies = (server : Server) (t : Turn) (text : List ℕ) (old new : Side) → Responds server t text old new → IsByView server t old.hold.shelf new.hold.shelf × (t.point ≡ new.hold.pass.seen)
+WritesReplies = (server : Server) (t : Turn) (text : List ℕ) (old new : Side) → Responds server t text old new → IsByView server t old.hold.shelf new.hold.shelf × SpellsNext server t × (t.point ≡ new.hold.pass.seen)
 
 -- ---- one connection
 
 -- replies one after another, at points of the history of which none goes back
 abbrev pub AreReplies : Server → (history seen : List Entry) → List Turn → Type 0
 AreReplies server history seen [] = IsPrefix seen history
-AreReplies server history seen (t ∷ turns) = IsPrefix seen t.point × ((before : Shelf) × (after : Shelf) × IsByView server t before after) × AreReplies server history t.point turns
+AreReplies server history seen (t ∷ turns) = IsPrefix seen t.point × ((before : Shelf) × (after : Shelf) × IsByView server t before after) × SpellsNext server t × AreReplies server history t.point turns
 
 -- all that was answered on a connection, from what its worker had seen when its session began
 abbrev pub IsConnection : Server → List Entry → Visit → Type 0
@@ -88,11 +92,20 @@ EqualViewsAnswerAlike =
     → own_view server.keys (request_of t) t.point ≡ own_view server.keys (request_of t') t'.point
     → (t.response ≡ t'.response) ⊎ ((name : List ℕ) × (span : Option Span) × (reply_by server.keys (own_view server.keys (request_of t) t.point) t.moment (request_of t) ≡ plan.File name span))
 
+-- A turn of a chain is one that a connection has answered: its request was a recipient's, at this moment and this point of the history. `AreReplies` says of each turn of a run that its next page is spelt.
+pub record IsAnswered (server : Server) (name : TableName) (t : chain.Turn QueryBody) : Type 0 where
+  pub turn : Turn
+  pub asks : request_of turn ≡ chain.request_at chain.by_files name t
+  pub moment : turn.moment ≡ t.moment
+  pub point : turn.point ≡ t.point
+  pub recipient : is_recipients server turn
+  pub spelt : SpellsNext server turn
+
 -- The pages of a completed query, each at a point of the history, in whatever order and at whatever workers, list together each file of the version first pinned that the predicate doesn't make false, exactly once and in order.
-abbrev pub QueriesAreWhole : ReplyKeys → List Entry → Type 0
-QueriesAreWhole keys history =
-    (name : TableName) (t : chain.Turn QueryBody) (turns : List (chain.Turn QueryBody)) → chain.IsChain chain.by_files keys name history t turns → chain.AreTypedQueries keys name (t ∷ turns)
-    → chain.ListsOnce keys name t turns
+abbrev pub QueriesAreWhole : Server → List Entry → Type 0
+QueriesAreWhole server history =
+    (name : TableName) (t : chain.Turn QueryBody) (turns : List (chain.Turn QueryBody)) → chain.IsChain chain.by_files server.keys name history t turns → All (IsAnswered server name) (t ∷ turns)
+    → chain.ListsOnce server.keys name t turns
 
 -- ---- one run
 
@@ -103,7 +116,7 @@ IsIn e entries = (before : List Entry) × (after : List Entry) × (entries ≡ b
 pub record OneKeeps (config : Config) (e : SessionEnd) (old new : Outside) (s : IsServed config e old new) : Type 0 where
   pub legal : IsLegal s.last.seen
   pub replies : AreReplies (server_of config) s.last.seen s.pass.seen s.session.0
-  pub queries : QueriesAreWhole (server_of config).keys s.last.seen
+  pub queries : QueriesAreWhole (server_of config) s.last.seen
 
 abbrev pub StdioKeeps : Type 0
 StdioKeeps = (config : Config) (e : SessionEnd) (old new : Outside) (s : IsServed config e old new) → OneKeeps config e old new s
@@ -116,7 +129,7 @@ module _ {N W C : Type 0} (L : Type 0) (coming : N → Option (List (List ℕ)))
     -- nobody else adds to it: each entry is one that the desk of its number has made
     pub told : (i : ℕ) (d : Desk N W C L) (e : Entry) → i < workers → IsIn e w.history → caller_of e ≡ i → IsSomeAnd (slice_index_or new i d).pass (λ p. IsIn e (mine caller_of p))
     pub nobody_else : (e : Entry) → IsIn e w.history → caller_of e < max 1 workers
-    pub queries : QueriesAreWhole (server_of config).keys w.history
+    pub queries : QueriesAreWhole (server_of config) w.history
 
   abbrev pub ServeKeeps : Type 0
   ServeKeeps = (config : Config) (found : List Step) (port workers : ℕ) (e : ServeEnd) (old new : List (Desk N W C L)) (w : WorkersServe coming closed failed listens moments objects alone faults stored config found port workers e old new)

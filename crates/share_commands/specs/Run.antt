@@ -19,14 +19,10 @@ use Rattle.share_commands.specs.declared.words.TheConstants.{HELP, VERSION}
 
 -- The text that a command prints which looks at neither input nor store: a rehearsal the lines of a summary.
 abbrev pub IsText : Option Command → List ℕ → Type 0
-IsText None text = ⊥
 IsText (Some command.Help) text = text ≡ HELP.now
 IsText (Some command.Version) text = text ≡ VERSION.now
-IsText (Some (command.Query location)) text = ⊥
-IsText (Some command.Stdio) text = ⊥
 IsText (Some (command.Rehearse number)) text = IsSummary text
-IsText (Some (command.Serve port workers)) text = ⊥
-IsText (Some (command.Client name call_words)) text = ⊥
+IsText _ text = ⊥
 
 -- Why a run of such a command ends so, or one of words that are no command, and what it has written to the output then. Want of memory needs no cause.
 abbrev pub TextEnds : Option Command → Outside → Outside → End → Type 0
@@ -37,25 +33,16 @@ TextEnds asked old new ends.Done = (text : List ℕ) × IsText asked text × Wri
 TextEnds asked old new other = ⊥
 
 abbrev pub is_stdio : Option Command → Bool
-is_stdio None = false
-is_stdio (Some command.Help) = false
-is_stdio (Some command.Version) = false
-is_stdio (Some (command.Query location)) = false
 is_stdio (Some command.Stdio) = true
-is_stdio (Some (command.Rehearse number)) = false
-is_stdio (Some (command.Serve port workers)) = false
-is_stdio (Some (command.Client name call_words)) = false
+is_stdio _ = false
 
 -- why a run of the command ends so, and what it did
 abbrev pub Because : Option Command → Outside → Outside → End → Type 0
 Because (Some command.Stdio) old new end = IsStdio old new end
 Because (Some (command.Serve port workers)) old new end = IsServe old new end
 Because (Some (command.Client name call_words)) old new end = IsClient name call_words old new end
-Because None old new end = TextEnds None old new end
-Because (Some command.Help) old new end = TextEnds (Some command.Help) old new end
-Because (Some command.Version) old new end = TextEnds (Some command.Version) old new end
-Because (Some (command.Rehearse number)) old new end = TextEnds (Some (command.Rehearse number)) old new end
 Because (Some (command.Query location)) old new end = QueryEnds location old new end
+Because asked old new end = TextEnds asked old new end
 
 -- One run of the command: why it ended so, what it noted, and that nothing was stored but by a session. What workers store they store by their desks' stores.
 pub record IsRun (asked : Option Command) (old new : Outside) (end : End) : Type 0 where

@@ -1,5 +1,5 @@
 -- What `serve` does: a server is opened over the store, and workers serve the connections that come to the port of the words, each at a desk.
-use Rattle.std.specs.Prelude.{◌≡◌, ◌⊎◌, ◌<◌, ◌≤◌, ℕ, Bool, List, drop, length, map, max, min, take, Option, None, Some, slice_index_or}
+use Rattle.std.specs.Prelude.{◌≡◌, ◌⊎◌, ◌<◌, ◌≤◌, ℕ, Bool, List, drop, length, map, max, min, take, Option, Some, slice_index_or}
 use mathlib.Core.List.{IsPrefix}
 use Rattle.turn_cell.specs.Passes.{CellId}
 use Rattle.edge_core.specs.Faults.{Rose}
@@ -103,11 +103,5 @@ module _ {N W C L : Type 0} (coming : N → Option (List (List ℕ))) (closed : 
 
   -- what a run does to the desks: `serve` alone uses any
   abbrev pub UsesDesks : Option Command → Outside → Outside → End → (old new : List (Desk N W C L)) → Type 0
-  UsesDesks None old new end desks desks' = desks' ≡ desks
-  UsesDesks (Some command.Help) old new end desks desks' = desks' ≡ desks
-  UsesDesks (Some command.Version) old new end desks desks' = desks' ≡ desks
-  UsesDesks (Some (command.Query location)) old new end desks desks' = desks' ≡ desks
-  UsesDesks (Some command.Stdio) old new end desks desks' = desks' ≡ desks
-  UsesDesks (Some (command.Rehearse number)) old new end desks desks' = desks' ≡ desks
-  UsesDesks (Some (command.Client name call_words)) old new end desks desks' = desks' ≡ desks
   UsesDesks (Some (command.Serve port workers)) old new end desks desks' = Serves port workers old new end desks desks'
+  UsesDesks _ old new end desks desks' = desks' ≡ desks

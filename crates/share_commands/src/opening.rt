@@ -129,7 +129,6 @@ pub(crate) fn open_server<W: Store>(
         return Err(NoServer::Configuration);
     };
     let (hub, passes) = Hub::open(alloc, store, callers)?;
-    passes[0].known();
     Ok(Opened {
         server: Server::of(config),
         hub,

@@ -90,10 +90,8 @@ abbrev pub profile_in : List ℕ → Result Profile ProfileFault
 profile_in bytes = profile_of_tree (tree_in bytes)
 
 abbrev pub lacks_memory : ProfileFault → Bool
-lacks_memory fault.NotJson = false
-lacks_memory (fault.Field name) = false
-lacks_memory fault.Scheme = false
 lacks_memory fault.NoMemory = true
+lacks_memory _ = false
 
 -- The answer, seen by `seen`, is what was read, or why nothing is. Want of memory says nothing.
 abbrev pub GivesBy : {X Y : Type 0} → (X → Y) → Result X ProfileFault → Result Y ProfileFault → Type 0

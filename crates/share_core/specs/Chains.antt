@@ -10,13 +10,11 @@ use Rattle.share_core.specs.declared.reply.Reply.{Reply}
 
 -- a file or a change
 abbrev pub is_content : Line → Bool
-is_content line.Protocol = false
-is_content (line.MetaData m) = false
 is_content (line.File f) = true
 is_content (line.Add f) = true
 is_content (line.Cdf f) = true
 is_content (line.Remove f) = true
-is_content (line.End e) = false
+is_content _ = false
 
 -- the files or changes of a text that is lines
 abbrev pub content_read : Result (List Line) LinesFault → Option (List Line)
@@ -25,9 +23,7 @@ content_read (Err fault) = None
 
 abbrev pub content_in : Body → Option (List Line)
 content_in (body.Lines text) = content_read (lines_in text)
-content_in body.Empty = None
-content_in (body.Json text) = None
-content_in (body.File name span) = None
+content_in _ = None
 
 -- the files or changes of a page of status 200, none where a reply isn't one
 abbrev pub page_in : Reply → Option (List Line)

@@ -2,7 +2,7 @@
 use Rattle.std.specs.Prelude.{◌≡◌, ⊤, List, [], ◌∷◌, true, Some, flat_map, map}
 use Rattle.share_lines.specs.Bodies.{AreReadBack}
 use Rattle.share_lines.specs.declared.kinds.Line.{Line}
-use Rattle.share_reply.specs.Answer.{Answer, Page, at_version, names, object, one_share, only, page, refused}
+use Rattle.share_reply.specs.Answer.{Answer, Page, page}
 use Rattle.share_reply.specs.Bodies.{page_lines, reply_of}
 use Rattle.share_reply.specs.Chains.{content_of}
 use Rattle.share_reply.specs.declared.keys.ReplyKeys.{ReplyKeys}
@@ -21,12 +21,7 @@ pub record IsReadable (keys : ReplyKeys) (p : Page) : Type 0 where
 -- an answer that is such a page
 abbrev pub IsPage : ReplyKeys → Answer → Type 0
 IsPage keys (page p) = IsReadable keys p
-IsPage keys (refused r) = ⊥
-IsPage keys (only allowed) = ⊥
-IsPage keys (names n) = ⊥
-IsPage keys (one_share s) = ⊥
-IsPage keys (at_version v) = ⊥
-IsPage keys (object name span) = ⊥
+IsPage keys _ = ⊥
 
 abbrev pub ArePages : ReplyKeys → List Answer → Type 0
 ArePages keys [] = ⊤

@@ -91,10 +91,8 @@ has_change f = is_some f.time && is_some f.version
 
 -- a change has its version and the version's time, and statistics stand in files and adds alone
 abbrev pub is_printable : Line → Bool
-is_printable line.Protocol = true
-is_printable (line.MetaData m) = true
 is_printable (line.File f) = has_no_change f
 is_printable (line.Add f) = has_change f
 is_printable (line.Cdf f) = has_change f && is_none f.stats
 is_printable (line.Remove f) = has_change f && is_none f.stats
-is_printable (line.End e) = true
+is_printable _ = true

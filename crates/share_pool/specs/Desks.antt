@@ -1,5 +1,5 @@
 -- Desks before and after their work.
-use Rattle.std.specs.Prelude.{◌≡◌, ◌-◌, ◌^◌, ℕ, min, Bool, true, false, List, Option, Some, None, if◌then◌else◌}
+use Rattle.std.specs.Prelude.{◌≡◌, ◌-◌, ◌^◌, ℕ, min, Bool, true, false, List, Option, Some, if◌then◌else◌}
 use Rattle.std.specs.List.{list_any, sum_by}
 use Rattle.std.specs.Option.{IsSomeAnd}
 use Rattle.turn_cell.specs.Passes.{CellId}
@@ -39,21 +39,15 @@ module _ {N W C L : Type 0} (coming : N → Option (List (List ℕ))) (closed : 
 
 abbrev pub is_lack : Option ServeEnd → Bool
 is_lack (Some serve_end.NoMemory) = true
-is_lack (Some serve_end.ListenerFault) = false
-is_lack (Some (serve_end.Closed served)) = false
-is_lack None = false
+is_lack _ = false
 
 abbrev pub is_fault : Option ServeEnd → Bool
-is_fault (Some serve_end.NoMemory) = false
 is_fault (Some serve_end.ListenerFault) = true
-is_fault (Some (serve_end.Closed served)) = false
-is_fault None = false
+is_fault _ = false
 
 abbrev pub closed_in : Option ServeEnd → ℕ
-closed_in (Some serve_end.NoMemory) = 0
-closed_in (Some serve_end.ListenerFault) = 0
 closed_in (Some (serve_end.Closed served)) = served
-closed_in None = 0
+closed_in _ = 0
 
 -- want of memory where a worker ended so, else a fault where one ended so, else how many lines were closed, at most 2^64 - 1
 abbrev pub all_end : List (Option ServeEnd) → ServeEnd

@@ -28,17 +28,13 @@ pub record LogRefresh (location : List ℕ) (answer : Result LogState RefreshRef
 
 -- memory was wanting in a refresh of the catalogue
 abbrev pub lacks_records : Result RefreshedCatalog CatalogRefusal → Bool
-lacks_records (Ok r) = false
-lacks_records (Err (catalog_refusal.Blocked n)) = false
-lacks_records (Err catalog_refusal.StoreFault) = false
 lacks_records (Err catalog_refusal.NoMemory) = true
+lacks_records _ = false
 
 -- memory was wanting in a refresh of a log
 abbrev pub lacks_commits : Result LogState RefreshRefusal → Bool
-lacks_commits (Ok r) = false
-lacks_commits (Err log_refusal.NotLoaded) = false
-lacks_commits (Err log_refusal.StoreFault) = false
 lacks_commits (Err log_refusal.NoMemory) = true
+lacks_commits _ = false
 
 module _ {R E : Type 0} (found : R → ℕ) (Call : Result R E → Hold → Hold → Type 0) where
   -- calls one after another that came to these holds, of which each found 64, as many as one call takes over

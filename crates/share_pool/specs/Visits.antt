@@ -60,12 +60,7 @@ Attended server old (v ∷ visits) new = (mid : Post) × Attends server old v mi
 -- memory was wanting in a session
 abbrev pub lacks : SessionEnd → Bool
 lacks (end.NoMemory served) = true
-lacks (end.Done served) = false
-lacks (end.Truncated at served) = false
-lacks (end.BadMessage at flaw served) = false
-lacks (end.ReadFault served) = false
-lacks (end.WriteFault served) = false
-lacks (end.BodyCut served sent) = false
+lacks _ = false
 
 -- or in the refreshes before it
 abbrev pub wants : Visit → Bool

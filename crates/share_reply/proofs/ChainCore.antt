@@ -1,31 +1,22 @@
 -- What chains of files and chains of changes have in common.
-use Rattle.std.proofs.Common.{◌≡◌, ℕ, zero, suc, ◌+◌, ◌^◌, ◌<◌, ◌≤◌, List, [], ◌∷◌, Bool, true, false, cond, ◌||◌, Option, Some, None, refl, sym, ap, ◌∙◌, subst, arith, length, map, drop, filter, option_map}
-use Rattle.std.specs.Prelude.{is_some, IfSome, option_and_then, ⊤}
-use Rattle.std.proofs.lemmas.List.{append-nil, length-drop}
+use Rattle.std.proofs.Common.{◌≡◌, ℕ, List, [], ◌∷◌, Bool, true, false, cond, ◌||◌, Option, Some, None, refl, sym, ap, ◌∙◌, subst, map, drop, filter, option_map}
+use Rattle.std.specs.Prelude.{is_some, IfSome, option_and_then}
+use Rattle.std.proofs.lemmas.List.{append-nil}
 use Rattle.page_token.specs.Cursors.{cursor_of}
-use Rattle.page_token.specs.Payload.{IsInRange, IsValue}
 use Rattle.page_token.specs.Token.{token_text}
 use Rattle.page_token.specs.declared.cursor.Cursor.{Cursor}
 use Rattle.share_book.specs.declared.entry.Entry.{Entry}
 use Rattle.share_catalog.specs.declared.table_name.TableName.{TableName}
 use Rattle.share_lines.specs.declared.kinds.Line.{Line}
 use Rattle.share_reply.specs.Answer.{Ending, Page, page}
-use Rattle.share_reply.specs.Chains.{Gives, IsChainAfter, Paging, Turn, answer_at, content_of, next_in}
-use Rattle.share_reply.specs.Pages.{given, next_place, up_to}
+use Rattle.share_reply.specs.Chains.{Gives, IsChainAfter, IsSpelt, Paging, Turn, answer_at, content_of}
+use Rattle.share_reply.specs.Pages.{given, next_place}
 use Rattle.share_reply.specs.declared.keys.ReplyKeys.{ReplyKeys}
 use Rattle.share_reply.proofs.PageLemmas.{last_page, more_pages}
 use Rattle.share_reply.proofs.TokenLemmas.{token_again}
 
--- a token that a page gives has the form of one: its texts are UTF-8, and its numbers in range
-abbrev pub IsSpelt : ReplyKeys → Cursor → Type 0
-IsSpelt keys c = IsValue c × IsInRange c × (length (token_text keys.token c) < 2 ^ 64)
-
 pub read_again : (keys : ReplyKeys) (c : Cursor) → IsSpelt keys c → cursor_of keys.token (token_text keys.token c) ≡ Some c
 read_again keys c (value, range, short) = token_again keys.token c value range short
-
-abbrev pub AreSpelt : {Q : Type 0} → Paging Q → ReplyKeys → TableName → List (Turn Q) → Type 0
-AreSpelt paging keys name [] = ⊤
-AreSpelt paging keys name (t ∷ ts) = ((p : Page) → answer_at paging keys name t ≡ page p → IfSome (next_in p) (IsSpelt keys)) × AreSpelt paging keys name ts
 
 -- ---- what a page's end says
 
@@ -75,41 +66,3 @@ one_page paging keys name line_at history t ts test most place xs cursor_at p (S
   ap content_of answered ∙ content,
   later behind (subst (IsSpelt keys) c_is spelt) (subst (λ (x : Cursor). IsChainAfter paging keys name history (Some (token_text keys.token x)) ts) c_is chain),
 )
-
--- ---- the form of tokens
-
--- the next page begins within the list
-up_to_few : {X : Type 0} (test : X → Bool) (k : ℕ) (xs : List X) → up_to test k xs ≤ length xs
-up_to_few test zero xs = omega arith
-up_to_few test (suc k) [] = omega arith
-up_to_few test (suc k) (x ∷ xs) = let rest = up_to_few test (cond (test x) k (suc k)) xs in omega (arith, rest)
-
-within : {X : Type 0} (test : X → Bool) (k place : ℕ) (xs : List X) (next : ℕ) (b : Bool) → place ≤ length xs → cond b (Some (place + up_to test k (drop place xs))) None ≡ Some next → next ≤ length xs
-within test k place xs next true low e =
-    let is : place + up_to test k (drop place xs) ≡ next = cc in
-    omega (arith, is, low, up_to_few test k (drop place xs), length-drop place xs)
-within test k place xs next false low e = absurd cc
-
-pub next_within : {X : Type 0} (test : X → Bool) (most : Option ℕ) (place : ℕ) (xs : List X) (next : ℕ) → place ≤ length xs → next_place test most place xs ≡ Some next → next ≤ length xs
-next_within test None place xs next low e = absurd cc
-next_within test (Some k) place xs next low e = within test k place xs next _ low e
-
-pub short_of : (keys : ReplyKeys) (o : Option Cursor) (c : Cursor) → o ≡ Some c → IfSome (option_map (token_text keys.token) o) (λ text. length text < 2 ^ 64) → length (token_text keys.token c) < 2 ^ 64
-short_of keys None c is short = absurd cc
-short_of keys (Some x) c is short = let same : x ≡ c = cc in subst (λ (y : Cursor). length (token_text keys.token y) < 2 ^ 64) same short
-
-same_page : {Q : Type 0} (paging : Paging Q) (keys : ReplyKeys) (name : TableName) (t : Turn Q) (p q : Page) → answer_at paging keys name t ≡ page p → answer_at paging keys name t ≡ page q → p ≡ q
-same_page paging keys name t p q e f = cc
-
-pub every_page : {Q : Type 0} (paging : Paging Q) (keys : ReplyKeys) (name : TableName) (t : Turn Q) (p : Page) → answer_at paging keys name t ≡ page p → IfSome (next_in p) (IsSpelt keys)
-    → (q : Page) → answer_at paging keys name t ≡ page q → IfSome (next_in q) (IsSpelt keys)
-every_page paging keys name t p answered spelt q again = subst (λ (x : Page). IfSome (next_in x) (IsSpelt keys)) (same_page paging keys name t p q answered again) spelt
-
--- the turns behind a page, by its cursor
-pub rest_spelt : {Q : Type 0} (paging : Paging Q) (keys : ReplyKeys) (name : TableName) (ts : List (Turn Q)) (history : List Entry) (cursor_at : ℕ → Cursor) (next : Option ℕ) (o : Option Cursor)
-    → NextIs cursor_at next o → IfSome o (IsSpelt keys) → IsChainAfter paging keys name history (option_map (token_text keys.token) o) ts
-    → ((place : ℕ) → IsSpelt keys (cursor_at place) → IsChainAfter paging keys name history (Some (token_text keys.token (cursor_at place))) ts → AreSpelt paging keys name ts) → AreSpelt paging keys name ts
-rest_spelt paging keys name [] history cursor_at next None is spelt chain go = tt
-rest_spelt paging keys name (t ∷ ts) history cursor_at next None is spelt chain go = absurd chain
-rest_spelt paging keys name ts history cursor_at next (Some c) (place, at, c_is) spelt chain go =
-    go place (subst (IsSpelt keys) c_is spelt) (subst (λ (x : Cursor). IsChainAfter paging keys name history (Some (token_text keys.token x)) ts) c_is chain)

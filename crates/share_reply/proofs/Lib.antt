@@ -21,3 +21,4 @@ pub mod Trailing
 pub mod ListingLemmas
 pub mod ReplyLemmas
 pub mod WalkLemmas
+pub mod Spelt

@@ -59,20 +59,16 @@ from_bound (Some moment) = bound.AtOrAfter moment
 
 -- a token tells the version that its first page was of
 abbrev pub files_by : Option Cursor → Part
-files_by None = part.Place
-files_by (Some (cursor.List c)) = part.Place
 files_by (Some (cursor.Files c)) = part.PinnedFiles c.version
-files_by (Some (cursor.Feed c)) = part.Place
+files_by _ = part.Place
 
 abbrev pub files_part : ReplyKeys → QueryBody → Option (List ℕ) → Part
 files_part keys q None = part.Files (last_bound (asked_by q.version q.moment))
 files_part keys q (Some token) = files_by (cursor_of keys.token token)
 
 abbrev pub feed_by : Option Cursor → Part
-feed_by None = part.Place
-feed_by (Some (cursor.List c)) = part.Place
-feed_by (Some (cursor.Files c)) = part.Place
 feed_by (Some (cursor.Feed c)) = part.PinnedFeed c.from c.to
+feed_by _ = part.Place
 
 abbrev pub feed_part : ReplyKeys → Option At → Option At → Option (List ℕ) → Part
 feed_part keys from to None = part.Feed (first_bound (asked_at from)) (last_bound (asked_at to))
@@ -80,20 +76,13 @@ feed_part keys from to (Some token) = feed_by (cursor_of keys.token token)
 
 -- ---- what
 
--- the last three are no recipient's
+-- the part that is asked of a table, else names; a commit, a refresh and an edit are no recipient's
 abbrev pub want_of : ReplyKeys → What → Want
-want_of keys (what.ListShares page) = want.Names
-want_of keys (what.GetShare share) = want.Names
-want_of keys (what.ListSchemas share page) = want.Names
-want_of keys (what.ListTables share schema page) = want.Names
-want_of keys (what.ListAll share page) = want.Names
 want_of keys (what.Version table from) = want.Table table (part.Head (from_bound from))
 want_of keys (what.Metadata table at) = want.Table table (part.Files (last_bound (asked_at at)))
 want_of keys (what.Query table body) = want.Table table (files_part keys body body.token)
 want_of keys (what.Changes table from to max token) = want.Table table (feed_part keys from to token)
-want_of keys (what.Commit offer) = want.Names
-want_of keys (what.Refresh location) = want.Names
-want_of keys (what.Edit edit) = want.Names
+want_of keys _ = want.Names
 
 -- a request at fault is refused once it is known who asks
 abbrev pub want_or_names : ReplyKeys → Result What RequestFault → Want

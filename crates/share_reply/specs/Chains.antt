@@ -2,14 +2,13 @@
 use Rattle.std.specs.Prelude.{◌≡◌, ℕ, ◌^◌, ◌<◌, ⊤, List, [], ◌∷◌, ◌++◌, Option, Some, None, IfSome, Ok, length, map, option_and_then, option_map}
 use Rattle.std.specs.FinMap as maps
 use mathlib.Core.List.{IsPrefix}
-use Rattle.std.specs.Str.{IsUtf8}
 use Rattle.case_table.specs.declared.routing.Route.{Route}
 use Rattle.case_table.specs.declared.routing.Route.TheVariants as route
 use Rattle.change_feed.specs.Changes.{ChangedFile}
 use Rattle.change_feed.specs.Feed.{feed_of}
 use Rattle.log_actions.specs.declared.actions.AddFile.{AddFile}
 use Rattle.log_replay.specs.State.{State, state_of}
-use Rattle.page_token.specs.Payload.{IsAskedInRange, IsAskedValue}
+use Rattle.page_token.specs.Payload.{IsInRange, IsValue}
 use Rattle.page_token.specs.Token.{token_text}
 use Rattle.page_token.specs.declared.cursor.Cursor.{Cursor}
 use Rattle.page_token.specs.declared.cursor.TableAccess.{TableAccess}
@@ -27,7 +26,7 @@ use Rattle.share_request.specs.declared.asked.What.{What}
 use Rattle.share_request.specs.declared.asked.What.TheVariants as what
 use Rattle.query_body.specs.declared.query.QueryBody.{QueryBody}
 use Rattle.share_reply.specs.Access.{access, expiry}
-use Rattle.share_reply.specs.Answer.{Answer, Page, at_version, names, object, one_share, only, page, refused}
+use Rattle.share_reply.specs.Answer.{Answer, Page, page}
 use Rattle.share_reply.specs.Asking.{asked_at, asked_by, first_bound, last_bound}
 use Rattle.share_reply.specs.Feeds.{ChangesQuery, change_line}
 use Rattle.share_reply.specs.Files.{file_line, listed_files, used_hint}
@@ -83,13 +82,8 @@ IsChain paging keys name history t ts =
 -- ---- what a chain gives
 
 abbrev pub content_of : Answer → List Line
-content_of (refused r) = []
-content_of (only allowed) = []
-content_of (names n) = []
-content_of (one_share s) = []
-content_of (at_version v) = []
 content_of (page p) = p.content
-content_of (object name span) = []
+content_of _ = []
 
 -- Elements stand in the pages one after another, each as the line that is given of it at its own page's moment.
 abbrev pub Gives : {Q X : Type 0} → Paging Q → ReplyKeys → TableName → (ℕ → X → Line) → List (Turn Q) → List X → Type 0
@@ -127,38 +121,19 @@ linked_file keys a now f = file_line keys a (expiry keys now) f
 abbrev pub linked_change : ReplyKeys → TableAccess → ℕ → ChangedFile → Line
 linked_change keys a now c = change_line keys a (expiry keys now) c
 
--- What turns, views and answers are by their types in code: texts are UTF-8, numbers have 63 bits, and tokens are shorter than 2^64 bytes. Without it no law says that a token is read again.
-pub record IsTyped {Q : Type 0} (paging : Paging Q) (keys : ReplyKeys) (name : TableName) (t : Turn Q) : Type 0 where
-  pub share : IsUtf8 name.share
-  pub schema : IsUtf8 name.schema
-  pub table : IsUtf8 name.table
-  pub seen : (spot : Spot) (log : Log) (a : TableAccess) → Sees t name spot log a → IsUtf8 a.recipient × (spot.grant < 2 ^ 63) × (spot.binding < 2 ^ 63) × (length log.commits < 2 ^ 63)
-  pub short : (p : Page) → answer_at paging keys name t ≡ page p → IfSome (next_token keys p) (λ text. length text < 2 ^ 64)
+-- a cursor of which code has a token: its texts are UTF-8, its numbers have 63 bits, and the token is shorter than 2^64 bytes
+abbrev pub IsSpelt : ReplyKeys → Cursor → Type 0
+IsSpelt keys c = IsValue c × IsInRange c × (length (token_text keys.token c) < 2 ^ 64)
 
--- the same of what a query of files has
-pub record IsTypedQuery (keys : ReplyKeys) (name : TableName) (t : Turn QueryBody) : Type 0 where
-  pub turn : IsTyped by_files keys name t
-  pub asked : IsAskedValue (asked_by t.query.version t.query.moment)
-  pub asked_range : IsAskedInRange (asked_by t.query.version t.query.moment)
-  pub hint : IfSome t.query.hint IsUtf8
-  pub files : (spot : Spot) (log : Log) (a : TableAccess) (n : ℕ) (state : State) → Sees t name spot log a → state_of (up_to log n) ≡ Ok state → length state.files < 2 ^ 63
+-- Where the answer is a page behind which another is left, code has a token of where that begins.
+abbrev pub NextIsSpelt : ReplyKeys → Answer → Type 0
+NextIsSpelt keys (page p) = IfSome (next_in p) (IsSpelt keys)
+NextIsSpelt keys _ = ⊤
 
-abbrev pub AreTypedQueries : ReplyKeys → TableName → List (Turn QueryBody) → Type 0
-AreTypedQueries keys name [] = ⊤
-AreTypedQueries keys name (t ∷ ts) = IsTypedQuery keys name t × AreTypedQueries keys name ts
-
--- and of what a query of changes has
-pub record IsTypedFeed (keys : ReplyKeys) (name : TableName) (t : Turn ChangesQuery) : Type 0 where
-  pub turn : IsTyped by_changes keys name t
-  pub from : IsAskedValue (asked_at t.query.from)
-  pub from_range : IsAskedInRange (asked_at t.query.from)
-  pub to : IsAskedValue (asked_at t.query.to)
-  pub to_range : IsAskedInRange (asked_at t.query.to)
-  pub changes : (spot : Spot) (log : Log) (a : TableAccess) (from to : ℕ) (changes : List ChangedFile) → Sees t name spot log a → feed_of log.commits from to ≡ Ok changes → length changes < 2 ^ 63
-
-abbrev pub AreTypedFeeds : ReplyKeys → TableName → List (Turn ChangesQuery) → Type 0
-AreTypedFeeds keys name [] = ⊤
-AreTypedFeeds keys name (t ∷ ts) = IsTypedFeed keys name t × AreTypedFeeds keys name ts
+-- So it is of each turn's answer, as of all that code answers (`plan_of`). Without it no law says that a token is read again.
+abbrev pub AreSpelt : {Q : Type 0} → Paging Q → ReplyKeys → TableName → List (Turn Q) → Type 0
+AreSpelt paging keys name [] = ⊤
+AreSpelt paging keys name (t ∷ ts) = NextIsSpelt keys (answer_at paging keys name t) × AreSpelt paging keys name ts
 
 -- The pages give all files of the version that the first one was of that the predicate doesn't make False, each once and in order.
 abbrev pub ListsOnce : ReplyKeys → TableName → Turn QueryBody → List (Turn QueryBody) → Type 0
@@ -167,10 +142,10 @@ ListsOnce keys name t ts =
 
 -- So do those of a chain, at whatever points of one history its pages are.
 abbrev pub ChainsAreWhole : Type 0
-ChainsAreWhole = (keys : ReplyKeys) (name : TableName) (history : List Entry) (t : Turn QueryBody) (ts : List (Turn QueryBody)) → IsChain by_files keys name history t ts → AreTypedQueries keys name (t ∷ ts)
+ChainsAreWhole = (keys : ReplyKeys) (name : TableName) (history : List Entry) (t : Turn QueryBody) (ts : List (Turn QueryBody)) → IsChain by_files keys name history t ts → AreSpelt by_files keys name (t ∷ ts)
     → ListsOnce keys name t ts
 
 -- So do those of a chain of changes: all changes of the range that the first one was of.
 abbrev pub FeedChainsAreWhole : Type 0
-FeedChainsAreWhole = (keys : ReplyKeys) (name : TableName) (history : List Entry) (t : Turn ChangesQuery) (ts : List (Turn ChangesQuery)) → IsChain by_changes keys name history t ts → AreTypedFeeds keys name (t ∷ ts)
+FeedChainsAreWhole = (keys : ReplyKeys) (name : TableName) (history : List Entry) (t : Turn ChangesQuery) (ts : List (Turn ChangesQuery)) → IsChain by_changes keys name history t ts → AreSpelt by_changes keys name (t ∷ ts)
     → (spot : Spot) × (log : Log) × (a : TableAccess) × Sees t name spot log a × ((changes : List ChangedFile) × PinsRange t.query log changes × Gives by_changes keys name (linked_change keys a) (t ∷ ts) changes)

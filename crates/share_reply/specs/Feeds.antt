@@ -57,14 +57,9 @@ start_at c = record { asked_from = c.asked_from; asked_to = c.asked_to; from = c
 
 abbrev pub is_same : Asked → Asked → Bool
 is_same asked.Latest asked.Latest = true
-is_same asked.Latest (asked.Version w) = false
-is_same asked.Latest (asked.Moment z) = false
-is_same (asked.Version v) asked.Latest = false
 is_same (asked.Version v) (asked.Version w) = v == w
-is_same (asked.Version v) (asked.Moment z) = false
-is_same (asked.Moment m) asked.Latest = false
-is_same (asked.Moment m) (asked.Version w) = false
 is_same (asked.Moment m) (asked.Moment z) = int_eq m z
+is_same _ _ = false
 
 -- an end that isn't given takes the token's
 abbrev pub is_end : Option At → Asked → Bool
@@ -137,21 +132,17 @@ page_of_feed keys a now q s f = with_changes keys a now q s (last_meta f.meta) (
 -- ---- of what is found
 
 abbrev pub feed_from : ReplyKeys → TableAccess → ℕ → ChangesQuery → (FeedPart → FeedStart) → PartFound → Result Page Refused
-feed_from keys a now q start part_found.Nothing = unlike
-feed_from keys a now q start (part_found.Version version) = unlike
-feed_from keys a now q start (part_found.Files version state) = unlike
 feed_from keys a now q start (part_found.Feed feed) = page_of_feed keys a now q (start feed) feed
 feed_from keys a now q start (part_found.Refused why) = Err (refused_for why)
+feed_from keys a now q start _ = unlike
 
 -- a later page, of the range that the first one was of
 abbrev pub later_feed : ReplyKeys → TableAccess → ℕ → ChangesQuery → FeedCursor → PartFound → Result Page Refused
 later_feed keys a now q c found = where_all (access_tests a c.access ++ (agrees q c, TokenMismatch) ∷ []) (feed_from keys a now q (λ feed. start_at c) found)
 
 abbrev pub feed_by : ReplyKeys → TableAccess → ℕ → ChangesQuery → Option Cursor → PartFound → Result Page Refused
-feed_by keys a now q None found = Err (plain TokenInvalid)
-feed_by keys a now q (Some (cursor.List c)) found = Err (plain TokenInvalid)
-feed_by keys a now q (Some (cursor.Files c)) found = Err (plain TokenInvalid)
 feed_by keys a now q (Some (cursor.Feed c)) found = later_feed keys a now q c found
+feed_by keys a now q _ found = Err (plain TokenInvalid)
 
 abbrev pub feed_with : ReplyKeys → TableAccess → ℕ → ChangesQuery → Option (List ℕ) → PartFound → Result Page Refused
 feed_with keys a now q None found = feed_from keys a now q (first_start q) found

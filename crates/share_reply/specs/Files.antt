@@ -134,21 +134,17 @@ page_of_state keys a now q s state = where_all ((nat_le s.place (length state.fi
 -- ---- of what is found
 
 abbrev pub files_from : ReplyKeys → TableAccess → ℕ → QueryBody → (ℕ → FilesStart) → PartFound → Result Page Refused
-files_from keys a now q start part_found.Nothing = unlike
-files_from keys a now q start (part_found.Version version) = unlike
 files_from keys a now q start (part_found.Files version state) = page_of_state keys a now q (start version) state
-files_from keys a now q start (part_found.Feed feed) = unlike
 files_from keys a now q start (part_found.Refused why) = Err (refused_for why)
+files_from keys a now q start _ = unlike
 
 -- a later page, at the version that the first one was of
 abbrev pub later_files : ReplyKeys → TableAccess → ℕ → QueryBody → FilesCursor → PartFound → Result Page Refused
 later_files keys a now q c found = where_all (access_tests a c.access ++ (agrees q c, TokenMismatch) ∷ []) (files_from keys a now q (λ version. start_at c) found)
 
 abbrev pub files_by : ReplyKeys → TableAccess → ℕ → QueryBody → Option Cursor → PartFound → Result Page Refused
-files_by keys a now q None found = Err (plain TokenInvalid)
-files_by keys a now q (Some (cursor.List c)) found = Err (plain TokenInvalid)
 files_by keys a now q (Some (cursor.Files c)) found = later_files keys a now q c found
-files_by keys a now q (Some (cursor.Feed c)) found = Err (plain TokenInvalid)
+files_by keys a now q _ found = Err (plain TokenInvalid)
 
 abbrev pub files_with : ReplyKeys → TableAccess → ℕ → QueryBody → Option (List ℕ) → PartFound → Result Page Refused
 files_with keys a now q None found = files_from keys a now q (first_start q) found
@@ -160,16 +156,12 @@ query_page keys a now q found = files_with keys a now q q.token found
 
 -- "Query Table Metadata": the same version without files
 abbrev pub metadata_page : PartFound → Result Page Refused
-metadata_page part_found.Nothing = unlike
-metadata_page (part_found.Version version) = unlike
 metadata_page (part_found.Files version state) = Ok (record { version = version; meta = meta_of state.meta; content = []; end = None })
-metadata_page (part_found.Feed feed) = unlike
 metadata_page (part_found.Refused why) = Err (refused_for why)
+metadata_page _ = unlike
 
 -- "Query Table Version"
 abbrev pub version_in : PartFound → Result ℕ Refused
-version_in part_found.Nothing = unlike
 version_in (part_found.Version version) = Ok version
-version_in (part_found.Files version state) = unlike
-version_in (part_found.Feed feed) = unlike
 version_in (part_found.Refused why) = Err (refused_for why)
+version_in _ = unlike

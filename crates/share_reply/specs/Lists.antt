@@ -73,10 +73,8 @@ is_there seen kind.AllTables share schema = has_share seen share
 
 -- the name that a token's text stands for: of all tables it is cut at its first `/`, and compared as a pair
 abbrev pub name_of : ListKind → List ℕ → List (List ℕ)
-name_of kind.Shares text = one text
-name_of kind.Schemas text = one text
-name_of kind.Tables text = one text
 name_of kind.AllTables text = before_first (λ b. b == 47) text ∷ after_first (λ b. b == 47) text ∷ []
+name_of _ text = one text
 
 -- and back
 abbrev pub text_of : List (List ℕ) → List ℕ
@@ -117,10 +115,8 @@ abbrev pub is_same_listing : List ℕ → Listing → ListCursor → Bool
 is_same_listing recipient l c = bytes_eq (kind_field c.kind) (kind_field l.kind) && (bytes_eq c.recipient recipient && (bytes_eq c.share l.share && bytes_eq c.schema l.schema))
 
 abbrev pub names_by : List ℕ → NamesView → Listing → Option Cursor → Result NamesPage Refused
-names_by recipient seen l None = Err (plain TokenInvalid)
 names_by recipient seen l (Some (cursor.List c)) = where_all ((is_same_listing recipient l c, TokenInvalid) ∷ []) (Ok (names_from recipient seen l c.after))
-names_by recipient seen l (Some (cursor.Files c)) = Err (plain TokenInvalid)
-names_by recipient seen l (Some (cursor.Feed c)) = Err (plain TokenInvalid)
+names_by recipient seen l _ = Err (plain TokenInvalid)
 
 abbrev pub names_with : ReplyKeys → List ℕ → NamesView → Listing → Option (List ℕ) → Result NamesPage Refused
 names_with keys recipient seen l None = Ok (names_from recipient seen l [])

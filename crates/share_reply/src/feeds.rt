@@ -1,7 +1,8 @@
 // Pages of a table's changes.
-ghost use Rattle.std.specs.Prelude.{◌≡◌, ◌+◌, ◌≤◌, ◌^◌, IfOk, length, map, option_copied, option_map, vec_len};
+ghost use Rattle.std.specs.Prelude.{◌≡◌, ◌+◌, ◌≤◌, ◌^◌, true, IfOk, IfSome, length, map, option_copied, option_map, vec_len};
 ghost use Rattle.page_token.specs.Token.{token_text};
 ghost use Rattle.share_reply.specs.Answer.{ends_with};
+ghost use Rattle.share_reply.specs.Chains.{IsSpelt};
 ghost use Rattle.share_reply.specs.Asking.{asked_at};
 ghost use Rattle.share_reply.specs.Feeds as spec;
 ghost use Rattle.share_reply.specs.Files as files;
@@ -9,7 +10,7 @@ ghost use Rattle.share_reply.specs.Pages.{given};
 ghost use Rattle.share_reply.specs.Starts.{behind, end_of, feed_start, feed_start_by, off_at, page_of_changes, query_in};
 ghost use Rattle.change_feed.specs.Shown.{feed_from};
 ghost use Rattle.std.specs.Arc.{arc_value};
-ghost use Rattle.share_reply.specs.Stops.{Gives, GivesItems, as_lines};
+ghost use Rattle.share_reply.specs.Stops.{GivesItems, GivesPage};
 
 use crate::access::{Access, Signing, expiry};
 use crate::files::{ends_with, is_paged, not_found};
@@ -177,7 +178,8 @@ fn next_token(
     begin: &FeedBegin,
     next: Option<u64>,
 ) -> Result<Option<Text>, AllocError>
-    ensures { IfOk result (λ t. t ≡ option_map (token_text signing.now.keys.now.token) (option_map (spec.feed_cursor signing.now.access (feed_start begin.now)) next)) }
+    ensures token { IfOk result (λ t. t ≡ option_map (token_text signing.now.keys.now.token) (option_map (spec.feed_cursor signing.now.access (feed_start begin.now)) next)) }
+    ensures spelt { IfOk result (λ _. IfSome (option_map (spec.feed_cursor signing.now.access (feed_start begin.now)) next) (IsSpelt signing.now.keys.now)) }
 {
     let Some(place) = next else {
         return Ok(None);
@@ -203,8 +205,9 @@ fn page_end(
     page: &[Change<'_>],
     next: Option<u64>,
 ) -> Result<Option<EndLine>, AllocError>
-    ensures { IfOk result (λ e. e ≡ end_of signing.now.keys.now (files.is_paged asked.now.max asked.now.token.now)
+    ensures line { IfOk result (λ e. e ≡ end_of signing.now.keys.now (files.is_paged asked.now.max asked.now.token.now)
         (record { expires = ends_with signing.now.expires page.now; next = option_map (spec.feed_cursor signing.now.access (feed_start begin.now)) next })) }
+    ensures spelt { files.is_paged asked.now.max asked.now.token.now ≡ true → IfOk result (λ _. IfSome (option_map (spec.feed_cursor signing.now.access (feed_start begin.now)) next) (IsSpelt signing.now.keys.now)) }
 {
     if !is_paged(asked.max, asked.token) {
         return Ok(None);
@@ -226,7 +229,7 @@ fn page_of_changes<'a>(
     actions: &'a [Action],
     changes: Vec<Change<'a>>,
 ) -> Result<Paged<'a>, Stop>
-    ensures { Gives result (as_lines keys.now (page_of_changes keys.now access.entry now (query_in asked.now) (feed_start begin.now) actions.now changes.entry.items)) }
+    ensures { GivesPage keys.now result (page_of_changes keys.now access.entry now (query_in asked.now) (feed_start begin.now) actions.now changes.entry.items) }
 {
     let count = changes.len();
     let place = begin.place.get();
@@ -261,7 +264,7 @@ fn page_of_feed<'a>(
     asked: &ChangesAsked<'_>,
     feed: &'a FeedPart,
 ) -> Result<Paged<'a>, Stop>
-    ensures { Gives result (as_lines keys.now (spec.page_of_feed keys.now access.entry now (query_in asked.now) (feed_start begin.now) feed.now)) }
+    ensures { GivesPage keys.now result (spec.page_of_feed keys.now access.entry now (query_in asked.now) (feed_start begin.now) feed.now) }
 {
     let changes = changes_in(alloc, feed)?;
     let actions = feed.meta.get().actions();
@@ -277,7 +280,7 @@ fn first_page<'a>(
     asked: &ChangesAsked<'_>,
     feed: &'a FeedPart,
 ) -> Result<Paged<'a>, Stop>
-    ensures { Gives result (as_lines keys.now (spec.page_of_feed keys.now access.entry now (query_in asked.now) (spec.first_start (query_in asked.now) feed.now) feed.now)) }
+    ensures { GivesPage keys.now result (spec.page_of_feed keys.now access.entry now (query_in asked.now) (spec.first_start (query_in asked.now) feed.now) feed.now) }
 {
     let begin = FeedBegin {
         asked_from: asked_at(&asked.from),
@@ -300,7 +303,7 @@ fn feed_from<'a>(
     later: Option<&FeedBegin>,
     found: &'a PartFound,
 ) -> Result<Paged<'a>, Stop>
-    ensures { Gives result (as_lines keys.now (spec.feed_from keys.now access.entry now (query_in asked.now) (feed_start_by (query_in asked.now) (option_copied later.entry)) found.now)) }
+    ensures { GivesPage keys.now result (spec.feed_from keys.now access.entry now (query_in asked.now) (feed_start_by (query_in asked.now) (option_copied later.entry)) found.now) }
 {
     match found {
         PartFound::Feed(feed) => match later {
@@ -323,7 +326,7 @@ fn later_feed<'a>(
     cursor: &FeedCursor,
     found: &'a PartFound,
 ) -> Result<Paged<'a>, Stop>
-    ensures { Gives result (as_lines keys.now (spec.later_feed keys.now access.entry now (query_in asked.now) cursor.now found.now)) }
+    ensures { GivesPage keys.now result (spec.later_feed keys.now access.entry now (query_in asked.now) cursor.now found.now) }
 {
     if !access.is_same_table(&cursor.access) {
         return Err(refuse(alloc, Refusal::TokenInvalid));
@@ -353,7 +356,7 @@ fn feed_by<'a>(
     cursor: &Option<Cursor>,
     found: &'a PartFound,
 ) -> Result<Paged<'a>, Stop>
-    ensures { Gives result (as_lines keys.now (spec.feed_by keys.now access.entry now (query_in asked.now) cursor.now found.now)) }
+    ensures { GivesPage keys.now result (spec.feed_by keys.now access.entry now (query_in asked.now) cursor.now found.now) }
 {
     match cursor {
         Some(Cursor::Feed(cursor)) => later_feed(alloc, keys, access, now, asked, cursor, found),
@@ -370,7 +373,7 @@ pub(crate) fn changes_page<'a>(
     asked: &ChangesAsked<'_>,
     found: &'a PartFound,
 ) -> Result<Paged<'a>, Stop>
-    ensures { Gives result (as_lines keys.now (spec.changes_page keys.now access.entry now (query_in asked.now) found.now)) }
+    ensures { GivesPage keys.now result (spec.changes_page keys.now access.entry now (query_in asked.now) found.now) }
 {
     let Some(token) = asked.token else {
         return feed_from(alloc, keys, access, now, asked, None, found);

@@ -1,14 +1,15 @@
 // Pages of a table's files.
-ghost use Rattle.std.specs.Prelude.{◌≡◌, [], Some, None, Ok, if◌then◌else◌, IfOk, is_some, map, option_copied, option_map};
+ghost use Rattle.std.specs.Prelude.{◌≡◌, [], Some, None, Ok, if◌then◌else◌, true, IfOk, IfSome, is_some, map, option_copied, option_map};
 ghost use Rattle.page_token.specs.Token.{token_text};
 ghost use Rattle.pred_tree.specs.Grammar.{predicate_in};
 ghost use Rattle.share_reply.specs.Answer.{ends_with};
+ghost use Rattle.share_reply.specs.Chains.{IsSpelt};
 ghost use Rattle.share_reply.specs.Asking.{asked_by};
 ghost use Rattle.share_reply.specs.Files as spec;
 ghost use Rattle.share_reply.specs.Pages.{given, next_place};
 ghost use Rattle.share_reply.specs.Refusing.{plain};
 ghost use Rattle.share_reply.specs.Starts.{end_of, files_start, files_start_by};
-ghost use Rattle.share_reply.specs.Stops.{Gives, as_lines};
+ghost use Rattle.share_reply.specs.Stops.{Gives, GivesPage};
 ghost use Rattle.share_reply.specs.declared.stop.Stop.TheVariants as stop;
 
 use crate::access::{Access, Signing, expiry};
@@ -195,7 +196,8 @@ fn next_token(
     begin: &FilesBegin,
     next: Option<u64>,
 ) -> Result<Option<Text>, AllocError>
-    ensures { IfOk result (λ t. t ≡ option_map (token_text signing.now.keys.now.token) (option_map (spec.files_cursor signing.now.access (files_start begin.now)) next)) }
+    ensures token { IfOk result (λ t. t ≡ option_map (token_text signing.now.keys.now.token) (option_map (spec.files_cursor signing.now.access (files_start begin.now)) next)) }
+    ensures spelt { IfOk result (λ _. IfSome (option_map (spec.files_cursor signing.now.access (files_start begin.now)) next) (IsSpelt signing.now.keys.now)) }
 {
     let Some(place) = next else {
         return Ok(None);
@@ -227,8 +229,9 @@ fn page_end(
     begin: &FilesBegin,
     cut: &FilesCut<'_>,
 ) -> Result<Option<EndLine>, AllocError>
-    ensures { IfOk result (λ e. e ≡ end_of signing.now.keys.now (spec.is_paged query.now.max query.now.token)
+    ensures line { IfOk result (λ e. e ≡ end_of signing.now.keys.now (spec.is_paged query.now.max query.now.token)
         (record { expires = ends_with signing.now.expires (map (λ f. f.now) cut.now.files.items); next = option_map (spec.files_cursor signing.now.access (files_start begin.now)) cut.now.next })) }
+    ensures spelt { spec.is_paged query.now.max query.now.token ≡ true → IfOk result (λ _. IfSome (option_map (spec.files_cursor signing.now.access (files_start begin.now)) cut.now.next) (IsSpelt signing.now.keys.now)) }
 {
     if !is_paged(query.max, &query.token) {
         return Ok(None);
@@ -263,7 +266,7 @@ fn page_of_state<'a>(
     begin: &FilesBegin,
     snapshot: &'a Snapshot,
 ) -> Result<Paged<'a>, Stop>
-    ensures { Gives result (as_lines keys.now (spec.page_of_state keys.now access.entry now query.now (files_start begin.now) snapshot.now)) }
+    ensures { GivesPage keys.now result (spec.page_of_state keys.now access.entry now query.now (files_start begin.now) snapshot.now) }
 {
     if snapshot.len() < begin.place.get() {
         return Err(refuse(alloc, Refusal::TokenAhead));
@@ -294,7 +297,7 @@ fn files_from<'a>(
     later: Option<&FilesCursor>,
     found: &'a PartFound,
 ) -> Result<Paged<'a>, Stop>
-    ensures { Gives result (as_lines keys.now (spec.files_from keys.now access.entry now query.now (files_start_by query.now (option_copied later.entry)) found.now)) }
+    ensures { GivesPage keys.now result (spec.files_from keys.now access.entry now query.now (files_start_by query.now (option_copied later.entry)) found.now) }
 {
     match found {
         PartFound::Files(version, state) => {
@@ -317,7 +320,7 @@ fn later_files<'a>(
     cursor: &FilesCursor,
     found: &'a PartFound,
 ) -> Result<Paged<'a>, Stop>
-    ensures { Gives result (as_lines keys.now (spec.later_files keys.now access.entry now query.now cursor.now found.now)) }
+    ensures { GivesPage keys.now result (spec.later_files keys.now access.entry now query.now cursor.now found.now) }
 {
     if !access.is_same_table(&cursor.access) {
         return Err(refuse(alloc, Refusal::TokenInvalid));
@@ -340,7 +343,7 @@ fn files_by<'a>(
     cursor: &Option<Cursor>,
     found: &'a PartFound,
 ) -> Result<Paged<'a>, Stop>
-    ensures { Gives result (as_lines keys.now (spec.files_by keys.now access.entry now query.now cursor.now found.now)) }
+    ensures { GivesPage keys.now result (spec.files_by keys.now access.entry now query.now cursor.now found.now) }
 {
     match cursor {
         Some(Cursor::Files(cursor)) => {
@@ -359,7 +362,7 @@ pub(crate) fn query_page<'a>(
     query: &QueryBody,
     found: &'a PartFound,
 ) -> Result<Paged<'a>, Stop>
-    ensures { Gives result (as_lines keys.now (spec.query_page keys.now access.entry now query.now found.now)) }
+    ensures { GivesPage keys.now result (spec.query_page keys.now access.entry now query.now found.now) }
 {
     let Some(token) = &query.token else {
         return files_from(alloc, keys, access, now, query, None, found);
@@ -375,7 +378,7 @@ pub(crate) fn metadata_page<'a>(
     access: Access<'a>,
     found: &'a PartFound,
 ) -> Result<Paged<'a>, Stop>
-    ensures { Gives result (as_lines keys.now (spec.metadata_page found.now)) }
+    ensures { GivesPage keys.now result (spec.metadata_page found.now) }
 {
     match found {
         PartFound::Files(version, state) => {

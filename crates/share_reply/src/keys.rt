@@ -1,6 +1,7 @@
 // What tokens and links are made with.
 ghost use Rattle.std.specs.Prelude.{◌≡◌, IfOk};
 ghost use Rattle.page_token.specs.Token.{token_text};
+ghost use Rattle.share_reply.specs.Chains.{IsSpelt};
 
 use hmac_core::HmacKey;
 use json_tree::Text;
@@ -24,7 +25,8 @@ pub struct ReplyKeys {
 impl ReplyKeys {
     /// The page token of a cursor.
     pub(crate) fn token_of(&self, alloc: Global, cursor: Cursor) -> Result<Text, AllocError>
-        ensures { IfOk result (λ t. t ≡ token_text self.now.token cursor) }
+        ensures token { IfOk result (λ t. t ≡ token_text self.now.token cursor) }
+        ensures spelt { IfOk result (λ _. IsSpelt self.now cursor) }
     {
         spell(alloc, &self.token, &cursor)
     }

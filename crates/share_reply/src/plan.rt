@@ -6,6 +6,7 @@ ghost use Rattle.share_request.specs.declared.asked.Request.TheVariants as reque
 ghost use Rattle.share_reply.specs.Answer.{NamesPage, Page, of};
 ghost use Rattle.share_reply.specs.Answer as answer;
 ghost use Rattle.share_reply.specs.Bodies.{reply_of};
+ghost use Rattle.share_reply.specs.Chains.{NextIsSpelt};
 ghost use Rattle.share_reply.specs.Lists as lists;
 ghost use Rattle.share_reply.specs.Listings.{as_names, as_share};
 ghost use Rattle.share_reply.specs.Refusing.{plain, Refused as RefusedView};
@@ -13,7 +14,7 @@ ghost use Rattle.share_reply.specs.Feeds as feeds_spec;
 ghost use Rattle.share_reply.specs.Files as files_spec;
 ghost use Rattle.share_reply.specs.Replies as replies;
 ghost use Rattle.share_reply.specs.Replies.{answer_from, answered, seen_for};
-ghost use Rattle.share_reply.specs.Stops.{Gives, as_lines};
+ghost use Rattle.share_reply.specs.Stops.{Gives, GivesPage};
 ghost use Rattle.share_reply.specs.declared.keys.ReplyKeys.{ReplyKeys as Keys};
 ghost use Rattle.share_reply.specs.declared.plan.Plan.TheVariants as plan_is;
 
@@ -95,7 +96,8 @@ fn of_version<'a>(given: Result<u64, Stop>) -> Result<Plan<'a>, AllocError>
 }
 
 fn of_page<'a>(given: Result<Paged<'a>, Stop>) -> Result<Plan<'a>, AllocError>
-    ensures { (keys : Keys) (page : Result Page RefusedView) → Gives given.entry (as_lines keys page) → IfOk result (λ p. p ≡ reply_of keys (of answer.page page)) }
+    ensures reply { (keys : Keys) (page : Result Page RefusedView) → GivesPage keys given.entry page → IfOk result (λ p. p ≡ reply_of keys (of answer.page page)) }
+    ensures spelt { (keys : Keys) (page : Result Page RefusedView) → GivesPage keys given.entry page → IfOk result (λ _. NextIsSpelt keys (of answer.page page)) }
 {
     match given {
         Ok(page) => Ok(Plan::Lines(page.version, page.lines)),
@@ -163,7 +165,8 @@ fn metadata_plan<'a>(
     table: &'a TableName,
     found: &'a Found,
 ) -> Result<Plan<'a>, AllocError>
-    ensures { IfOk result (λ p. p ≡ reply_of keys.now (replies.of_table recipient.now table.now (λ a part. of answer.page (files_spec.metadata_page part)) found.now)) }
+    ensures reply { IfOk result (λ p. p ≡ reply_of keys.now (replies.of_table recipient.now table.now (λ a part. of answer.page (files_spec.metadata_page part)) found.now)) }
+    ensures spelt { IfOk result (λ _. NextIsSpelt keys.now (replies.of_table recipient.now table.now (λ a part. of answer.page (files_spec.metadata_page part)) found.now)) }
 {
     match found {
         Found::Table(spot, part) => {
@@ -183,7 +186,8 @@ fn query_plan<'a>(
     query: &QueryBody,
     found: &'a Found,
 ) -> Result<Plan<'a>, AllocError>
-    ensures { IfOk result (λ p. p ≡ reply_of keys.now (replies.of_table recipient.now table.now (λ a part. of answer.page (files_spec.query_page keys.now a now query.now part)) found.now)) }
+    ensures reply { IfOk result (λ p. p ≡ reply_of keys.now (replies.of_table recipient.now table.now (λ a part. of answer.page (files_spec.query_page keys.now a now query.now part)) found.now)) }
+    ensures spelt { IfOk result (λ _. NextIsSpelt keys.now (replies.of_table recipient.now table.now (λ a part. of answer.page (files_spec.query_page keys.now a now query.now part)) found.now)) }
 {
     match found {
         Found::Table(spot, part) => {
@@ -203,7 +207,8 @@ fn changes_plan<'a>(
     asked: &ChangesAsked,
     found: &'a Found,
 ) -> Result<Plan<'a>, AllocError>
-    ensures { IfOk result (λ p. p ≡ reply_of keys.now (replies.of_table recipient.now table.now (λ a part. of answer.page (feeds_spec.changes_page keys.now a now (record { from = asked.now.from; to = asked.now.to; max = asked.now.max; token = asked.now.token.now }) part)) found.now)) }
+    ensures reply { IfOk result (λ p. p ≡ reply_of keys.now (replies.of_table recipient.now table.now (λ a part. of answer.page (feeds_spec.changes_page keys.now a now (record { from = asked.now.from; to = asked.now.to; max = asked.now.max; token = asked.now.token.now }) part)) found.now)) }
+    ensures spelt { IfOk result (λ _. NextIsSpelt keys.now (replies.of_table recipient.now table.now (λ a part. of answer.page (feeds_spec.changes_page keys.now a now (record { from = asked.now.from; to = asked.now.to; max = asked.now.max; token = asked.now.token.now }) part)) found.now)) }
 {
     match found {
         Found::Table(spot, part) => {
@@ -224,7 +229,8 @@ fn what_plan<'a>(
     what: &'a What,
     found: &'a Found,
 ) -> Result<Plan<'a>, AllocError>
-    ensures { IfOk result (λ p. p ≡ reply_of keys.now (replies.answer_what keys.now recipient.now now what.now found.now)) }
+    ensures reply { IfOk result (λ p. p ≡ reply_of keys.now (replies.answer_what keys.now recipient.now now what.now found.now)) }
+    ensures spelt { IfOk result (λ _. NextIsSpelt keys.now (replies.answer_what keys.now recipient.now now what.now found.now)) }
 {
     match what {
         What::ListShares { page } => {
@@ -282,7 +288,8 @@ fn asked_plan<'a>(
     asked: &'a Result<What, RequestFault>,
     found: &'a Found,
 ) -> Result<Plan<'a>, AllocError>
-    ensures { IfOk result (λ p. p ≡ reply_of keys.now (replies.answer_asked keys.now recipient.now now asked.now found.now)) }
+    ensures reply { IfOk result (λ p. p ≡ reply_of keys.now (replies.answer_asked keys.now recipient.now now asked.now found.now)) }
+    ensures spelt { IfOk result (λ _. NextIsSpelt keys.now (replies.answer_asked keys.now recipient.now now asked.now found.now)) }
 {
     match asked {
         Ok(what) => what_plan(alloc, keys, recipient, now, what, found),
@@ -308,7 +315,8 @@ fn token_plan<'a>(
     asked: &'a Result<What, RequestFault>,
     seen: &'a Option<Seen>,
 ) -> Result<Plan<'a>, AllocError>
-    ensures { IfOk result (λ p. p ≡ reply_of keys.now (replies.answer_to keys.now now asked.now seen.now)) }
+    ensures reply { IfOk result (λ p. p ≡ reply_of keys.now (replies.answer_to keys.now now asked.now seen.now)) }
+    ensures spelt { IfOk result (λ _. NextIsSpelt keys.now (replies.answer_to keys.now now asked.now seen.now)) }
 {
     let Some(seen) = seen else {
         return Ok(refused(alloc, Refusal::Unauthenticated));
@@ -352,6 +360,9 @@ pub fn plan_of<'a>(
     seen: &'a Option<Seen>,
 ) -> Result<Plan<'a>, AllocError>
     ensures reply { IfOk result (λ p. p ≡ reply_of keys.now (answer_from keys.now now request.now seen.now)) }
+
+    // Where it is a page behind which another is left, there is a token of where that begins.
+    ensures spelt { IfOk result (λ _. NextIsSpelt keys.now (answer_from keys.now now request.now seen.now)) }
 
     // What was seen is what a view shows for the request: then it is the answer by that view.
     ensures view { (view : Option View) → seen.now ≡ seen_for keys.now request.now view → IfOk result (λ p. p ≡ reply_of keys.now (answered keys.now view now request.now)) }

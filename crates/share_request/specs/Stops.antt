@@ -31,10 +31,8 @@ tree_stop tree.NotJson = stop.Refused fault.BadBody
 tree_stop tree.NoMemory = stop.NoMemory
 
 abbrev pub record_stop : RecordFault → Stop
-record_stop record_fault.NotUtf8 = stop.Refused fault.BadBody
-record_stop record_fault.NotJson = stop.Refused fault.BadBody
-record_stop record_fault.BadRecord = stop.Refused fault.BadBody
 record_stop record_fault.NoMemory = stop.NoMemory
+record_stop _ = stop.Refused fault.BadBody
 
 abbrev pub action_stop : NoAction → Stop
 action_stop (none.Fault f) = stop.Refused fault.BadBody

@@ -17,7 +17,11 @@ use Rattle.response_text.specs.declared.status.Status.{Status}
 use Rattle.response_text.specs.declared.status.Status.TheVariants as status
 use Rattle.share_lines.specs.Printing.{body_text}
 use Rattle.share_lines.specs.declared.kinds.Line.{Line}
+use Rattle.share_reply.specs.Answer.{Answer}
+use Rattle.share_reply.specs.Bodies.{reply_of}
+use Rattle.share_reply.specs.Chains.{NextIsSpelt}
 use Rattle.share_reply.specs.Refusing.{plain}
+use Rattle.share_reply.specs.declared.keys.ReplyKeys.{ReplyKeys}
 use Rattle.share_reply.specs.declared.plan.Plan.{Plan}
 use Rattle.share_reply.specs.declared.plan.Plan.TheVariants as plan
 use Rattle.share_serve.specs.Responses.{body_sent, bytes_response, file_response, lines_response, object_response, out_response, picked_response, refusal_response, response_head, response_text}
@@ -189,3 +193,9 @@ module _ (size last : ℕ) (end : last ≡ size - 1) where
 
   pub no_range : cond (nat_le 0 last && nat_lt last size) (Some whole_range) None ≡ None → size ≡ 0
   no_range e = none_by (nat_le 0 last && nat_lt last size) refl e
+
+-- the reply of an answer, with a token of where the next page begins
+pub answer_written : (keys : ReplyKeys) (end : Delivered) (d : Delivery) (p : Plan) (a : Answer) (before after : Shelf) (w w' : Option (List ℕ)) → p ≡ reply_of keys a → NextIsSpelt keys a
+    → Writes end d (λ r. ReplyIs p r before after) (after ≡ before) w w' → Writes end d (λ r. ReplyIs (reply_of keys a) r before after × NextIsSpelt keys a) (after ≡ before) w w'
+answer_written keys end d p a before after w w' is spelt (inl none) = inl none
+answer_written keys end d p a before after w w' is spelt (inr (r, reply, written)) = inr (r, (subst (λ (z : Plan). ReplyIs z r before after) is reply, spelt), written)

@@ -54,18 +54,10 @@ pub data By : Type 0 where
   refused : Refused → By
 
 abbrev pub by_what : What → By
-by_what (what.ListShares page) = view
-by_what (what.GetShare share) = view
-by_what (what.ListSchemas share page) = view
-by_what (what.ListTables share schema page) = view
-by_what (what.ListAll share page) = view
-by_what (what.Version table from) = view
-by_what (what.Metadata table at) = view
-by_what (what.Query table body) = view
-by_what (what.Changes table from to max token) = view
 by_what (what.Commit offer) = commit offer
 by_what (what.Refresh location) = refresh location
 by_what (what.Edit e) = edit e
+by_what _ = view
 
 -- a fault of the request is told once it is known who asks
 abbrev pub by_asked : Result What RequestFault → By

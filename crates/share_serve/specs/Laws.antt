@@ -60,11 +60,9 @@ request_of t = request_in t.message.head t.message.body
 
 -- it is a call that puts an object where it is accepted
 abbrev pub may_put : By → Bool
-may_put by.view = false
 may_put (by.commit o) = true
-may_put (by.refresh l) = false
 may_put (by.edit e) = true
-may_put (by.refused f) = false
+may_put _ = false
 
 -- a commit or an edit that is answered with 200
 abbrev pub is_acknowledged : Server → Turn → Bool
@@ -85,10 +83,7 @@ abbrev pub IsComplete : SessionEnd → Type 0
 IsComplete (end.Done served) = ⊤
 IsComplete (end.Truncated at served) = ⊤
 IsComplete (end.BadMessage at flaw served) = ⊤
-IsComplete (end.ReadFault served) = ⊥
-IsComplete (end.WriteFault served) = ⊥
-IsComplete (end.BodyCut served sent) = ⊥
-IsComplete (end.NoMemory served) = ⊥
+IsComplete _ = ⊥
 
 -- Two whole sessions of the same bytes, moments and responses write the same, over whatever pieces, and whoever else was there.
 abbrev pub EndsTheSame : Type 0

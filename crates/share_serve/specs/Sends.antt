@@ -73,16 +73,12 @@ DeliveryCause (delivered.Cut sent) objects n m a b = IfSome objects (λ _. Rose 
 -- behind a whole response nothing of it is kept back
 abbrev pub HasGoneOut : Delivered → (kept : List ℕ) → Type 0
 HasGoneOut delivered.Whole kept = kept ≡ []
-HasGoneOut delivered.WriteFault kept = ⊤
-HasGoneOut delivered.NoMemory kept = ⊤
-HasGoneOut (delivered.Cut n) kept = ⊤
+HasGoneOut _ kept = ⊤
 
 -- a body is cut only where P holds
 abbrev pub CutOnly : Delivered → (P : Type 0) → Type 0
-CutOnly delivered.Whole P = ⊤
-CutOnly delivered.WriteFault P = ⊤
-CutOnly delivered.NoMemory P = ⊤
 CutOnly (delivered.Cut n) P = P
+CutOnly _ P = ⊤
 
 -- what came of a response that is held whole
 abbrev pub delivered_of : Sent → Delivered

@@ -83,10 +83,7 @@ RefusalEnds (end.BadMessage at' flaw' served') at flaw served old new =
     (at' ≡ at) × (flaw' ≡ flaw) × (served' ≡ served) × ((moment : ℕ) × Refuses moment (refusal_text flaw moment) old new) × (new.kept ≡ [])
 RefusalEnds (end.WriteFault served') at flaw served old new = (served' ≡ served) × RefusesPart flaw old new
 RefusalEnds (end.NoMemory served') at flaw served old new = (served' ≡ served) × RefusesPart flaw old new
-RefusalEnds (end.BodyCut served' sent) at flaw served old new = ⊥
-RefusalEnds (end.Done served') at flaw served old new = ⊥
-RefusalEnds (end.Truncated at' served') at flaw served old new = ⊥
-RefusalEnds (end.ReadFault served') at flaw served old new = ⊥
+RefusalEnds _ at flaw served old new = ⊥
 
 -- ---- a step of the loop
 

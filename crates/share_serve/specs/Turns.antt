@@ -27,6 +27,7 @@ use Rattle.hub_catalog.specs.declared.edit.EditEnd.{EditEnd}
 use Rattle.hub_tables.specs.declared.refresh.RefreshRefusal.{RefreshRefusal}
 use Rattle.hub_tables.specs.declared.refresh.Refreshed.{Refreshed}
 use Rattle.share_reply.specs.Bodies.{reply_of}
+use Rattle.share_reply.specs.Chains.{NextIsSpelt}
 use Rattle.share_reply.specs.Refusing.{plain}
 use Rattle.share_reply.specs.Replies.{answered_at}
 use Rattle.share_reply.specs.declared.plan.Plan.{Plan}
@@ -86,16 +87,13 @@ ObjectIs name span r old new =
 -- the response of a reply; the store is asked for an object alone
 abbrev pub ReplyIs : Plan → Response → (old new : Shelf) → Type 0
 ReplyIs (plan.File name span) r old new = ObjectIs name span r old new
-ReplyIs (plan.Refused x) r old new = (response_of (plan.Refused x) ≡ Some r) × (new ≡ old)
-ReplyIs (plan.Only m) r old new = (response_of (plan.Only m) ≡ Some r) × (new ≡ old)
-ReplyIs (plan.Json text) r old new = (response_of (plan.Json text) ≡ Some r) × (new ≡ old)
-ReplyIs (plan.Version v) r old new = (response_of (plan.Version v) ≡ Some r) × (new ≡ old)
-ReplyIs (plan.Lines v lines) r old new = (response_of (plan.Lines v lines) ≡ Some r) × (new ≡ old)
+ReplyIs other r old new = (response_of other ≡ Some r) × (new ≡ old)
 
--- The reply is that of the recipient's view at the point, which is all that was seen; the caller adds nothing to the history.
+-- The reply is that of the recipient's view at the point, which is all that was seen; the caller adds nothing to the history. Where a page is left behind it, it has the token of that one.
 pub record Views (server : Server) (asked : Request) (moment : ℕ) (r : Response) (old new : Hold) : Type 0 where
   pub own : Adds old.pass new.pass []
   pub reply : ReplyIs (reply_of server.keys (answered_at server.keys new.pass.seen moment asked)) r old.shelf new.shelf
+  pub spelt : NextIsSpelt server.keys (answered_at server.keys new.pass.seen moment asked)
 
 -- the reply is an object of the store's
 abbrev pub IsFile : Plan → Type 0

@@ -37,11 +37,7 @@ Stays before now = (now ≤ before) × (now < 2 ^ 64 - 1)
 abbrev pub AnswersAll : List Message → List Turn → SessionEnd → Type 0
 AnswersAll ms turns (end.Done served) = (messages_of turns ≡ up_to_closing 0 ms) × (served ≡ length turns)
 AnswersAll ms turns (end.NoMemory served) = IsPrefix (messages_of turns) (up_to_closing 0 ms) × (served ≡ length turns)
-AnswersAll ms turns (end.Truncated at served) = ⊥
-AnswersAll ms turns (end.BadMessage at flaw served) = ⊥
-AnswersAll ms turns (end.ReadFault served) = ⊥
-AnswersAll ms turns (end.WriteFault served) = ⊥
-AnswersAll ms turns (end.BodyCut served sent) = ⊥
+AnswersAll ms turns _ = ⊥
 
 -- Where the bytes are whole requests and neither reads, nor writes, nor the store failed, all of them are answered. So a session that stops before is one whose bytes stop before or break a rule, or that has a fault or want of memory to show for it.
 abbrev pub WholeRequestsAreAnswered : Type 0

@@ -4,7 +4,6 @@ use Rattle.std.proofs.lemmas.Result.{err_from_is_err_and}
 use Rattle.log_store.proofs.Growing.{looked_more}
 use Rattle.share_commands.specs.Configuration.{config_at}
 use Rattle.hub_catalog.specs.Opens.{first_history}
-use Rattle.share_commands.proofs.Hosting.{numbered}
 use Rattle.share_commands.proofs.Serving.{configures, hub_reason, known_first, opens_for}
 use Rattle.share_commands.proofs.opening.open_server.Goals as goal
 
@@ -25,8 +24,7 @@ returns-clause-opened g c =
     let first = c.in_ok-config.ensures.looked.grows in
     let last = c.in_ok-hub.ensures.looked.grows in
     let opened = c.in_ok-hub.ensures.opened.1 in
-    let known = known_first c.in_ok-hub.hub (first_history opened.0) c.index.result.now c.args.callers
-    (c.index.ensures ∙ numbered c.in_ok-hub.hub (first_history opened.0) c.in_ok-hub.passes.items 0 c.index.result.now opened.1 (omega (arith, c.requires.callers.0, c.in_ok-hub.ensures.opened.0))) c.in_ok-hub.ensures.callers c.known.ensures in (
+    let known = known_first c.in_ok-hub.hub (first_history opened.0) c.in_ok-hub.passes.items c.args.callers opened.1 (omega (arith, c.requires.callers.0, c.in_ok-hub.ensures.opened.0)) c.in_ok-hub.ensures.callers c.in_ok-hub.ensures.known in (
       (c.in-Some.config, c.of.ensures, configures (Some c.in-Some.config) (g.W.Store.objects c.args.store.now) (g.W.Store.objects c.stored_config.new.store) (g.W.Store.objects c.open.new.store) first last found),
       opens_for c.in_ok-hub.hub opened.0 c.in_ok-hub.passes.items c.args.callers (g.W.Store.objects c.args.store.now) (g.W.Store.objects c.stored_config.new.store) (g.W.Store.objects c.open.new.store)
           c.in_ok-hub.ensures.opened.0 c.in_ok-hub.ensures.callers opened.1 known first opened.2 opened.3,

@@ -4,7 +4,7 @@ use Rattle.edge_core.specs.declared.store.Put.{Put}
 use Rattle.edge_core.specs.declared.store.Put.TheVariants as put
 
 -- the count after a put
-abbrev pub acknowledged : ℕ → Put → ℕ
-acknowledged before put.Stored = before + 1
-acknowledged before put.Exists = before
-acknowledged before put.Failed = before
+abbrev pub stored_after : ℕ → Put → ℕ
+stored_after before put.Stored = before + 1
+stored_after before put.Exists = before
+stored_after before put.Failed = before
