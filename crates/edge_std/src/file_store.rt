@@ -2,9 +2,9 @@
 ghost use Rattle.std.specs.Prelude.{◌≡◌, ◌≤◌, IfOk, IfSome, None, length, true, false};
 ghost use Rattle.edge_core.specs.Faults.{Cause};
 
-use crate::files;
+use crate::{files, puts};
 use edge_core::{Got, Listed, Measured, Name, Put, Segment, Segments, Store};
-use std::alloc::{AllocError, Global};
+use std::alloc::Global;
 use std::fs::File;
 use std::io::ErrorKind;
 use std::{fs, io};
@@ -20,7 +20,10 @@ struct Opened {
 /// A store whose objects are the regular files below a root folder, each named by its path from there.
 ///
 /// It tells nothing of them, and counts the calls that failed and the puts that stored. A folder, a FIFO, a device and a link that leads to one, in
-/// a circle or nowhere is no object: to read it answers `Absent`, and never waits. But a listing tells the name of each
+/// a circle or nowhere is no object: to read it answers `Absent`, and never waits. Neither is a file to which links led out of the root folder; or, for a
+/// name that doesn't begin with `_share_log`, into that folder, or, for a name of more segments, to what lies in the root itself. The open file is asked where
+/// it lies, by `/proc/self/fd`, so that a link may be swapped at any time: without `/proc`, or where the root's real path isn't UTF-8, reads fail. A put into a folder
+/// where the object couldn't lie fails, and makes nothing there. But a listing tells the name of each
 /// thing in a folder, whatever it is, so that who looks for an object by its name sees that something else is there in its
 /// place. A listing asks nothing of what it names, so it fails only where the folder itself can't be read; of what comes
 /// while a folder is read it may tell one name and not another that came earlier.
@@ -39,7 +42,7 @@ pub struct FileStore {
 }
 
 impl FileStore {
-    /// The store of the files below the folder `root`, with counts of 0.
+    /// The store of the files below the folder `root`, which is there, with counts of 0.
     pub fn new(rt: HostRuntime, root: String) -> FileStore {
         FileStore {
             rt,
@@ -48,10 +51,6 @@ impl FileStore {
             faults: 0,
             stored: Steps::new(),
         }
-    }
-
-    fn path_of(&self, name: &str) -> Result<String, AllocError> {
-        format!(in self.rt.alloc(); "{}/{name}", self.root.as_str())
     }
 
     fn count_fault(&mut self)
@@ -72,7 +71,7 @@ impl FileStore {
         if files::leads_beside(name) {
             return Ok(None);
         }
-        let Some(file) = files::open_regular(&self.rt, self.path_of(name)?.as_str())? else {
+        let Some(file) = files::open_object(&self.rt, self.root.as_str(), name)? else {
             return Ok(None);
         };
         let name = String::from_str(self.rt.alloc(), name)?;
@@ -95,29 +94,30 @@ impl FileStore {
         }
     }
 
-    fn measure(&self, name: &str) -> io::Result<Option<u64>> {
-        if files::leads_beside(name) {
-            return Ok(None);
+    // How many bytes an object has. Its file is opened anew, and stays open for who reads it next.
+    fn measure(&mut self, name: &str) -> io::Result<Option<u64>>
+        ensures faults { self.new.faults ≡ self.old.faults }
+        ensures stored { self.new.stored ≡ self.old.stored }
+    {
+        self.opened = None;
+        self.opened = self.open(name)?;
+        match &self.opened {
+            Some(opened) => Ok(Some(opened.file.metadata()?.len())),
+            None => Ok(None),
         }
-        files::size_of(&self.rt, self.path_of(name)?.as_str())
     }
 
     fn store(&self, name: &str, bytes: &[u8]) -> io::Result<bool> {
         if files::leads_beside(name) {
             return Err(io::Error::from(ErrorKind::InvalidFilename));
         }
-        files::store(
-            &self.rt,
-            self.rt.alloc(),
-            self.root.as_str(),
-            self.path_of(name)?.as_str(),
-            bytes,
-        )
+        puts::store(&self.rt, self.root.as_str(), name, bytes)
     }
 
     fn segments(&self, alloc: Global, dir: &str) -> io::Result<Vec<Segment>> {
         let mut segments = Vec::new(alloc);
-        for name in files::names_in(&self.rt, alloc, self.path_of(dir)?.as_str())? {
+        let path = format!(in alloc; "{}/{dir}", self.root.as_str())?;
+        for name in files::names_in(&self.rt, alloc, path.as_str())? {
             if let Some(segment) = Segment::of(name) {
                 segments.push(segment)?;
             }

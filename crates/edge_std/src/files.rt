@@ -1,9 +1,10 @@
 // Files by their paths.
 ghost use Rattle.std.specs.Io.{ReadsAtMost};
 
+use crate::places::Bounds;
 use std::alloc::Global;
-use std::fs::{DirEntry, File, OpenOptions};
-use std::io::{ErrorKind, Write};
+use std::fs::{DirEntry, File};
+use std::io::ErrorKind;
 use std::os::unix::fs::FileExt;
 use std::{fs, io};
 
@@ -35,25 +36,23 @@ pub(crate) fn read_at(file: &File, from: u64, out: &mut [u8]) -> io::Result<usiz
     file.read_at(out, from)
 }
 
-/// How many bytes the regular file of a path has, none where there is none: nothing has the path, or a folder, a device or
-/// the like, or a link that leads to none. A link that can't be followed, since it leads in a circle or where nobody may
-/// look, leads to none.
-pub(crate) fn size_of(rt: &HostRuntime, path: &str) -> io::Result<Option<u64>> {
+// Whether a regular file has a path. None has it where nothing is there, or a folder, a device or the like, or a link that
+// leads to none. A link that can't be followed, since it leads in a circle or where nobody may look, leads to none.
+fn has_regular(rt: &HostRuntime, path: &str) -> io::Result<bool> {
     match fs::metadata(rt, path) {
-        Ok(about) if about.is_file() => Ok(Some(about.len())),
-        Ok(_) => Ok(None),
-        Err(e) if is_absence(e.kind()) => Ok(None),
+        Ok(about) => Ok(about.is_file()),
+        Err(e) if is_absence(e.kind()) => Ok(false),
         Err(e) => match fs::symlink_metadata(rt, path) {
-            Ok(about) if about.is_symlink() => Ok(None),
+            Ok(about) if about.is_symlink() => Ok(false),
             _ => Err(e),
         },
     }
 }
 
-/// Opens the regular file of a path, none where there is none. What else has the path isn't opened, since to open a FIFO
-/// waits for who writes it; and the open file is asked once more, since the path may have come to lead elsewhere.
-pub(crate) fn open_regular(rt: &HostRuntime, path: &str) -> io::Result<Option<File>> {
-    if size_of(rt, path)?.is_none() {
+// Opens the regular file of a path, none where there is none. What else has the path isn't opened, since to open a FIFO
+// waits for who writes it; and the open file is asked once more, since the path may have come to lead elsewhere.
+fn open_regular(rt: &HostRuntime, path: &str) -> io::Result<Option<File>> {
+    if !has_regular(rt, path)? {
         return Ok(None);
     }
     let file = match fs::open(rt, path) {
@@ -68,97 +67,15 @@ pub(crate) fn open_regular(rt: &HostRuntime, path: &str) -> io::Result<Option<Fi
     })
 }
 
-// Makes a folder below the root, and those between; what is made is as lasting as what is written.
-fn make_folder(rt: &HostRuntime, root: &str, folder: &str) -> io::Result<()> {
-    if fs::exists(rt, folder)? {
-        return Ok(());
-    }
-    fs::create_dir_all(rt, folder)?;
-    let mut above = folder;
-    while let Some((upper, _)) = above.rsplit_once('/') {
-        sync_folder(rt, upper)?;
-        if upper == root {
-            return Ok(());
-        }
-        above = upper;
-    }
-    Ok(())
-}
-
-fn sync_folder(rt: &HostRuntime, folder: &str) -> io::Result<()> {
-    fs::open(rt, folder)?.sync_all()
-}
-
-// A new file in a folder, under the first name of its kind that is free.
-fn create_beside(rt: &HostRuntime, alloc: Global, folder: &str) -> io::Result<(String, File)> {
-    for number in 0..u64::MAX {
-        let path = format!(in alloc; "{folder}/{BESIDE}{number}")?;
-        match OpenOptions::new()
-            .write(true)
-            .create_new(true)
-            .open(rt, path.as_str())
-        {
-            Ok(file) => return Ok((path, file)),
-            Err(e) if e.kind() == ErrorKind::AlreadyExists => {}
-            Err(e) => return Err(e),
-        }
-    }
-    Err(io::Error::from(ErrorKind::AlreadyExists))
-}
-
-fn write_all(mut file: File, bytes: &[u8]) -> io::Result<()> {
-    file.write_all(bytes)?;
-    file.sync_all()
-}
-
-// Gives a file a name, where nothing has it; false where a regular file has it. What else has it is an error.
-fn link(rt: &HostRuntime, from: &str, to: &str) -> io::Result<bool> {
-    match fs::hard_link(rt, from, to) {
-        Ok(()) => Ok(true),
-        Err(e) if e.kind() == ErrorKind::AlreadyExists && size_of(rt, to)?.is_some() => Ok(false),
-        Err(e) => Err(e),
-    }
-}
-
-// The folder that a path stands in.
-fn folder_of(path: &str) -> &str {
-    match path.rsplit_once('/') {
-        Some((folder, _)) => folder,
-        None => ".",
-    }
-}
-
-// Writes a file under a name of the store's own, gives it its path where nothing has it, and
-// removes the other name, also after a failure.
-fn write_and_link(rt: &HostRuntime, alloc: Global, path: &str, bytes: &[u8]) -> io::Result<bool> {
-    let (beside, file) = create_beside(rt, alloc, folder_of(path))?;
-    let linked = match write_all(file, bytes) {
-        Ok(()) => link(rt, beside.as_str(), path),
-        Err(e) => Err(e),
+/// Opens the file of an object below a root folder, none where there is none: no regular file has its path, or the one that was
+/// opened doesn't lie where the object of that name may (`Bounds`).
+pub(crate) fn open_object(rt: &HostRuntime, root: &str, name: &str) -> io::Result<Option<File>> {
+    let path = format!(in rt.alloc(); "{root}/{name}")?;
+    let Some(file) = open_regular(rt, path.as_str())? else {
+        return Ok(None);
     };
-    fs::remove_file(rt, beside.as_str())?;
-    linked
-}
-
-/// Stores a file of these bytes below a root folder where nothing has the path; false where a file has
-/// it. The file has its name only once it is whole and on the disk, so no reader sees a part of it,
-/// whenever the program is stopped.
-pub(crate) fn store(
-    rt: &HostRuntime,
-    alloc: Global,
-    root: &str,
-    path: &str,
-    bytes: &[u8],
-) -> io::Result<bool> {
-    if size_of(rt, path)?.is_some() {
-        return Ok(false);
-    }
-    make_folder(rt, root, folder_of(path))?;
-    let stored = write_and_link(rt, alloc, path, bytes)?;
-    if stored {
-        sync_folder(rt, folder_of(path))?;
-    }
-    Ok(stored)
+    let lies_well = Bounds::of(rt, root)?.let_file(rt, name, &file)?;
+    Ok(if lies_well { Some(file) } else { None })
 }
 
 // The name of an entry of a folder, none where it is no text, or a store's own.

@@ -8,15 +8,19 @@
 
 mod file_store;
 mod files;
+mod places;
+mod puts;
 mod std_clock;
 mod streams;
 mod tcp;
 mod tcp_door;
 mod tcp_way;
+mod timeouts;
 
 pub use file_store::FileStore;
 pub use std_clock::StdClock;
 pub use streams::{StdSink, StdSource};
-pub use tcp::{TcpSink, TcpSource, Timeouts};
+pub use tcp::{TcpSink, TcpSource};
 pub use tcp_door::TcpDoor;
 pub use tcp_way::TcpWay;
+pub use timeouts::{Pace, Timeouts};

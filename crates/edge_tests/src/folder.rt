@@ -70,6 +70,42 @@ put links/nowhere x failed
 put links/up x failed
 lists links file good loop nowhere up
 entries links 5
+# A link that leads out of the folder, into `_share_log` or to what lies in the folder itself is no object, by whatever links; nor is what lies
+# in such a folder, and nothing is stored there. One that leads to another file within is the file, and `_share_log` may have links within.
+put _share_log/0.json record stored
+put token secret stored
+put in/file f stored
+link in/own ../_share_log/0.json
+link in/token ../token
+link in/away /etc/passwd
+link in/twice away
+link in/records ../_share_log
+link in/root ..
+link in/outside /tmp
+link in/passwords /etc
+absent in/own
+absent in/token
+absent in/away
+absent in/twice
+absent in/records/0.json
+absent in/root/token
+absent in/root/_share_log/0.json
+absent in/passwords/passwd
+has in/root/in/file f
+has token secret
+put in/records/1.json x failed
+put in/root/other x failed
+put in/outside/share-edge-std-other x failed
+put in/outside/share-edge-std-other/x x failed
+put in/root/in/more m stored
+has in/more m
+link _share_log/1.json 0.json
+link _share_log/2.json ../token
+link _share_log/3.json /etc/passwd
+has _share_log/1.json record
+has _share_log/2.json secret
+absent _share_log/3.json
+lists in away file more outside own passwords records root token twice
 # Pieces are those of the named object: names in another order than their bytes', and names of one length.
 put d/b1 first. stored
 put d/a2 second stored

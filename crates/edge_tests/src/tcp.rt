@@ -4,7 +4,7 @@ use edge_core::{
     Clock, Flushing, Gave, LAST_MOMENT, Limited, Link, Listener, Listening, LockedDoor, Opened,
     SharedDoor, Sink, Source, Taken, Took, write_all,
 };
-use edge_std::{StdClock, TcpDoor, TcpWay, Timeouts};
+use edge_std::{Pace, StdClock, TcpDoor, TcpWay, Timeouts};
 use std::alloc::Global;
 use std::io::{Read, Write};
 use std::net::{Shutdown, TcpStream};
@@ -73,17 +73,97 @@ fn hear_nothing<N: Listener, P: Link>(
     }
 }
 
+// A door whose connections have those times.
+fn timed_door(rt: &HostRuntime, timeouts: Timeouts) -> Result<TcpDoor, Fail> {
+    Ok(TcpDoor::new(rt.clone()?).with_timeouts(timeouts))
+}
+
+// Times of which none but that for a message and a response ends soon.
+fn patient(pace: Option<Pace>) -> Timeouts {
+    Timeouts {
+        read: Duration::from_secs(50),
+        write: Duration::from_secs(50),
+        message: pace,
+        response: pace,
+        age: None,
+    }
+}
+
 #[test]
 fn a_silent_peer_is_a_fault(rt: HostRuntime) -> Result<(), Fail> {
-    let short = Timeouts {
-        read: Duration::from_millis(20),
-        write: Duration::from_secs(1),
-    };
-    let mut door = TcpDoor::new(rt.clone()?).with_timeouts(short);
-    let mut way = TcpWay::new(rt.clone()?).with_timeouts(short);
+    let mut timeouts = patient(None);
+    timeouts.read = Duration::from_millis(20);
+    let mut door = timed_door(&rt, timeouts)?;
+    let mut way = TcpWay::new(rt.clone()?);
     let port = opened_at(&mut door)?;
     let came = hear_nothing(&mut door, &mut way, port);
     assert!(rt; came == Some((Took::Failed, Gave::Bytes(4), (0, Took::End))));
+    Ok(())
+}
+
+#[test]
+fn a_line_of_its_age_ends_between_messages(rt: HostRuntime) -> Result<(), Fail> {
+    let mut timeouts = patient(None);
+    timeouts.age = Some(Duration::from_millis(20));
+    let mut door = timed_door(&rt, timeouts)?;
+    let mut way = TcpWay::new(rt.clone()?);
+    let port = opened_at(&mut door)?;
+    let came = hear_nothing(&mut door, &mut way, port);
+    assert!(rt; came == Some((Took::End, Gave::Bytes(4), (0, Took::End))));
+    Ok(())
+}
+
+// Whether writes to a peer that takes nothing come to fail.
+fn overfills<K: Sink>(alloc: Global, sink: &mut K) -> bool {
+    let Ok(bytes) = vec![in alloc; b'o'; LARGE] else {
+        return false;
+    };
+    for _ in 0..1_000u32 {
+        if write(sink, &bytes) == Gave::Failed {
+            return true;
+        }
+    }
+    false
+}
+
+// How two reads of a line are answered whose other end sends a byte and no more, and whether writes to it come to fail.
+fn hear_a_byte<N: Listener, P: Link>(
+    alloc: Global,
+    door: &mut N,
+    way: &mut P,
+    port: u16,
+) -> Option<(Took, Took, bool)> {
+    match way.open(HOST, port) {
+        Opened::Line(near, mut near_out) => match door.accept() {
+            Taken::Line(mut far, mut far_out) => {
+                send(&mut near_out, b"a");
+                let first = read(&mut far, &mut [0u8; 4]);
+                let second = read(&mut far, &mut [0u8; 4]);
+                let fails = overfills(alloc, &mut far_out);
+                way.close(near, near_out);
+                door.close(far, far_out);
+                Some((first, second, fails))
+            }
+            Taken::End | Taken::Failed => {
+                way.close(near, near_out);
+                None
+            }
+        },
+        Opened::Failed => None,
+    }
+}
+
+#[test]
+fn a_slow_peer_is_a_fault(rt: HostRuntime) -> Result<(), Fail> {
+    let pace = Pace {
+        grace: Duration::from_millis(20),
+        bytes_a_second: 1_000_000_000,
+    };
+    let mut door = timed_door(&rt, patient(Some(pace)))?;
+    let mut way = TcpWay::new(rt.clone()?);
+    let port = opened_at(&mut door)?;
+    let came = hear_a_byte(rt.alloc(), &mut door, &mut way, port);
+    assert!(rt; came == Some((Took::Bytes(1), Took::Failed, true)));
     Ok(())
 }
 
