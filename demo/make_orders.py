@@ -103,9 +103,11 @@ def main():
     meta = {"id": "0f6b6b0c-8a2e-4e6f-9d7e-5b0f2b1c7a11", "name": "orders", "format": {"provider": "parquet", "options": {}},
         "schemaString": compact({"type": "struct", "fields": fields}), "partitionColumns": ["day"], "configuration": {"delta.appendOnly": "false"},
         "createdTime": START}
-    remove = {"path": "day=2026-11-26/part-00001.parquet", "deletionTimestamp": START + 86400000, "dataChange": True}
+    former = add(26, 1, 143)
+    remove = {"path": former["add"]["path"], "deletionTimestamp": START + 86400000, "dataChange": True, "extendedFileMetadata": True,
+        "partitionValues": former["add"]["partitionValues"], "size": former["add"]["size"]}
     commits = [
-        [{"protocol": {"minReaderVersion": 1, "minWriterVersion": 2}}, {"metaData": meta}, add(25, 0, 120), add(26, 1, 143)],
+        [{"protocol": {"minReaderVersion": 1, "minWriterVersion": 2}}, {"metaData": meta}, add(25, 0, 120), former],
         [add(27, 2, 58)],
         [{"remove": remove}, add(26, 3, 142)],
     ]

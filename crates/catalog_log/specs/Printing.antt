@@ -1,11 +1,12 @@
--- The record of an edit: a compact JSON object with the names in byte order, and a line feed.
-use Rattle.std.specs.Prelude.{◌≡◌, ℕ, ◌<◌, ◌^◌, List, true, [], ◌∷◌, ◌++◌, Option, Some, None, IfSome, length, codes}
+-- The record of an edit: a compact JSON object with the names in byte order, and a line feed. Each is of version 2.
+use Rattle.std.specs.Prelude.{◌≡◌, ℕ, ◌<◌, ◌^◌, List, true, [], ◌∷◌, ◌++◌, Option, Some, None, IfSome, length, codes, option_map}
 use Rattle.serde_json.specs.Data.{Data, boolean, null, string}
 use Rattle.serde_json.specs.Written.{compact_text}
 use Rattle.hex.specs.Hex.{IsBytes, encode_lower}
 use Rattle.json_print.specs.Fields.{Field, object_of}
 use Rattle.json_print.specs.Values.{count_value}
 use Rattle.share_catalog.specs.Grammar.{is_catalog_name}
+use Rattle.share_catalog.specs.Restrictions.{is_restriction}
 use Rattle.share_catalog.specs.declared.credential.Credential.{Credential}
 use Rattle.share_catalog.specs.declared.table_name.TableName.{TableName}
 use Rattle.share_catalog.specs.declared.edit.Binding.{Binding}
@@ -22,8 +23,10 @@ name_fields name = (codes "name", Some (string name)) ∷ []
 
 abbrev pub bind_fields : TableName → Binding → List Field
 bind_fields t b =
-    (codes "history", Some (boolean b.history))
+    (codes "first", Some (count_value b.first))
+    ∷ (codes "history", Some (boolean b.history))
     ∷ (codes "location", Some (string b.location))
+    ∷ (codes "only", option_map string b.only)
     ∷ (codes "schema", Some (string t.schema))
     ∷ (codes "share", Some (string t.share))
     ∷ (codes "table", Some (string t.table))
@@ -76,7 +79,7 @@ abbrev pub edit_data : Edit → Data
 edit_data e = object_of ((kind_name e, Some (object_of (edit_fields e))) ∷ [])
 
 abbrev pub record_data : Edit → Data
-record_data e = object_of ((codes "edit", Some (edit_data e)) ∷ (codes "version", Some (count_value 1)) ∷ [])
+record_data e = object_of ((codes "edit", Some (edit_data e)) ∷ (codes "version", Some (count_value 2)) ∷ [])
 
 unfoldable pub record_line : Edit → List ℕ
 record_line e = compact_text (record_data e)
@@ -103,10 +106,18 @@ pub record KeptCredential (c : Credential) : Type 0 where
 abbrev pub KeptLocation : List ℕ → Type 0
 KeptLocation l = is_location_text l ≡ true
 
+abbrev pub KeptRestriction : List ℕ → Type 0
+KeptRestriction text = is_restriction text ≡ true
+
+pub record KeptBinding (b : Binding) : Type 0 where
+  pub first : b.first < 2 ^ 63
+  pub only : IfSome b.only KeptRestriction
+  pub location : KeptLocation b.location
+
 abbrev pub Kept : Edit → Type 0
 Kept (edit.NewShare n) = KeptName n
 Kept (edit.DropShare n) = KeptName n
-Kept (edit.Bind t b) = KeptTable t × KeptLocation b.location
+Kept (edit.Bind t b) = KeptTable t × KeptBinding b
 Kept (edit.Unbind t) = KeptTable t
 Kept (edit.NewRecipient n c) = KeptName n × KeptCredential c
 Kept (edit.Rotate n c) = KeptName n × KeptCredential c

@@ -9,18 +9,21 @@ use Rattle.json_tree.specs.Options.{◌>>=◌}
 use Rattle.edge_core.specs.Names.{is_name}
 use Rattle.share_catalog.specs.Grammar.{is_catalog_name}
 use Rattle.share_catalog.specs.Locations.{is_location}
+use Rattle.share_catalog.specs.Restrictions.{is_restriction}
 use Rattle.share_catalog.specs.declared.credential.Credential.{Credential}
 use Rattle.share_catalog.specs.declared.table_name.TableName.{TableName}
 use Rattle.share_catalog.specs.declared.edit.Binding.{Binding}
 use Rattle.share_catalog.specs.declared.edit.Edit.{Edit}
 use Rattle.share_catalog.specs.declared.edit.Edit.TheVariants as edit
+use Rattle.catalog_log.specs.declared.version.RecordVersion.{RecordVersion}
+use Rattle.catalog_log.specs.declared.version.RecordVersion.TheVariants as version
 
 -- the text of a field
 abbrev pub text_in : List ℕ → Data → Option (List ℕ)
 text_in name d = present name d >>= as_str
 
-abbrev pub passing : (List ℕ → Bool) → List ℕ → Option (List ℕ)
-passing test text = if test text then Some text else None
+abbrev pub passing : {X : Type 0} → (X → Bool) → X → Option X
+passing test x = if test x then Some x else None
 
 -- the name of a share, a schema, a table or a recipient
 abbrev pub name_in : List ℕ → Data → Option (List ℕ)
@@ -48,13 +51,13 @@ from_zero (pos n) = Some n
 from_zero (negsuc n) = None
 
 -- a whole number from 0 to 2^63 - 1
-abbrev pub millis : Data → Option ℕ
-millis d = whole d >>= from_zero
+abbrev pub natural : Data → Option ℕ
+natural d = whole d >>= from_zero
 
 -- no expiry where the field is absent or null
 abbrev pub expiry_of : Option Data → Option (Option ℕ)
 expiry_of None = Some None
-expiry_of (Some d) = option_map Some (millis d)
+expiry_of (Some d) = option_map Some (natural d)
 
 abbrev pub credential_in : Data → Option Credential
 credential_in d = do
@@ -69,11 +72,35 @@ table_in d = do
   table ← name_in (codes "table") d
   Some (record { share = share; schema = schema; table = table })
 
-abbrev pub binding_in : Data → Option Binding
-binding_in d = do
+-- the first version that is shared: the table's first one where the field is absent or null
+abbrev pub first_or_zero : Option Data → Option ℕ
+first_or_zero None = Some 0
+first_or_zero (Some d) = natural d
+
+abbrev pub restriction_of : Data → Option (List ℕ)
+restriction_of d = as_str d >>= passing is_restriction
+
+-- no restriction where the field is absent or null
+abbrev pub restriction_or_none : Option Data → Option (Option (List ℕ))
+restriction_or_none None = Some None
+restriction_or_none (Some d) = option_map Some (restriction_of d)
+
+-- Version 1 knew tables alone that are shared whole, so what it has under these two names is passed over.
+abbrev pub first_in : RecordVersion → Data → Option ℕ
+first_in version.One d = Some 0
+first_in version.Two d = first_or_zero (present (codes "first") d)
+
+abbrev pub only_in : RecordVersion → Data → Option (Option (List ℕ))
+only_in version.One d = Some None
+only_in version.Two d = restriction_or_none (present (codes "only") d)
+
+abbrev pub binding_in : RecordVersion → Data → Option Binding
+binding_in v d = do
   history ← present (codes "history") d >>= as_bool
+  first ← first_in v d
+  only ← only_in v d
   location ← location_in d
-  Some (record { history = history; location = location })
+  Some (record { history = history; first = first; only = only; location = location })
 
 -- ---- the nine kinds, by the value of the member that names the kind
 
@@ -83,10 +110,10 @@ new_share_in d = name_in (codes "name") d >>= λ n. Some (edit.NewShare n)
 abbrev pub drop_share_in : Data → Option Edit
 drop_share_in d = name_in (codes "name") d >>= λ n. Some (edit.DropShare n)
 
-abbrev pub bind_in : Data → Option Edit
-bind_in d = do
+abbrev pub bind_in : RecordVersion → Data → Option Edit
+bind_in v d = do
   table ← table_in d
-  binding ← binding_in d
+  binding ← binding_in v d
   Some (edit.Bind table binding)
 
 abbrev pub unbind_in : Data → Option Edit
@@ -142,13 +169,17 @@ recipients_in d =
     (read_or (present (codes "dropRecipient") d) drop_recipient_in (grants_in d)))
 
 -- what is read of the kind that has a member
-abbrev pub kind_in : Data → Option Edit
-kind_in d =
+abbrev pub kind_in : RecordVersion → Data → Option Edit
+kind_in v d =
     read_or (present (codes "newShare") d) new_share_in
     (read_or (present (codes "dropShare") d) drop_share_in
-    (read_or (present (codes "bind") d) bind_in (read_or (present (codes "unbind") d) unbind_in (recipients_in d))))
+    (read_or (present (codes "bind") d) (bind_in v) (read_or (present (codes "unbind") d) unbind_in (recipients_in d))))
 
 -- The edit of an object: exactly one of the nine kinds has a member that isn't null, and what it
 -- needs. Other members are passed over.
+abbrev pub edit_by : RecordVersion → Data → Option Edit
+edit_by v d = if kind_count d == 1 then kind_in v d else None
+
+-- the edit of an object that isn't a record's, as an administrator's: it has what the last version has
 abbrev pub edit_in : Data → Option Edit
-edit_in d = if kind_count d == 1 then kind_in d else None
+edit_in d = edit_by version.Two d

@@ -1,5 +1,5 @@
--- The records of a catalogue's log: JSON objects of an edit, and version 1 (RFC 8259; the fields are
--- this server's own).
+-- The records of a catalogue's log: JSON objects of an edit, and version 1 or 2 (RFC 8259; the fields
+-- are this server's own).
 use Rattle.std.specs.Prelude.{◌≡◌, ℕ, ◌-◌, ◌==◌, List, Bool, true, false, Option, Some, None, Result, Ok, Err, ⊤, if◌then◌else◌, length, take, slice_get, pos, codes}
 use Rattle.serde_json.specs.Data.{Data}
 use Rattle.json_tree.specs.Fields.{present}
@@ -9,18 +9,25 @@ use Rattle.json_tree.specs.declared.tree.TreeFault.{TreeFault}
 use Rattle.json_tree.specs.declared.tree.TreeFault.TheVariants as tree
 use Rattle.share_catalog.specs.declared.edit.Edit.{Edit}
 use Rattle.json_tree.specs.Options.{◌>>=◌}
-use Rattle.catalog_log.specs.Reading.{edit_in, millis}
+use Rattle.catalog_log.specs.Reading.{edit_by, natural}
 use Rattle.catalog_log.specs.declared.fault.RecordFault.{RecordFault}
 use Rattle.catalog_log.specs.declared.fault.RecordFault.TheVariants as fault
+use Rattle.catalog_log.specs.declared.version.RecordVersion.{RecordVersion}
+use Rattle.catalog_log.specs.declared.version.RecordVersion.TheVariants as version
 
--- the version is 1
-abbrev pub is_version_1 : Option ℕ → Bool
-is_version_1 None = false
-is_version_1 (Some n) = n == 1
+-- the version of that number, none where no record of it is read
+abbrev pub version_of : ℕ → Option RecordVersion
+version_of n = if n == 1 then Some version.One else if n == 2 then Some version.Two else None
+
+abbrev pub version_in : Data → Option RecordVersion
+version_in d = present (codes "version") d >>= natural >>= version_of
 
 -- the edit of a record's object
 abbrev pub edit_of_record : Data → Option Edit
-edit_of_record d = if is_version_1 (present (codes "version") d >>= millis) then (present (codes "edit") d >>= edit_in) else None
+edit_of_record d = do
+  v ← version_in d
+  edit ← present (codes "edit") d
+  edit_by v edit
 
 abbrev pub is_line_feed : Option ℕ → Bool
 is_line_feed None = false

@@ -11,8 +11,8 @@ pub enum RecordFault {
     NotUtf8,
     /// The text is no JSON value (RFC 8259), or one of more than 127 levels.
     NotJson,
-    /// The value is no record: the version isn't 1, not exactly one kind of edit is there, or a
-    /// field is missing, of another kind or out of its grammar.
+    /// The value is no record: the version is neither 1 nor 2, not exactly one kind of edit is there,
+    /// or a field is missing, of another kind or out of its grammar.
     BadRecord,
     /// Memory is wanting.
     NoMemory,

@@ -5,6 +5,7 @@ mod fault;
 mod names;
 mod printing;
 mod reading;
+mod version;
 
 pub use fault::RecordFault;
 pub use names::record_name;

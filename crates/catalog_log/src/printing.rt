@@ -1,19 +1,19 @@
 // The record of an edit.
-ghost use Rattle.std.specs.Prelude.{◌≡◌, ◌<◌, ◌^◌, ◌++◌, ◌∷◌, [], Ok, Some, IfOk, IfSome, IsUtf8, OnOk, codes, length, string_bytes};
+ghost use Rattle.std.specs.Prelude.{◌≡◌, ◌<◌, ◌^◌, ◌++◌, ◌∷◌, [], Ok, Some, IfOk, IfSome, IsUtf8, OnOk, codes, length, option_map, string_bytes};
 ghost use Rattle.hex.specs.Hex.{IsBytes, encode_lower};
 ghost use Rattle.serde_json.specs.Data.{string};
 ghost use Rattle.json_print.specs.Fields.{object_of};
 ghost use Rattle.json_print.specs.Tokens.{Adds, field_tokens, value_tokens};
 ghost use Rattle.json_print.specs.Values.{count_value};
-ghost use Rattle.catalog_log.specs.Printing.{Kept, KeptCredential, KeptLocation, KeptName, KeptTable, bind_fields, edit_data, edit_fields, expiry_value, kind_name as name_of_kind, name_fields, pair_fields, recipient_fields, record_data, record_line, record_text, table_fields};
+ghost use Rattle.catalog_log.specs.Printing.{Kept, KeptBinding, KeptCredential, KeptLocation, KeptName, KeptRestriction, KeptTable, bind_fields, edit_data, edit_fields, expiry_value, kind_name as name_of_kind, name_fields, pair_fields, recipient_fields, record_data, record_line, record_text, table_fields};
 ghost use Rattle.catalog_log.specs.Records.{record_in};
 
 use json::Writer;
 use json_print::{
     begin_object, count_field, end_object, flag_field, new_writer, printed, string_field,
 };
-use json_tree::Millis;
-use share_catalog::{Binding, CatalogName, Credential, Edit, Location, TableName};
+use json_tree::{Millis, Version};
+use share_catalog::{Binding, CatalogName, Credential, Edit, Location, Restriction, TableName};
 use std::alloc::{AllocError, Global};
 
 // Room for most records.
@@ -31,6 +31,23 @@ fn location_field(line: &mut Writer, location: &Location) -> Result<(), AllocErr
     ensures kept { KeptLocation location.now }
 {
     string_field(line, "location", location.name().as_str())
+}
+
+fn first_field(line: &mut Writer, first: Version) -> Result<(), AllocError>
+    ensures written { OnOk result (Adds line.old line.new (field_tokens (codes "first", Some (count_value first)))) }
+    ensures bound { first < 2 ^ 63 }
+{
+    count_field(line, "first", first.get())
+}
+
+fn only_field(line: &mut Writer, only: &Option<Restriction>) -> Result<(), AllocError>
+    ensures written { OnOk result (Adds line.old line.new (field_tokens (codes "only", option_map string only.now))) }
+    ensures kept { IfSome only.now KeptRestriction }
+{
+    match only {
+        Some(only) => string_field(line, "only", only.as_str()),
+        None => Ok(()),
+    }
 }
 
 fn digest_field(alloc: Global, line: &mut Writer, digest: &[u8; 32]) -> Result<(), AllocError>
@@ -65,11 +82,13 @@ fn name_object(line: &mut Writer, name: &CatalogName) -> Result<(), AllocError>
 fn bind_object(line: &mut Writer, table: &TableName, binding: &Binding) -> Result<(), AllocError>
     ensures written { OnOk result (Adds line.old line.new (value_tokens (object_of (bind_fields table.now binding.now)))) }
     ensures table { OnOk result (KeptTable table.now) }
-    ensures location { OnOk result (KeptLocation binding.now.location) }
+    ensures binding { OnOk result (KeptBinding binding.now) }
 {
     begin_object(line)?;
+    first_field(line, binding.first)?;
     flag_field(line, "history", binding.history)?;
     location_field(line, &binding.location)?;
+    only_field(line, &binding.only)?;
     name_field(line, "schema", &table.schema)?;
     name_field(line, "share", &table.share)?;
     name_field(line, "table", &table.table)?;
@@ -171,7 +190,7 @@ fn record_object(alloc: Global, line: &mut Writer, edit: &Edit) -> Result<(), Al
     begin_object(line)?;
     line.key("edit")?;
     edit_object(alloc, line, edit)?;
-    count_field(line, "version", 1)?;
+    count_field(line, "version", 2)?;
     end_object(line)
 }
 
@@ -186,9 +205,9 @@ fn record_line(alloc: Global, edit: &Edit) -> Result<String, AllocError>
     Ok(printed(line))
 }
 
-/// The record of an edit: a compact JSON object of the edit and version 1, with the names in byte
-/// order and a line feed at its end. It is read by `edit_of` as that edit. The error is want of
-/// memory.
+/// The record of an edit: a compact JSON object of the edit and version 2, with the names in byte
+/// order and a line feed at its end. A binding has its first shared version always, and its
+/// restriction where there is one. It is read by `edit_of` as that edit. The error is want of memory.
 pub fn bytes_of_edit(alloc: Global, edit: &Edit) -> Result<Vec<u8>, AllocError>
     ensures text { IfOk result (λ v. v.items ≡ record_text edit.now) }
     ensures back { IfOk result (λ v. record_in v.items ≡ Ok edit.now) }

@@ -1,19 +1,20 @@
 // The edits that JSON values and records stand for.
-ghost use Rattle.std.specs.Prelude.{◌≡◌, bytes_eq, option_map, option_and_then, codes};
+ghost use Rattle.std.specs.Prelude.{◌≡◌, ◌<◌, ◌^◌, IfSome, bytes_eq, option_map, option_and_then, codes};
 ghost use Rattle.serde_json.specs.Find.{as_bool};
 ghost use Rattle.serde_json.specs.View.{view};
 ghost use Rattle.hex.specs.Hex.{encode_lower};
 ghost use Rattle.json_tree.specs.Fields.{present};
-ghost use Rattle.catalog_log.specs.Reading.{bind_in, binding_in, credential_in, digest_in, digest_of as digest_of_text, drop_recipient_in, drop_share_in, edit_in, expiry_of, grant_in, kind_count, grants_in, kind_in, location_in, millis, name_in, new_recipient_in, new_share_in, recipients_in, revoke_in, rotate_in, table_in, text_in, unbind_in};
-ghost use Rattle.catalog_log.specs.Records.{Gives, GivesRecord, edit_of_record, is_version_1 as is_1, record_in, without_line_feed as without_line_feed_in};
+ghost use Rattle.catalog_log.specs.Reading.{bind_in, binding_in, credential_in, digest_in, digest_of as digest_of_text, drop_recipient_in, drop_share_in, edit_by, edit_in, expiry_of, first_in, first_or_zero, grant_in, grants_in, kind_count, kind_in, location_in, name_in, natural, new_recipient_in, new_share_in, only_in, recipients_in, restriction_of, restriction_or_none, revoke_in, rotate_in, table_in, text_in, unbind_in};
+ghost use Rattle.catalog_log.specs.Records.{Gives, GivesRecord, edit_of_record, record_in, version_in, version_of as version_of_number, without_line_feed as without_line_feed_in};
 
 use crate::RecordFault;
+use crate::version::RecordVersion;
 use edge_core::{Name, is_name_text};
 use hex::FromHex;
-use json_tree::{Millis, TreeFault, count_at, member_at, tree_of};
+use json_tree::{Millis, TreeFault, Version, count_at, member_at, tree_of};
 use serde_json::Value;
 use share_catalog::{
-    Binding, CatalogName, Credential, Edit, Location, TableName, is_catalog_name_text,
+    Binding, CatalogName, Credential, Edit, Location, Restriction, TableName, is_catalog_name_text,
 };
 use std::alloc::Global;
 
@@ -92,6 +93,14 @@ fn digest_at(object: &Value) -> Option<[u8; 32]>
     digest_of(text_at(object, "digest")?)
 }
 
+// The whole number from 0 to 2^63 - 1 that a value is.
+fn natural_of(value: &Value) -> Option<u64>
+    ensures value { result ≡ natural (view value.now) }
+    ensures below { IfSome result (λ n. n < 2 ^ 63) }
+{
+    u64::try_from(value.as_i64()?).ok()
+}
+
 // When a credential ends: `Some(None)` where it has no end, and `None` where the field is of another
 // kind.
 fn expiry_at(object: &Value) -> Option<Option<Millis>>
@@ -100,10 +109,7 @@ fn expiry_at(object: &Value) -> Option<Option<Millis>>
     let Some(value) = member_at(object, "expires") else {
         return Some(None);
     };
-    match u64::try_from(value.as_i64()?) {
-        Ok(moment) => Some(Some(Millis::of(moment)?)),
-        Err(_) => None,
-    }
+    Some(Some(Millis::of_small(natural_of(value)?)))
 }
 
 fn credential_at(object: &Value) -> Option<Credential>
@@ -130,14 +136,74 @@ fn history_at(object: &Value) -> Option<bool>
     member_at(object, "history")?.as_bool()
 }
 
-fn binding_at(alloc: Global, object: &Value) -> Result<Binding, RecordFault>
-    ensures { Gives result (binding_in (view object.now)) }
+fn first_or_zero(value: Option<&Value>) -> Option<Version>
+    ensures { result ≡ first_or_zero (option_map (λ v. view v.now) value.entry) }
+{
+    match value {
+        Some(value) => Some(Version::of_small(natural_of(value)?)),
+        None => Some(Version::of_small(0)),
+    }
+}
+
+fn first_at(version: RecordVersion, object: &Value) -> Option<Version>
+    ensures { result ≡ first_in version (view object.now) }
+{
+    match version {
+        RecordVersion::One => Some(Version::of_small(0)),
+        RecordVersion::Two => first_or_zero(member_at(object, "first")),
+    }
+}
+
+fn restriction_of(alloc: Global, value: &Value) -> Result<Restriction, RecordFault>
+    ensures { Gives result (restriction_of (view value.now)) }
+{
+    let Some(text) = value.as_str() else {
+        return Err(RecordFault::BadRecord);
+    };
+    match Restriction::of(String::from_str(alloc, text)?) {
+        Some(restriction) => Ok(restriction),
+        None => Err(RecordFault::BadRecord),
+    }
+}
+
+fn restriction_or_none(
+    alloc: Global,
+    value: Option<&Value>,
+) -> Result<Option<Restriction>, RecordFault>
+    ensures { Gives result (restriction_or_none (option_map (λ v. view v.now) value.entry)) }
+{
+    match value {
+        Some(value) => Ok(Some(restriction_of(alloc, value)?)),
+        None => Ok(None),
+    }
+}
+
+fn only_at(
+    alloc: Global,
+    version: RecordVersion,
+    object: &Value,
+) -> Result<Option<Restriction>, RecordFault>
+    ensures { Gives result (only_in version (view object.now)) }
+{
+    match version {
+        RecordVersion::One => Ok(None),
+        RecordVersion::Two => restriction_or_none(alloc, member_at(object, "only")),
+    }
+}
+
+fn binding_at(alloc: Global, version: RecordVersion, object: &Value) -> Result<Binding, RecordFault>
+    ensures { Gives result (binding_in version (view object.now)) }
 {
     let Some(history) = history_at(object) else {
         return Err(RecordFault::BadRecord);
     };
+    let Some(first) = first_at(version, object) else {
+        return Err(RecordFault::BadRecord);
+    };
     Ok(Binding {
         history,
+        first,
+        only: only_at(alloc, version, object)?,
         location: location_at(alloc, object)?,
     })
 }
@@ -158,12 +224,12 @@ fn drop_share_at(alloc: Global, object: &Value) -> Result<Edit, RecordFault>
     })
 }
 
-fn bind_at(alloc: Global, object: &Value) -> Result<Edit, RecordFault>
-    ensures { Gives result (bind_in (view object.now)) }
+fn bind_at(alloc: Global, version: RecordVersion, object: &Value) -> Result<Edit, RecordFault>
+    ensures { Gives result (bind_in version (view object.now)) }
 {
     Ok(Edit::Bind {
         table: table_at(alloc, object)?,
-        binding: binding_at(alloc, object)?,
+        binding: binding_at(alloc, version, object)?,
     })
 }
 
@@ -266,8 +332,8 @@ fn recipients_at(alloc: Global, object: &Value) -> Result<Edit, RecordFault>
 }
 
 // The edit of the kind that has a member.
-fn kind_at(alloc: Global, object: &Value) -> Result<Edit, RecordFault>
-    ensures { Gives result (kind_in (view object.now)) }
+fn kind_at(alloc: Global, version: RecordVersion, object: &Value) -> Result<Edit, RecordFault>
+    ensures { Gives result (kind_in version (view object.now)) }
 {
     if let Some(value) = member_at(object, "newShare") {
         return new_share_at(alloc, value);
@@ -276,7 +342,7 @@ fn kind_at(alloc: Global, object: &Value) -> Result<Edit, RecordFault>
         return drop_share_at(alloc, value);
     }
     if let Some(value) = member_at(object, "bind") {
-        return bind_at(alloc, value);
+        return bind_at(alloc, version, value);
     }
     if let Some(value) = member_at(object, "unbind") {
         return unbind_at(alloc, value);
@@ -284,38 +350,53 @@ fn kind_at(alloc: Global, object: &Value) -> Result<Edit, RecordFault>
     recipients_at(alloc, object)
 }
 
-/// The edit that a JSON object stands for: of the nine kinds `newShare`, `dropShare`, `bind`,
-/// `unbind`, `newRecipient`, `rotate`, `dropRecipient`, `grant` and `revoke` it has exactly one
-/// member that isn't null, which has the fields of the kind. Other members are passed over. The
-/// fault is `BadRecord` or `NoMemory`.
-pub fn edit_at(alloc: Global, object: &Value) -> Result<Edit, RecordFault>
-    ensures { Gives result (edit_in (view object.now)) }
+fn edit_by(alloc: Global, version: RecordVersion, object: &Value) -> Result<Edit, RecordFault>
+    ensures { Gives result (edit_by version (view object.now)) }
 {
     if count_kinds(object) == 1 {
-        kind_at(alloc, object)
+        kind_at(alloc, version, object)
     } else {
         Err(RecordFault::BadRecord)
     }
 }
 
-fn is_version_1(object: &Value) -> bool
-    ensures { result ≡ is_1 (option_and_then millis (present (codes "version") (view object.now))) }
+/// The edit that a JSON object stands for: of the nine kinds `newShare`, `dropShare`, `bind`,
+/// `unbind`, `newRecipient`, `rotate`, `dropRecipient`, `grant` and `revoke` it has exactly one
+/// member that isn't null, which has the fields of the kind. Other members are passed over. A table
+/// that is bound is shared from the version `first` on, 0 where it is absent or null, and by the
+/// restriction `only`, a text of at most 2,048 bytes, where it is there and not null; that it is a
+/// predicate isn't tested. The fault is `BadRecord` or `NoMemory`.
+pub fn edit_at(alloc: Global, object: &Value) -> Result<Edit, RecordFault>
+    ensures { Gives result (edit_in (view object.now)) }
 {
-    match member_at(object, "version") {
-        Some(version) => version.as_i64() == Some(1),
-        None => false,
+    edit_by(alloc, RecordVersion::Two, object)
+}
+
+fn version_of(number: u64) -> Option<RecordVersion>
+    ensures { result ≡ version_of_number number }
+{
+    match number {
+        1 => Some(RecordVersion::One),
+        2 => Some(RecordVersion::Two),
+        _ => None,
     }
+}
+
+fn version_at(object: &Value) -> Option<RecordVersion>
+    ensures { result ≡ version_in (view object.now) }
+{
+    version_of(natural_of(member_at(object, "version")?)?)
 }
 
 // The edit of a record's object.
 fn record_edit(alloc: Global, object: &Value) -> Result<Edit, RecordFault>
     ensures { Gives result (edit_of_record (view object.now)) }
 {
-    if !is_version_1(object) {
+    let Some(version) = version_at(object) else {
         return Err(RecordFault::BadRecord);
-    }
+    };
     match member_at(object, "edit") {
-        Some(edit) => edit_at(alloc, edit),
+        Some(edit) => edit_by(alloc, version, edit),
         None => Err(RecordFault::BadRecord),
     }
 }
@@ -330,8 +411,9 @@ fn without_line_feed(bytes: &[u8]) -> &[u8]
 }
 
 /// The edit of a record: the JSON text of an object with the members `edit` and `version`, which is
-/// 1, perhaps with a line feed behind it. Other members are passed over. It is what `bytes_of_edit`
-/// writes.
+/// 1 or 2, perhaps with a line feed behind it. Other members are passed over, and so are `first` and
+/// `only` of a table that a record of version 1 binds: it is shared whole. What `bytes_of_edit`
+/// writes is read as that edit.
 pub fn edit_of(alloc: Global, bytes: &[u8]) -> Result<Edit, RecordFault>
     ensures { GivesRecord result (record_in bytes.now) }
 {

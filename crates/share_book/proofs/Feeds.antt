@@ -1,22 +1,24 @@
 -- A feed is what stands between two versions.
-use Rattle.std.proofs.Common.{◌≡◌, ℕ, ◌+◌, ◌-◌, ◌<◌, Bool, false, cond, List, [], Option, Some, drop, get_or, length, map, nat_lt, take, unwrap_or, sym, ap, ◌∙◌}
+use Rattle.std.proofs.Common.{◌≡◌, ℕ, ◌+◌, ◌-◌, ◌<◌, Bool, true, false, cond, List, [], ◌∷◌, Option, Some, arith, drop, get_or, length, map, min, nat_le, nat_lt, refl, take, unwrap_or, sym, ap, ◌∙◌}
 use Rattle.std.specs.List.{drop-map, slice_get, take-map}
 use Rattle.std.specs.Option.{option_map}
 use Rattle.std.specs.Arc.{arc_value}
 use Rattle.std.specs.declared.alloc.Global.{Global}
 use Rattle.std.specs.declared.sync.Arc.{Arc}
+use Rattle.std.proofs.lemmas.Bool.Decides.{nat_tests}
 use Rattle.std.proofs.lemmas.Option.{slice_get-get_or}
 use Rattle.log_actions.specs.declared.actions.Action.{Action}
 use Rattle.log_replay.specs.Times.{marks_in}
 use Rattle.log_replay.specs.declared.times.Mark.{Mark}
 use Rattle.share_book.specs.Parts as parts
-use Rattle.share_book.specs.Views.{Log}
+use Rattle.share_catalog.specs.Views.{Spot}
+use Rattle.share_book.specs.Views.{Log, whole_log}
 use Rattle.share_book.specs.declared.look.FeedPart.{FeedPart}
 use Rattle.share_book.specs.declared.look.PartFound.TheVariants as part_found
 use Rattle.share_book.specs.declared.look.TableRefusal.TheVariants as refusal
 
 abbrev log_of : List (Arc (List Action) Global) → Bool → Log
-log_of commits blocked = record { commits = map arc_value commits; blocked = blocked }
+log_of commits blocked = whole_log (map arc_value commits) blocked
 
 -- the first commits of a list
 pub up_to_is : (commits : List (Arc (List Action) Global)) (n : ℕ) (cs : List (List Action)) → cs ≡ map arc_value (take n commits) → cs ≡ take n (map arc_value commits)
@@ -38,5 +40,21 @@ feed_is commits marks from to default blocked cs ms meta protocol marked less cs
     let protocol_is = commit_is commits blocked (λ m. m.protocol_at) mark (slice_get (marks_in (map arc_value commits)) to) protocol at protocols in
     λ i. record { from = from; to = to; commits = cut i; marks = marks_cut i; meta = meta_is i; protocol = protocol_is i }
 
-pub feed_between_is : (log : Log) (from to : ℕ) (feed : FeedPart) → nat_lt to from ≡ false → feed ≡ parts.feed_of log from to → part_found.Feed feed ≡ parts.feed_between log from to
-feed_between_is log from to feed order is = ap part_found.Feed is ∙ sym (ap (λ b. cond b (part_found.Refused refusal.VersionRange) (part_found.Feed (parts.feed_of log from to))) order)
+pub feed_since : (spot : Spot) (log : Log) (from to : ℕ) (feed : FeedPart) → nat_lt from spot.first ≡ false → feed ≡ parts.feed_of log from to → part_found.Feed feed ≡ parts.from_first spot.first from (part_found.Feed (parts.feed_of log from to))
+feed_since spot log from to feed since is =
+    ap part_found.Feed is ∙ sym (ap (λ b. cond b (part_found.Refused (refusal.NotShared spot.first)) (part_found.Feed (parts.feed_of log from to))) since)
+
+take_none : {X : Type 0} (xs : List X) → take 0 xs ≡ []
+take_none [] = refl
+take_none (x ∷ xs) = refl
+
+cut_case : {X : Type 0} (from to first : ℕ) (xs : List X) (c : Bool) → nat_le from (to + 1) ≡ c → first ≡ min (to + 1) from → take (to + 1 - first) (drop first xs) ≡ take (to + 1 - from) (drop from xs)
+cut_case from to first xs true le is = let same : first ≡ from = grind (arith, nat_tests, le, is) in ap (λ n. take (to + 1 - n) (drop n xs)) same
+cut_case from to first xs false le is =
+    let none : to + 1 - first ≡ 0 = grind (arith, nat_tests, le, is) in
+    let few : to + 1 - from ≡ 0 = grind (arith, nat_tests, le) in
+    ap (λ n. take n (drop first xs)) none ∙ (take_none (drop first xs) ∙ sym (take_none (drop from xs))) ∙ sym (ap (λ n. take n (drop from xs)) few)
+
+-- versions from a later one are none
+pub cut_is : {X : Type 0} (from to first : ℕ) (xs : List X) → first ≡ min (to + 1) from → take (to + 1 - first) (drop first xs) ≡ take (to + 1 - from) (drop from xs)
+cut_is from to first xs is = cut_case from to first xs (nat_le from (to + 1)) refl is

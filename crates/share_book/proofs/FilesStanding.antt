@@ -1,16 +1,17 @@
 -- The files that are found of a history are states of its logs, and stay so as it goes on.
-use Rattle.std.proofs.Common.{◌≡◌, ℕ, ◌+◌, List, ◌++◌, Bool, true, false, cond, not, nat_lt, length, Option, Some, None, Result, Ok, Err, refl, sym, subst}
+use Rattle.std.proofs.Common.{◌≡◌, ℕ, ◌+◌, List, ◌++◌, Bool, true, false, cond, not, nat_lt, length, Option, Some, None, Result, Ok, Err, sym, subst}
 use Rattle.std.specs.Prelude.{◌&&◌}
 use Rattle.log_actions.specs.declared.actions.Action.{Action}
 use Rattle.log_replay.specs.State.{State, state_of}
 use Rattle.log_replay.specs.declared.refusal.ReplayRefusal.{ReplayRefusal}
+use Rattle.log_replay.specs.declared.times.Bound.{Bound}
 use Rattle.log_replay.specs.declared.times.Unresolved.{Unresolved}
 use Rattle.share_catalog.specs.Views.{Spot, shared}
 use Rattle.share_book.specs.Bases.{FilesStand, IsStateIn, PartStands}
 use Rattle.share_book.specs.History.{edits}
-use Rattle.share_book.specs.Looked.{found_by, log_by}
+use Rattle.share_book.specs.Looked.{IsKept, found_by, log_by}
 use Rattle.share_book.specs.Looks.{table_found}
-use Rattle.share_book.specs.Parts.{feed_between, feed_by, feed_of, files_of, found_of, is_latest, resolved_at, up_to, version_found, with_files}
+use Rattle.share_book.specs.Parts.{feed_by, feed_of, files_of, found_of, from_first, head_found, is_latest, pinned_found, resolved_at, state_at, unrestricted, up_to, version_found, with_files}
 use Rattle.share_book.specs.Views.{Log, log_at}
 use Rattle.share_book.specs.declared.entry.Entry.{Entry}
 use Rattle.share_book.specs.declared.look.Found.{Found}
@@ -24,6 +25,7 @@ use Rattle.share_book.specs.declared.look.Want.{Want}
 use Rattle.share_book.specs.declared.look.Want.TheVariants as want
 use Rattle.share_book.proofs.Growth.{logs_grow}
 use Rattle.share_book.proofs.States.{front_stands, state_in_longer}
+use Rattle.share_book.proofs.Versions.{IsWhole, head_kept, seen_whole, state_whole, told_kept}
 
 -- ---- a part
 
@@ -31,47 +33,68 @@ files_case : (log : Log) (v : ℕ) (r : Result State ReplayRefusal) → state_of
 files_case log v (Ok s) e = front_stands log.commits (v + 1) s e
 files_case log v (Err why) e = tt
 
-version_stands : (log : Log) (c : Bool) (r : Result ℕ Unresolved) → PartStands log (cond c (part_found.Refused refusal.NoHistory) (version_found r))
-version_stands log true r = tt
-version_stands log false (Ok v) = tt
-version_stands log false (Err why) = tt
+-- what is found without its files, where it is kept
+stands_kept : (log : Log) → IsWhole log → (p : PartFound) → PartStands log p → IsKept log p → PartStands log (with_files log p)
+stands_kept log whole part_found.Nothing stands kept = tt
+stands_kept log whole (part_found.Version v) stands kept = files_case log v (state_at log v) (sym (state_whole log whole v kept))
+stands_kept log whole (part_found.Files v state) stands kept = stands
+stands_kept log whole (part_found.Feed feed) stands kept = tt
+stands_kept log whole (part_found.Refused why) stands kept = tt
 
-files_stand : (log : Log) (c : Bool) (r : Result ℕ Unresolved) → PartStands log (with_files log (cond c (part_found.Refused refusal.NoHistory) (version_found r)))
-files_stand log true r = tt
-files_stand log false (Ok v) = files_case log v (state_of (up_to log v)) refl
-files_stand log false (Err why) = tt
+from_stands : (log : Log) (first version : ℕ) (c : Bool) → PartStands log (cond c (part_found.Refused (refusal.NotShared first)) (part_found.Version version))
+from_stands log first version true = tt
+from_stands log first version false = tt
 
-between_stands : (log : Log) (from to : ℕ) (c : Bool) → PartStands log (cond c (part_found.Refused refusal.VersionRange) (part_found.Feed (feed_of log from to)))
-between_stands log from to true = tt
-between_stands log from to false = tt
+version_stands : (spot : Spot) (log : Log) (c : Bool) (r : Result ℕ Unresolved) → PartStands log (cond c (part_found.Refused refusal.NoHistory) (version_found spot r))
+version_stands spot log true r = tt
+version_stands spot log false (Ok v) = from_stands log spot.first v (nat_lt v spot.first)
+version_stands spot log false (Err why) = tt
 
-feed_stands : (log : Log) (from to : Result ℕ Unresolved) (c : Bool) → PartStands log (cond c (part_found.Refused refusal.NoHistory) (feed_by log from to))
-feed_stands log from to true = tt
-feed_stands log (Err why) to false = tt
-feed_stands log (Ok from) (Err why) false = tt
-feed_stands log (Ok from) (Ok to) false = between_stands log from to (nat_lt to from)
+head_stands : (spot : Spot) (log : Log) (b : Bound) → PartStands log (head_found spot log b)
+head_stands spot log b = version_stands spot log (not spot.history && not (is_latest b)) (resolved_at log b)
 
-pinned_stands : (log : Log) (version : ℕ) (c : Bool) → PartStands log (with_files log (cond c (part_found.Version version) (part_found.Refused refusal.Ahead)))
-pinned_stands log version true = files_case log version (state_of (up_to log version)) refl
-pinned_stands log version false = tt
+told_case : (spot : Spot) (log : Log) (version : ℕ) (c : Bool) → PartStands log (cond c (from_first spot.first version (part_found.Version version)) (part_found.Refused refusal.Ahead))
+told_case spot log version true = from_stands log spot.first version (nat_lt version spot.first)
+told_case spot log version false = tt
 
-ahead_stands : (log : Log) (from to : ℕ) (c : Bool) → PartStands log (cond c (feed_between log from to) (part_found.Refused refusal.Ahead))
-ahead_stands log from to true = between_stands log from to (nat_lt to from)
-ahead_stands log from to false = tt
+told_stands : (spot : Spot) (log : Log) (version : ℕ) → PartStands log (pinned_found spot log version)
+told_stands spot log version = told_case spot log version (nat_lt version (length log.states))
 
-part_stands : (history : Bool) (log : Log) (p : Part) → PartStands log (found_of history log p)
-part_stands history log part.Place = tt
-part_stands history log (part.Head b) = version_stands log (not history && not (is_latest b)) (resolved_at log b)
-part_stands history log (part.Files b) = files_stand log (not history && not (is_latest b)) (resolved_at log b)
-part_stands history log (part.Feed from to) = feed_stands log (resolved_at log from) (resolved_at log to) (not history)
-part_stands history log (part.PinnedFiles version) = pinned_stands log version (nat_lt version (length log.commits))
-part_stands history log (part.PinnedFeed from to) = ahead_stands log from to (nat_lt to (length log.commits))
+feed_from : (log : Log) (first from to : ℕ) (c : Bool) → PartStands log (cond c (part_found.Refused (refusal.NotShared first)) (part_found.Feed (feed_of log from to)))
+feed_from log first from to true = tt
+feed_from log first from to false = tt
+
+between_stands : (spot : Spot) (log : Log) (from to : ℕ) (c : Bool) → PartStands log (cond c (part_found.Refused refusal.VersionRange) (from_first spot.first from (part_found.Feed (feed_of log from to))))
+between_stands spot log from to true = tt
+between_stands spot log from to false = feed_from log spot.first from to (nat_lt from spot.first)
+
+feed_stands : (spot : Spot) (log : Log) (from to : Result ℕ Unresolved) (c : Bool) → PartStands log (cond c (part_found.Refused refusal.NoHistory) (feed_by spot log from to))
+feed_stands spot log from to true = tt
+feed_stands spot log (Err why) to false = tt
+feed_stands spot log (Ok from) (Err why) false = tt
+feed_stands spot log (Ok from) (Ok to) false = between_stands spot log from to (nat_lt to from)
+
+ahead_stands : (spot : Spot) (log : Log) (from to : ℕ) (c : Bool) → PartStands log (cond c (from_first spot.first from (part_found.Feed (feed_of log from to))) (part_found.Refused refusal.Ahead))
+ahead_stands spot log from to true = feed_from log spot.first from to (nat_lt from spot.first)
+ahead_stands spot log from to false = tt
+
+unrestricted_stands : (log : Log) (only : Option (List ℕ)) (p : PartFound) → PartStands log p → PartStands log (unrestricted only p)
+unrestricted_stands log None p stands = stands
+unrestricted_stands log (Some text) p stands = tt
+
+part_stands : (spot : Spot) (log : Log) → IsWhole log → (p : Part) → PartStands log (found_of spot log p)
+part_stands spot log whole part.Place = tt
+part_stands spot log whole (part.Head b) = head_stands spot log b
+part_stands spot log whole (part.Files b) = stands_kept log whole (head_found spot log b) (head_stands spot log b) (head_kept spot log whole b)
+part_stands spot log whole (part.Feed from to) = unrestricted_stands log spot.only _ (feed_stands spot log (resolved_at log from) (resolved_at log to) (not spot.history))
+part_stands spot log whole (part.PinnedFiles version) = stands_kept log whole (pinned_found spot log version) (told_stands spot log version) (told_kept spot log whole version)
+part_stands spot log whole (part.PinnedFeed from to) = unrestricted_stands log spot.only _ (ahead_stands spot log from to (nat_lt to (length log.states)))
 
 -- ---- a look
 
 table_stands : (h : List Entry) (p : Part) (o : Option Spot) → FilesStand h (table_found found_of (log_by h o) p o)
 table_stands h p None = tt
-table_stands h p (Some s) = part_stands s.history (log_at h s.location) p
+table_stands h p (Some s) = part_stands s (log_at h s.location) (seen_whole _) p
 
 pub found_stands : (h : List Entry) (r : List ℕ) (w : Want) → FilesStand h (found_by found_of h r w)
 found_stands h r want.Names = tt

@@ -22,7 +22,7 @@ use Rattle.share_book.specs.History.{block_of, block_on, commit_of, commit_on, e
 use Rattle.share_book.specs.Laws.{ForeignEntriesLeaveViews, IsForeign, IsForeignEdit, ViewsAreShown}
 use Rattle.share_book.specs.Legal.{is_at}
 use Rattle.share_book.specs.Legal.{log_at as number_at}
-use Rattle.share_book.specs.Views.{Log, log_at, log_of, log_of_spot, logs_of, seen_log, view_by, view_with}
+use Rattle.share_book.specs.Views.{Log, log_at, log_of, logs_of, seen_log, shown, shown_log, view_by, view_with}
 use Rattle.share_book.specs.declared.entry.Entry.{Entry}
 use Rattle.share_book.specs.declared.entry.LogStart.{LogStart}
 use Rattle.share_book.proofs.Growth.{position_goes_on, still_none}
@@ -34,10 +34,10 @@ use Rattle.share_book.proofs.Words.{loud, quiet}
 
 -- ---- a view's logs are no more than what they show
 
-no_log : (es : List Edit) (logs : List ℕ → Log) (r : List ℕ) (q : List (List ℕ)) → (length q ≡ 3 → ⊥) → maps.get (logs_of es logs r) q ≡ None
+no_log : (es : List Edit) (logs : Spot → Log) (r : List ℕ) (q : List (List ℕ)) → (length q ≡ 3 → ⊥) → maps.get (logs_of es logs r) q ≡ None
 no_log es logs r q apart = maps.get-entries (logs_of es logs r) q ∙ none_in_map parts_of (log_of es logs r) q (λ t. apart) (tables_bound es)
 
-module _ (es others : List Edit) (logs other_logs : List ℕ → Log) (r : List ℕ) where
+module _ (es others : List Edit) (logs other_logs : Spot → Log) (r : List ℕ) where
   no_logs : (q : List (List ℕ)) → (length q ≡ 3 → ⊥) → maps.get (logs_of es logs r) q ≡ maps.get (logs_of others other_logs r) q
   no_logs q apart = no_log es logs r q apart ∙ sym (no_log others other_logs r q apart)
 
@@ -51,25 +51,25 @@ module _ (es others : List Edit) (logs other_logs : List ℕ → Log) (r : List 
   same_logs : ((t : TableName) → log_of es logs r t ≡ log_of others other_logs r t) → logs_of es logs r ≡ logs_of others other_logs r
   same_logs same = maps.same_map texts_total same_texts (logs_of es logs r) (logs_of others other_logs r) (same_log same)
 
-log_shown : (logs other_logs : List ℕ → Log) (o : Option Spot) → ((s : Spot) → o ≡ Some s → logs s.location ≡ other_logs s.location) → option_map (log_of_spot logs) o ≡ option_map (log_of_spot other_logs) o
+log_shown : (logs other_logs : Spot → Log) (o : Option Spot) → ((s : Spot) → o ≡ Some s → logs s ≡ other_logs s) → option_map logs o ≡ option_map other_logs o
 log_shown logs other_logs None same = refl
 log_shown logs other_logs (Some s) same = ap Some (same s refl)
 
 -- ---- equal views
 
-view_case : (h other : List Entry) (r : List ℕ) (o : Option Credential) → logs_of (edits h) (log_at h) r ≡ logs_of (edits other) (log_at other) r
-    → option_map (view_with (edits h) (log_at h)) (option_map (catalog.view_with (edits h) r) o) ≡ option_map (view_with (edits other) (log_at other)) (option_map (catalog.view_with (edits h) r) o)
+view_case : (h other : List Entry) (r : List ℕ) (o : Option Credential) → logs_of (edits h) (shown (log_at h)) r ≡ logs_of (edits other) (shown (log_at other)) r
+    → option_map (view_with (edits h) (shown (log_at h))) (option_map (catalog.view_with (edits h) r) o) ≡ option_map (view_with (edits other) (shown (log_at other))) (option_map (catalog.view_with (edits h) r) o)
 view_case h other r None same = refl
 view_case h other r (Some c) same = λ i. Some (record { catalog = catalog.view_with (edits h) r c; logs = same i })
 
 -- where the catalogue's views and the logs are the same, the views are
-view_by_parts : (h other : List Entry) (r : List ℕ) → view_of (edits h) r ≡ view_of (edits other) r → logs_of (edits h) (log_at h) r ≡ logs_of (edits other) (log_at other) r → view_by h (named r) ≡ view_by other (named r)
-view_by_parts h other r views logs = view_case h other r (credential (edits h) r) logs ∙ ap (option_map (view_with (edits other) (log_at other))) views
+view_by_parts : (h other : List Entry) (r : List ℕ) → view_of (edits h) r ≡ view_of (edits other) r → logs_of (edits h) (shown (log_at h)) r ≡ logs_of (edits other) (shown (log_at other)) r → view_by h (named r) ≡ view_by other (named r)
+view_by_parts h other r views logs = view_case h other r (credential (edits h) r) logs ∙ ap (option_map (view_with (edits other) (shown (log_at other)))) views
 
 pub book_views_are_shown : ViewsAreShown
 book_views_are_shown h other r same =
     view_by_parts h other r (views_are_shown (edits h) (edits other) r same.recipient same.grants same.tables)
-    (same_logs (edits h) (edits other) (log_at h) (log_at other) r (λ t. log_shown (log_at h) (log_at other) (shared (edits h) r t) (same.logs t) ∙ ap (option_map (log_of_spot (log_at other))) (same.tables t)))
+    (same_logs (edits h) (edits other) (shown (log_at h)) (shown (log_at other)) r (λ t. log_shown (shown (log_at h)) (shown (log_at other)) (shared (edits h) r t) (same.logs t) ∙ ap (option_map (shown (log_at other))) (same.tables t)))
 
 -- ---- a foreign entry and the catalogue
 
@@ -129,16 +129,16 @@ log_stays h e location (Some i) is off apart =
 left_by : (h : List Entry) (e : Entry) (r : List ℕ) (o : Option Credential) → credential (edits h) r ≡ o → IsForeign h r e → view_by (h ++ e ∷ []) (named r) ≡ view_by h (named r)
 left_by h e r None none foreign =
     let nobody : credential (edits (h ++ e ∷ [])) r ≡ None = credential_by h r e (edit_in e) refl foreign ∙ none in
-    ap (λ (o : Option Credential). option_map (view_with (edits (h ++ e ∷ [])) (log_at (h ++ e ∷ []))) (option_map (catalog.view_with (edits (h ++ e ∷ [])) r) o)) nobody
-    ∙ sym (ap (λ (o : Option Credential). option_map (view_with (edits h) (log_at h)) (option_map (catalog.view_with (edits h) r) o)) none)
+    ap (λ (o : Option Credential). option_map (view_with (edits (h ++ e ∷ [])) (shown (log_at (h ++ e ∷ [])))) (option_map (catalog.view_with (edits (h ++ e ∷ [])) r) o)) nobody
+    ∙ sym (ap (λ (o : Option Credential). option_map (view_with (edits h) (shown (log_at h))) (option_map (catalog.view_with (edits h) r) o)) none)
 left_by h e r (Some c) there foreign =
     let views = views_by h r e (edit_in e) refl foreign in
     let tables = tables_same (edits (h ++ e ∷ [])) (edits h) r c (credential_by h r e (edit_in e) refl foreign ∙ there) there views in
     let shares = λ (t : TableName). shared_same (edits (h ++ e ∷ [])) (edits h) r t tables in
     view_by_parts (h ++ e ∷ []) h r views
-    (same_logs (edits (h ++ e ∷ [])) (edits h) (log_at (h ++ e ∷ [])) (log_at h) r (λ t.
-    ap (option_map (log_of_spot (log_at (h ++ e ∷ [])))) (shares t)
-    ∙ log_shown (log_at (h ++ e ∷ [])) (log_at h) (shared (edits h) r t) (λ s is. log_stays h e s.location (position (is_at s.location) (starts h)) refl (foreign.log t s is) (foreign.load t s is))))
+    (same_logs (edits (h ++ e ∷ [])) (edits h) (shown (log_at (h ++ e ∷ []))) (shown (log_at h)) r (λ t.
+    ap (option_map (shown (log_at (h ++ e ∷ [])))) (shares t)
+    ∙ log_shown (shown (log_at (h ++ e ∷ []))) (shown (log_at h)) (shared (edits h) r t) (λ s is. ap (shown_log s.only) (log_stays h e s.location (position (is_at s.location) (starts h)) refl (foreign.log t s is) (foreign.load t s is)))))
 
 pub foreign_entries_leave_views : ForeignEntriesLeaveViews
 foreign_entries_leave_views h e r foreign = left_by h e r (credential (edits h) r) refl foreign

@@ -1,11 +1,12 @@
 -- What a history keeps as it goes on.
-use Rattle.std.proofs.Common.{◌≡◌, ℕ, ◌+◌, ◌-◌, ◌≤◌, List, [], ◌∷◌, ◌++◌, Bool, true, false, cond, Option, Some, None, zero, suc, refl, sym, ap, ◌∙◌, subst, append_assoc, take, arith}
+use Rattle.std.proofs.Common.{◌≡◌, ℕ, ◌+◌, ◌-◌, ◌<◌, ◌≤◌, List, [], ◌∷◌, ◌++◌, Bool, true, false, cond, Option, Some, None, zero, suc, refl, sym, ap, ◌∙◌, subst, append_assoc, length, length-append, take, arith}
 use Rattle.std.specs.List.{filter_map, position, position_from, slice_get}
 use Rattle.std.specs.Option.{option_and_then, option_map}
 use Rattle.std.proofs.lemmas.List.{append-nil, take-append-le}
 use Rattle.std.proofs.lemmas.Iterator.Adapters.{position_from-zero}
 use Rattle.std.proofs.lemmas.List.Elements.{filter_map-append}
 use Rattle.log_actions.specs.declared.actions.Action.{Action}
+use Rattle.log_replay.specs.State.{state_of}
 use Rattle.share_catalog.specs.Catalogue.{binding_edition, grant_edition}
 use Rattle.share_catalog.specs.declared.edit.Edit.{Edit}
 use Rattle.share_catalog.specs.declared.table_name.TableName.{TableName}
@@ -13,10 +14,12 @@ use Rattle.share_catalog.proofs.LawProofs.{editions_rise}
 use Rattle.share_book.specs.History.{block_on, commit_on, edit_in, edits, grown, start_in, starts, table_on}
 use Rattle.share_book.specs.Laws.{EditionsRise, FrontsAreLegal, LogsGrow, OthersLeaveCatalogue, OthersLeaveLogs}
 use Rattle.share_book.specs.Legal.{is_at}
+use Rattle.share_book.specs.Parts.{state_at}
 use Rattle.share_book.specs.Views.{Log, log_at, seen_log}
 use Rattle.share_book.specs.declared.entry.Entry.{Entry}
 use Rattle.share_book.specs.declared.entry.LogStart.{LogStart}
 use Rattle.share_book.proofs.Still.{still_by, still_on_by}
+use Rattle.share_book.proofs.Versions.{seen_whole, shown_stays, state_whole, states_whole}
 use Rattle.share_book.proofs.Words.{legal_front}
 
 -- ---- the first that passes
@@ -82,12 +85,26 @@ log_grows h later location (Some i) is =
 grows : (h later : List Entry) (location : List ℕ) → Grows (log_at h location).commits (log_at (h ++ later) location).commits
 grows h later location = log_grows h later location (position (is_at location) (starts h)) refl
 
+-- the states that a log has stay
+state_stays : (h later : List Entry) (location : List ℕ) (version : ℕ) → version < length (log_at h location).states → state_at (log_at (h ++ later) location) version ≡ state_at (log_at h location) version
+state_stays h later location version less =
+    let g = grows h later location in
+    let old : Log = log_at h location in
+    let new : Log = log_at (h ++ later) location in
+    let count = states_whole old (seen_whole _) in
+    let long : length new.commits ≡ length old.commits + length g.0 = ap (λ (l : List (List Action)). length l) g.1 ∙ length-append old.commits g.0 in
+    state_whole new (seen_whole _) version (omega (arith, less, count, long))
+    ∙ ap (λ (cs : List (List Action)). state_of (take (version + 1) cs)) g.1
+    ∙ ap state_of (take-append-le (version + 1) old.commits g.0 (omega (arith, less, count)))
+    ∙ sym (state_whole old (seen_whole _) version (omega (arith, less, count)))
+
 pub logs_grow : LogsGrow
 logs_grow = record {
   grows = grows;
   stays = λ h later location version less.
       let g = grows h later location in
       ap (take (version + 1)) g.1 ∙ take-append-le (version + 1) (log_at h location).commits g.0 (omega (arith, less));
+  shows = λ h later spot version less. shown_stays spot.only (log_at h spot.location) (log_at (h ++ later) spot.location) version (state_stays h later spot.location version) less;
 }
 
 -- ---- editions

@@ -11,7 +11,7 @@ use Rattle.share_catalog.proofs.KeyTests.{bytes_is, bytes_refl}
 use Rattle.share_book.specs.History.{edit_in, edit_of, edits}
 use Rattle.share_book.specs.Laws.{Finds, GivesNobody, TokensShowViews}
 use Rattle.share_book.specs.Legal.{Fits, IsLegal, May, There}
-use Rattle.share_book.specs.Views.{log_at, view_by, view_with}
+use Rattle.share_book.specs.Views.{log_at, shown, view_by, view_with}
 use Rattle.share_book.specs.declared.entry.Act.{Act}
 use Rattle.share_book.specs.declared.entry.Act.TheVariants.{Begin, Own, Found, OwnEdit, FoundEdit, Load, Blocked, Abort}
 use Rattle.share_book.specs.declared.entry.Entry.{Entry}
@@ -61,7 +61,7 @@ finds h digest r legal has = finds_holder (edits h) digest r (legal_held h legal
 
 -- its view is the one by name
 by_name : (h : List Entry) (digest r : List ℕ) → Finds h digest r → view_by h (token digest) ≡ view_by h (named r)
-by_name h digest r found = ap (λ (o : Option (List ℕ)). option_map (view_with (edits h) (log_at h)) (option_and_then (catalog.view_of (edits h)) o)) found
+by_name h digest r found = ap (λ (o : Option (List ℕ)). option_map (view_with (edits h) (shown (log_at h))) (option_and_then (catalog.view_of (edits h)) o)) found
 
 -- ---- a token that finds nobody
 
@@ -69,7 +69,7 @@ none_found : (h : List Entry) (digest : List ℕ) (o : Option (List ℕ)) → na
 none_found h digest None is legal none = refl
 none_found h digest (Some r) is legal none =
     let (c, has, same) = digest_of digest (credential (edits h) r) (has_found h digest r legal is) in
-    let there = by_name h digest r is ∙ ap (λ (o : Option Credential). option_map (view_with (edits h) (log_at h)) (option_map (catalog.view_with (edits h) r) o)) has in
+    let there = by_name h digest r is ∙ ap (λ (o : Option Credential). option_map (view_with (edits h) (shown (log_at h))) (option_map (catalog.view_with (edits h) r) o)) has in
     absurd cc
 
 had : (h : List Entry) (e : Entry) (digest r : List ℕ) (o : Option Edit) → edit_in e ≡ o → IfSome o (GivesNobody digest) → has_digest (edits (h ++ e ∷ [])) digest r ≡ true → has_digest (edits h) digest r ≡ true
@@ -79,7 +79,7 @@ had h e digest r (Some x) is gives has = held_before (edits h) x digest r (gives
 still_nobody : (h : List Entry) (e : Entry) (digest : List ℕ) (o : Option (List ℕ)) → name_of (edits (h ++ e ∷ [])) (token digest) ≡ o → IsLegal (h ++ e ∷ []) → name_of (edits h) (token digest) ≡ None → IfSome (edit_in e) (GivesNobody digest)
     → view_by (h ++ e ∷ []) (token digest) ≡ None
 still_nobody h e digest None is legal none gives =
-    ap (λ (o : Option (List ℕ)). option_map (view_with (edits (h ++ e ∷ [])) (log_at (h ++ e ∷ []))) (option_and_then (catalog.view_of (edits (h ++ e ∷ []))) o)) is
+    ap (λ (o : Option (List ℕ)). option_map (view_with (edits (h ++ e ∷ [])) (shown (log_at (h ++ e ∷ [])))) (option_and_then (catalog.view_of (edits (h ++ e ∷ []))) o)) is
 still_nobody h e digest (Some r) is legal none gives =
     absurd (holds_nobody (edits h) digest r (legal_held h (legal_front h (e ∷ []) legal)) none (had h e digest r (edit_in e) refl gives (has_found (h ++ e ∷ []) digest r legal is)))
 

@@ -5,7 +5,7 @@ use Rattle.log_replay.specs.Reconciliation.{actions_in}
 use Rattle.log_replay.specs.Standing.{IsSupported}
 use Rattle.log_replay.specs.State.{State, state_of}
 use Rattle.share_book.specs.Looks.{commits_of, who_of}
-use Rattle.share_book.specs.Views.{Log, log_at, view_by}
+use Rattle.share_book.specs.Views.{Log, held_view, log_at}
 use Rattle.share_book.specs.declared.entry.Entry.{Entry}
 use Rattle.share_book.specs.declared.look.Ask.{Ask}
 use Rattle.share_book.specs.declared.look.Found.{Found}
@@ -65,7 +65,7 @@ replayed (Some r) = length (actions_in r.commits)
 
 -- What is asked is replayed from a base at a point of the history.
 abbrev pub ReplaysAt : List Entry → Ask → (before after : ℕ) → Type 0
-ReplaysAt history ask before after = (r : Option Replay) × MakesFound (commits_of (view_by history (who_of ask.who)) ask.want) r × (after ≡ before + replayed r)
+ReplaysAt history ask before after = (r : Option Replay) × MakesFound (commits_of (held_view history (who_of ask.who)) ask.want) r × (after ≡ before + replayed r)
 
 -- files that are found of a log are its state at a version
 abbrev pub PartStands : Log → PartFound → Type 0

@@ -1,5 +1,5 @@
 -- Laws of histories: what stays as one goes on, and what a recipient doesn't see.
-use Rattle.std.specs.Prelude.{◌≡◌, ◌≢◌, ℕ, ◌<◌, ◌≤◌, List, [], ◌∷◌, ◌++◌, true, false, Some, None, IfSome, Ok, length}
+use Rattle.std.specs.Prelude.{◌≡◌, ◌≢◌, ℕ, ◌+◌, ◌<◌, ◌≤◌, List, [], ◌∷◌, ◌++◌, Bool, true, false, Some, None, IfSome, Ok, length, take}
 use Rattle.log_actions.specs.declared.actions.Action.{Action}
 use Rattle.log_replay.specs.State.{State, state_of}
 use Rattle.share_catalog.specs.Catalogue.{binding_edition, credential, grant_edition, granted, says_credential}
@@ -11,15 +11,22 @@ use Rattle.turn_cell.specs.Entries.{made_by}
 use Rattle.share_book.specs.History.{caller_of, edit_in, edits, open_on, start_in, starts, table_on}
 use Rattle.share_book.specs.Legal.{IsLegal, There}
 use Rattle.share_book.specs.Legal.{log_at as number_at}
-use Rattle.share_book.specs.Parts.{up_to}
-use Rattle.share_book.specs.Views.{log_at, view_by}
+use Rattle.share_book.specs.Parts.{state_at, up_to}
+use Rattle.share_book.specs.Views.{log_at, shown, view_by, whole_log}
 use Rattle.share_book.specs.declared.entry.Entry.{Entry}
 
--- As a history goes on, its logs only grow: the versions that one has stay as they are, and so do their states.
+-- As a history goes on, its logs only grow: the versions that one has stay as they are, and so do their states, and what is shown of them.
 pub record LogsGrow : Type 0 where
   pub grows : (history later : List Entry) (location : List ℕ) → (more : List (List Action)) × ((log_at (history ++ later) location).commits ≡ (log_at history location).commits ++ more)
   pub stays : (history later : List Entry) (location : List ℕ) (version : ℕ) → version < length (log_at history location).commits
       → up_to (log_at (history ++ later) location) version ≡ up_to (log_at history location) version
+  pub shows : (history later : List Entry) (spot : Spot) (version : ℕ) → version < length (shown (log_at history) spot).states
+      → state_at (shown (log_at (history ++ later)) spot) version ≡ state_at (shown (log_at history) spot) version
+
+-- The state of each version of a log is that of the commits up to it.
+abbrev pub LogsHaveStates : Type 0
+LogsHaveStates = (commits : List (List Action)) (blocked : Bool) → (length (whole_log commits blocked).states ≡ length commits)
+    × ((version : ℕ) → version < length commits → state_at (whole_log commits blocked) version ≡ state_of (take (version + 1) commits))
 
 -- Each version that a legal history keeps of a log has a state, so that the files of a version that is found are never refused.
 abbrev pub VersionsHaveStates : Type 0
@@ -44,14 +51,14 @@ abbrev pub EditionsRise : Type 0
 EditionsRise = (history later : List Entry) (r s : List ℕ) (t : TableName)
     → (grant_edition (edits history) r s ≤ grant_edition (edits (history ++ later)) r s) × (binding_edition (edits history) t ≤ binding_edition (edits (history ++ later)) t)
 
--- two histories show a recipient the same: itself, its grants, its tables, and the logs of these
+-- two histories show a recipient the same: itself, its grants, its tables, and what is shown of the logs of these
 pub record ShowsTheSame (history other : List Entry) (r : List ℕ) : Type 0 where
   pub recipient : credential (edits history) r ≡ credential (edits other) r
   pub grants : (s : List ℕ) → grant (edits history) r s ≡ grant (edits other) r s
   pub tables : (t : TableName) → shared (edits history) r t ≡ shared (edits other) r t
-  pub logs : (t : TableName) (s : Spot) → shared (edits history) r t ≡ Some s → log_at history s.location ≡ log_at other s.location
+  pub logs : (t : TableName) (s : Spot) → shared (edits history) r t ≡ Some s → shown (log_at history) s ≡ shown (log_at other) s
 
--- Nothing else is in a view: other recipients, ungranted shares, numbers of logs, who did what, and when, may all differ.
+-- Nothing else is in a view: other recipients, ungranted shares, files that a binding doesn't show, numbers of logs, who did what, and when, may all differ.
 abbrev pub ViewsAreShown : Type 0
 ViewsAreShown = (history other : List Entry) (r : List ℕ) → ShowsTheSame history other r → view_by history (named r) ≡ view_by other (named r)
 

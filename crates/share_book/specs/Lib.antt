@@ -5,6 +5,7 @@ pub mod NamesView
 pub mod Parts
 pub mod Looks
 pub mod Looked
+pub mod Shown
 pub mod PastView
 pub mod Pasts
 pub mod TableView

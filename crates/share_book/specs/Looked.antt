@@ -1,5 +1,5 @@
 -- What the code knows when it looks: a table's log, and what is found of edits and logs.
-use Rattle.std.specs.Prelude.{ℕ, ◌<◌, ⊤, List, ◌∷◌, Bool, Option, Some, None, length, map}
+use Rattle.std.specs.Prelude.{ℕ, ◌<◌, ⊤, List, ◌∷◌, Option, Some, None, length, map}
 use Rattle.std.specs.FinMap as maps
 use Rattle.std.specs.List.{flat_map}
 use Rattle.log_actions.specs.declared.actions.Action.{Action}
@@ -37,11 +37,11 @@ abbrev pub log_by : List Entry → Option catalog.Spot → Log
 log_by history None = seen_log None
 log_by history (Some s) = log_at history s.location
 
-abbrev pub table_by : (Bool → Log → Part → PartFound) → List Entry → Part → Option catalog.Spot → Found
+abbrev pub table_by : (catalog.Spot → Log → Part → PartFound) → List Entry → Part → Option catalog.Spot → Found
 table_by find history p spot = table_found find (log_by history spot) p spot
 
 -- what a recipient that is there finds
-abbrev pub found_by : (Bool → Log → Part → PartFound) → List Entry → List ℕ → Want → Found
+abbrev pub found_by : (catalog.Spot → Log → Part → PartFound) → List Entry → List ℕ → Want → Found
 found_by find history r want.Names = found.Names (names_by (edits history) r)
 found_by find history r (want.Table t p) = table_by find history p (catalog.shared (edits history) r t)
 

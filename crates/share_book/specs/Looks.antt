@@ -1,5 +1,5 @@
 -- What is taken out of a book in one turn for one request: a plain function of the recipient's view and of what is asked (Delta Sharing PROTOCOL.md, "REST APIs"). No number of a log is in it.
-use Rattle.std.specs.Prelude.{◌≡◌, ℕ, List, [], ◌∷◌, Bool, Option, Some, None, map, option_and_then, option_map, unwrap_or}
+use Rattle.std.specs.Prelude.{◌≡◌, ℕ, List, [], ◌∷◌, Option, Some, None, map, option_and_then, option_map, unwrap_or}
 use Rattle.std.specs.FinMap as maps
 use Rattle.log_actions.specs.declared.actions.Action.{Action}
 use Rattle.log_replay.specs.State.{state_of}
@@ -8,7 +8,8 @@ use Rattle.share_catalog.specs.Views as catalog
 use Rattle.share_catalog.specs.declared.table_name.TableName.{TableName}
 use Rattle.share_book.specs.NamesView.{NamesView}
 use Rattle.share_book.specs.Parts.{commits_for, files_of, found_of, version_of}
-use Rattle.share_book.specs.Views.{Log, View, seen_log}
+use Rattle.share_book.specs.Views.{Log, View, held_view, seen_log}
+use Rattle.share_book.specs.declared.entry.Entry.{Entry}
 use Rattle.share_book.specs.declared.look.Found.{Found}
 use Rattle.share_book.specs.declared.look.Found.TheVariants as found
 use Rattle.share_book.specs.declared.look.Part.{Part}
@@ -48,15 +49,15 @@ abbrev pub log_in : View → TableName → Log
 log_in view t = unwrap_or (maps.get view.logs (parts_of t)) (seen_log None)
 
 -- a table that isn't bound in a granted share, and one that isn't there, are one and the same
-abbrev pub table_found : (Bool → Log → Part → PartFound) → Log → Part → Option catalog.Spot → Found
+abbrev pub table_found : (catalog.Spot → Log → Part → PartFound) → Log → Part → Option catalog.Spot → Found
 table_found find log p None = found.NoTable
-table_found find log p (Some s) = found.Table s (find s.history log p)
+table_found find log p (Some s) = found.Table s (find s log p)
 
-abbrev pub found_in : (Bool → Log → Part → PartFound) → View → Want → Found
+abbrev pub found_in : (catalog.Spot → Log → Part → PartFound) → View → Want → Found
 found_in find view want.Names = found.Names (names_in view)
 found_in find view (want.Table t p) = table_found find (log_in view t) p (maps.get view.catalog.tables (parts_of t))
 
-abbrev pub seen_in : (Bool → Log → Part → PartFound) → Want → View → Seen
+abbrev pub seen_in : (catalog.Spot → Log → Part → PartFound) → Want → View → Seen
 seen_in find w view = record { recipient = view.catalog.recipient; expires = view.catalog.credential.expires; found = found_in find view w }
 
 -- what is seen of a view, if there is one
@@ -71,7 +72,7 @@ glance_of view w = option_map (seen_in version_of w) view
 
 abbrev pub table_commits : Log → Part → Option catalog.Spot → Option (List (List Action))
 table_commits log p None = None
-table_commits log p (Some s) = commits_for log p (version_of s.history log p)
+table_commits log p (Some s) = commits_for log p (version_of s log p)
 
 abbrev pub commits_in : Want → View → Option (List (List Action))
 commits_in want.Names view = None
@@ -98,4 +99,4 @@ seen_with commits seen = record { recipient = seen.recipient; expires = seen.exp
 
 -- a glance with the files that its commits make is the look
 abbrev pub GlancesBecomeLooks : Type 0
-GlancesBecomeLooks = (view : Option View) (w : Want) → option_map (seen_with (commits_of view w)) (glance_of view w) ≡ look_of view w
+GlancesBecomeLooks = (history : List Entry) (who : catalog.Who) (w : Want) → option_map (seen_with (commits_of (held_view history who) w)) (glance_of (held_view history who) w) ≡ look_of (held_view history who) w

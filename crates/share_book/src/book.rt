@@ -14,7 +14,7 @@ ghost use Rattle.share_book.specs.Looks.{commits_of, glance_of, table_commits, w
 ghost use Rattle.share_book.specs.Parts.{version_of};
 ghost use Rattle.share_book.specs.Tables.{IsState};
 ghost use Rattle.share_book.specs.Views as views;
-ghost use Rattle.share_book.specs.Views.{view_by};
+ghost use Rattle.share_book.specs.Views.{held_view};
 ghost use Rattle.share_catalog.specs.Views.{shared};
 ghost use Rattle.share_book.specs.Pasts.{Raised};
 ghost use Rattle.share_book.specs.Books.{HasRooms, OthersRest, location, OwnIsLawful, commit_act, committed, is_table_at, added, edit_act, edited, loaded, rests};
@@ -421,12 +421,12 @@ impl Book {
         self.past.push_load(caller, start);
     }
 
-    /// What is found for one request at this point of the history: a plain function of the recipient's view and of what is asked. Files
-    /// are begun with the latest state of their table that is kept, up to their version. The error is want of memory.
+    /// What is found for one request at this point of the history: a plain function of what is held of the recipient's tables and
+    /// of what is asked. Files are begun with the latest state of their table that is kept, up to their version. The error is want of memory.
     pub fn pin(&self, alloc: Global, ask: &Ask) -> Result<Pinned, AllocError>
         ensures at { IfOk result (λ p. p.look.at ≡ length self.now.past.history) }
-        ensures seen { IfOk result (λ p. p.look.seen ≡ glance_of (view_by self.now.past.history (who_of ask.now.who)) ask.now.want) }
-        ensures makes { IfOk result (λ p. MakesFound (commits_of (view_by self.now.past.history (who_of ask.now.who)) ask.now.want) p.replay) }
+        ensures seen { IfOk result (λ p. p.look.seen ≡ glance_of (held_view self.now.past.history (who_of ask.now.who)) ask.now.want) }
+        ensures makes { IfOk result (λ p. MakesFound (commits_of (held_view self.now.past.history (who_of ask.now.who)) ask.now.want) p.replay) }
         ensures fits { IfOk result (λ p. IfSome p.replay CanReplay) }
     {
         let at = self.past.len();
@@ -563,7 +563,7 @@ impl Book {
             return Ok((Found::NoTable, None));
         };
         let log = self.seen_log(spot.location().as_str());
-        let (found, replay) = part_found(alloc, spot.has_history(), &log, part)?;
+        let (found, replay) = part_found(alloc, &spot, &log, part)?;
         Ok((Found::Table(spot, found), replay))
     }
 

@@ -17,7 +17,7 @@ pub use book::Book;
 pub use entry::{Act, Entry, LogStart, SharedCommit, SharedEdit};
 pub use laws::{
     foreign_entries_leave_views, glances_become_looks, histories_go_on, others_leave_what_is_begun,
-    versions_have_states,
+    versions_have_states, what_is_shown_is_seen,
 };
 pub use look::{
     Ask, FeedPart, Found, Look, Marks, Names, Part, PartFound, Pinned, Seen, SharedSnapshot, Spot,

@@ -6,13 +6,15 @@ ghost use Rattle.share_book.specs.Bases as bases;
 ghost use Rattle.share_book.specs.Bases.{CanReplay, IsBase, MakesFound, MakesHead, MakesVersion};
 ghost use Rattle.share_book.specs.Looked.{IsKept};
 ghost use Rattle.share_book.specs.Parts as parts;
-ghost use Rattle.share_book.specs.Views.{seen_log};
+ghost use Rattle.share_book.specs.declared.look.PartFound.TheVariants as found_is;
+ghost use Rattle.share_book.specs.Views.{Log, seen_log, whole_log};
 
 use crate::entry::SharedCommit;
-use crate::look::{FeedPart, Marks, Part, PartFound, SharedSnapshot, TableRefusal};
+use crate::look::{FeedPart, Marks, Part, PartFound, SharedSnapshot, Spot, TableRefusal};
 use crate::replay::Replay;
 use crate::snapshots::Snapshots;
 use crate::table::{Table, shared};
+use json_tree::Version;
 use log_actions::Commit;
 use log_replay::{Bound, Mark, Unresolved, resolve};
 use log_store::Commits;
@@ -32,11 +34,11 @@ pub(crate) struct SeenLog<'a> {
 impl<'a> Model for SeenLog<'a> {
     ghost use Rattle.std.specs.Prelude.{map, option_map};
     ghost use Rattle.std.specs.Arc.{arc_value};
-    ghost use Rattle.share_book.specs.Views.{Log};
+    ghost use Rattle.share_book.specs.Views.{Log, whole_log};
 
     ghost Value = { Log };
 
-    ghost view = { λ l. record { commits = map arc_value l.commits.now; blocked = l.blocked } };
+    ghost view = { λ l. whole_log (map arc_value l.commits.now) l.blocked };
 
     ghost use Rattle.share_book.specs.Pinning.{IsSeenLog};
 
@@ -81,7 +83,8 @@ impl<'a> SeenLog<'a> {
 
     // How many versions are kept.
     fn len(&self) -> u64
-        ensures { result ≡ length self.now.commits }
+        ensures commits { result ≡ length self.now.commits }
+        ensures states { result ≡ length self.now.states }
     {
         self.commits.len() as u64
     }
@@ -169,13 +172,13 @@ fn feed_of(
     to: u64,
 ) -> Result<FeedPart, AllocError>
     requires marked { marks.now ≡ marks_in (map arc_value commits.now) }
-    requires order { from ≤ to }
     requires kept { to < length commits.now }
     requires counted { length marks.now ≡ length commits.now }
-    ensures { IfOk result (λ feed. (blocked : Bool) → feed ≡ parts.feed_of (record { commits = map arc_value commits.now; blocked = blocked }) from to) }
+    ensures { IfOk result (λ feed. (blocked : Bool) → feed ≡ parts.feed_of (whole_log (map arc_value commits.now) blocked) from to) }
 {
     let mark = marks[to as usize];
-    let (first, behind) = (from as usize, to as usize + 1);
+    let behind = to as usize + 1;
+    let first = behind.min(from as usize);
     let between: &[Mark] = &marks[first..behind];
     Ok(FeedPart {
         from,
@@ -203,76 +206,104 @@ fn is_latest(bound: Bound) -> bool
     matches!(bound, Bound::Latest)
 }
 
-fn head_found(history: bool, log: &SeenLog<'_>, bound: Bound) -> PartFound
-    ensures found { result ≡ parts.head_found history log.now bound }
+// What is found at a version that is kept, unless it comes before the first that is shared.
+fn version_found(spot: &Spot, version: u64) -> PartFound
+    ensures found { result ≡ parts.from_first spot.now.first version (found_is.Version version) }
+    ensures kept { (log : Log) → version < length log.commits → IsKept log result }
+{
+    let first = spot.first().get();
+    if version < first {
+        PartFound::Refused(TableRefusal::NotShared { first })
+    } else {
+        PartFound::Version(version)
+    }
+}
+
+fn head_found(spot: &Spot, log: &SeenLog<'_>, bound: Bound) -> PartFound
+    ensures found { result ≡ parts.head_found spot.now log.now bound }
     ensures kept { IsKept log.now result }
 {
-    if !history && !is_latest(bound) {
+    if !spot.has_history() && !is_latest(bound) {
         return PartFound::Refused(TableRefusal::NoHistory);
     }
     match log.resolve(bound) {
-        Ok(version) => PartFound::Version(version),
+        Ok(version) => version_found(spot, version),
         Err(why) => PartFound::Refused(refused_by(why)),
     }
 }
 
-fn pinned_found(log: &SeenLog<'_>, version: u64) -> PartFound
-    ensures found { result ≡ parts.pinned_found log.now version }
+fn pinned_found(spot: &Spot, log: &SeenLog<'_>, version: u64) -> PartFound
+    ensures found { result ≡ parts.pinned_found spot.now log.now version }
     ensures kept { IsKept log.now result }
 {
     if version < log.len() {
-        PartFound::Version(version)
+        version_found(spot, version)
     } else {
         PartFound::Refused(TableRefusal::Ahead)
     }
 }
 
-fn feed_between(
+// The versions of a feed that are kept, unless its first comes before the first that is shared.
+fn feed_from_first(
     alloc: Global,
+    spot: &Spot,
     log: &SeenLog<'_>,
     from: u64,
     to: u64,
 ) -> Result<PartFound, AllocError>
     requires { to < length log.now.commits }
-    ensures found { IfOk result (λ p. p ≡ parts.feed_between log.now from to) }
+    ensures found { IfOk result (λ p. p ≡ parts.from_first spot.now.first from (found_is.Feed (parts.feed_of log.now from to))) }
     ensures kept { IfOk result (IsKept log.now) }
 {
-    if to < from {
-        return Ok(PartFound::Refused(TableRefusal::VersionRange));
+    let first = spot.first().get();
+    if from < first {
+        return Ok(PartFound::Refused(TableRefusal::NotShared { first }));
     }
     Ok(PartFound::Feed(feed_of(alloc, log.commits, log.marks, from, to)?))
 }
 
 fn feed_found(
     alloc: Global,
-    history: bool,
+    spot: &Spot,
     log: &SeenLog<'_>,
     from: Bound,
     to: Bound,
 ) -> Result<PartFound, AllocError>
-    ensures found { IfOk result (λ p. p ≡ parts.feed_found history log.now from to) }
+    ensures found { IfOk result (λ p. p ≡ parts.feed_found spot.now log.now from to) }
     ensures kept { IfOk result (IsKept log.now) }
 {
-    if !history {
+    if spot.is_restricted() {
+        return Ok(PartFound::Refused(TableRefusal::Restricted));
+    }
+    if !spot.has_history() {
         return Ok(PartFound::Refused(TableRefusal::NoHistory));
     }
     match (log.resolve(from), log.resolve(to)) {
         (Err(why), _) | (Ok(_), Err(why)) => Ok(PartFound::Refused(refused_by(why))),
-        (Ok(from), Ok(to)) => feed_between(alloc, log, from, to),
+        (Ok(from), Ok(to)) => {
+            if to < from {
+                return Ok(PartFound::Refused(TableRefusal::VersionRange));
+            }
+            feed_from_first(alloc, spot, log, from, to)
+        }
     }
 }
 
 fn pinned_feed(
     alloc: Global,
+    spot: &Spot,
     log: &SeenLog<'_>,
-    from: u64,
-    to: u64,
+    from: Version,
+    to: Version,
 ) -> Result<PartFound, AllocError>
-    ensures found { IfOk result (λ p. p ≡ parts.pinned_feed log.now from to) }
+    ensures found { IfOk result (λ p. p ≡ parts.pinned_feed spot.now log.now from to) }
     ensures kept { IfOk result (IsKept log.now) }
 {
-    if to < log.len() {
-        feed_between(alloc, log, from, to)
+    if spot.is_restricted() {
+        return Ok(PartFound::Refused(TableRefusal::Restricted));
+    }
+    if to.get() < log.len() {
+        feed_from_first(alloc, spot, log, from.get(), to.get())
     } else {
         Ok(PartFound::Refused(TableRefusal::Ahead))
     }
@@ -281,19 +312,19 @@ fn pinned_feed(
 // What is found of a log, with a version in place of its files.
 fn version_of(
     alloc: Global,
-    history: bool,
+    spot: &Spot,
     log: &SeenLog<'_>,
     part: &Part,
 ) -> Result<PartFound, AllocError>
-    ensures found { IfOk result (λ p. p ≡ parts.version_of history log.now part.now) }
+    ensures found { IfOk result (λ p. p ≡ parts.version_of spot.now log.now part.now) }
     ensures kept { IfOk result (IsKept log.now) }
 {
     match *part {
         Part::Place => Ok(PartFound::Nothing),
-        Part::Head(bound) | Part::Files(bound) => Ok(head_found(history, log, bound)),
-        Part::Feed(from, to) => feed_found(alloc, history, log, from, to),
-        Part::PinnedFiles(version) => Ok(pinned_found(log, version.get())),
-        Part::PinnedFeed(from, to) => pinned_feed(alloc, log, from.get(), to.get()),
+        Part::Head(bound) | Part::Files(bound) => Ok(head_found(spot, log, bound)),
+        Part::Feed(from, to) => feed_found(alloc, spot, log, from, to),
+        Part::PinnedFiles(version) => Ok(pinned_found(spot, log, version.get())),
+        Part::PinnedFeed(from, to) => pinned_feed(alloc, spot, log, from, to),
     }
 }
 
@@ -319,15 +350,15 @@ fn replay_for(
 /// What is found of a log, with a version in place of its files, and what makes these. The error is want of memory.
 pub(crate) fn part_found(
     alloc: Global,
-    history: bool,
+    spot: &Spot,
     log: &SeenLog<'_>,
     part: &Part,
 ) -> Result<(PartFound, Option<Replay>), AllocError>
-    ensures found { IfOk result (λ p. p.0 ≡ parts.version_of history log.now part.now) }
-    ensures makes { IfOk result (λ p. MakesFound (parts.commits_for log.now part.now (parts.version_of history log.now part.now)) p.1) }
+    ensures found { IfOk result (λ p. p.0 ≡ parts.version_of spot.now log.now part.now) }
+    ensures makes { IfOk result (λ p. MakesFound (parts.commits_for log.now part.now (parts.version_of spot.now log.now part.now)) p.1) }
     ensures fits { IfOk result (λ p. IfSome p.1 CanReplay) }
 {
-    let found = version_of(alloc, history, log, part)?;
+    let found = version_of(alloc, spot, log, part)?;
     let replay = replay_for(alloc, log, part, &found)?;
     Ok((found, replay))
 }

@@ -5,7 +5,7 @@ use edge_core::Name;
 use json_tree::{Edition, Millis, Text, Version};
 use log_replay::{Bound, Mark, Snapshot};
 use log_store::Commits;
-use share_catalog::{CatalogName, TableName};
+use share_catalog::{Binding, CatalogName, TableName};
 use std::alloc::AllocError;
 use std::marker::Model;
 use std::sync::Arc;
@@ -98,9 +98,8 @@ impl Names {
 #[derive(Drop)]
 pub struct Spot {
     grant: Edition,
-    binding: Edition,
-    history: bool,
-    location: Name,
+    edition: Edition,
+    binding: Binding,
 }
 
 impl Model for Spot {
@@ -108,22 +107,21 @@ impl Model for Spot {
 
     ghost Value = { catalog.Spot };
 
-    ghost view = { λ s. record { grant = s.grant; binding = s.binding; history = s.history; location = s.location } };
+    ghost view = { λ s. catalog.spot_with s.grant (s.binding, s.edition) };
 }
 
 impl Spot {
-    ghost use Rattle.std.specs.Prelude.{◌≡◌};
+    ghost use Rattle.std.specs.Prelude.{◌≡◌, is_some, option_copied};
+    ghost use Rattle.share_catalog.specs.Views.{spot_with};
 
-    /// A table at that location, by these editions of its share's grant and of its binding, and whether its earlier versions are
-    /// shared.
-    pub fn of(grant: Edition, binding: Edition, history: bool, location: Name) -> Spot
-        ensures { result ≡ record { grant = grant; binding = binding; history = history; location = location } }
+    /// A table by the edition of its share's grant, and by the edition of its binding with the binding itself.
+    pub fn of(grant: Edition, edition: Edition, binding: Binding) -> Spot
+        ensures { result ≡ spot_with grant (binding, edition) }
     {
         Spot {
             grant,
+            edition,
             binding,
-            history,
-            location,
         }
     }
 
@@ -138,27 +136,53 @@ impl Spot {
     pub fn binding(&self) -> Edition
         ensures { result ≡ self.now.binding }
     {
-        self.binding
+        self.edition
     }
 
     /// Whether earlier versions are shared.
     pub fn has_history(&self) -> bool
         ensures { result ≡ self.now.history }
     {
-        self.history
+        self.binding.history
+    }
+
+    /// The first version that is shared.
+    pub fn first(&self) -> Version
+        ensures { result ≡ self.now.first }
+    {
+        self.binding.first
+    }
+
+    /// Whether only a part of each version is shared.
+    pub fn is_restricted(&self) -> bool
+        ensures { result ≡ is_some self.now.only }
+    {
+        self.binding.only.is_some()
+    }
+
+    /// The text that says what of each version is shared, none where all is.
+    pub fn only(&self) -> Option<&str>
+        ensures { option_copied result ≡ self.now.only }
+    {
+        match &self.binding.only {
+            Some(only) => Some(only.as_str()),
+            None => None,
+        }
     }
 
     /// Where its log is stored.
     pub fn location(&self) -> &Name
         ensures { result.now ≡ self.now.location }
     {
-        &self.location
+        self.binding.location.name()
     }
 }
 
 /// Why what is asked of a table isn't found, the first of these.
 #[derive(Clone, Copy, Debug, PartialEq, Eq)]
 pub enum TableRefusal {
+    /// The table is shared in part, and a feed is asked.
+    Restricted,
     /// Earlier versions aren't shared: a feed is asked, or another version than the latest.
     NoHistory,
     /// No version is kept, or what is asked lies at or past the version that isn't.
@@ -169,6 +193,11 @@ pub enum TableRefusal {
     TimestampRange,
     /// A version that was told before isn't kept.
     Ahead,
+    /// The version, or the first of a feed, comes before the first that is shared.
+    NotShared {
+        /// The first that is.
+        first: u64,
+    },
 }
 
 /// The marks of versions, one after another.

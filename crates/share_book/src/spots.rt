@@ -92,11 +92,7 @@ pub(crate) fn spot_of(
     let Some(binding) = catalog.binding(table) else {
         return Ok(None);
     };
-    let location = binding.location.name().copy(alloc)?;
-    Ok(Some(Spot::of(
-        grant,
-        catalog.binding_edition(table),
-        binding.history,
-        location,
-    )))
+    let binding = binding.copy(alloc)?;
+    let edition = catalog.binding_edition(table);
+    Ok(Some(Spot::of(grant, edition, binding)))
 }

@@ -11,6 +11,7 @@ pub mod Listing
 pub mod Locations
 pub mod Maps
 pub mod Past
+pub mod Restrictions
 pub mod Sorted
 pub mod Spares
 pub mod TableNames

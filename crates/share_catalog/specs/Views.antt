@@ -13,11 +13,13 @@ use Rattle.share_catalog.specs.Catalogue.{binding_edition, bound, credential, gr
 use Rattle.share_catalog.specs.TableNames.{parts_of, texts_cmp}
 
 -- A table as a recipient sees it: the editions of its share's grant and of its binding, whether earlier
--- versions are shared, and where its log is stored.
+-- versions are shared, the first version that is, what of each is, and where its log is stored.
 pub record Spot : Type 0 where
   pub grant : ℕ
   pub binding : ℕ
   pub history : Bool
+  pub first : ℕ
+  pub only : Option (List ℕ)
   pub location : List ℕ
 
 -- the edition of a grant that holds
@@ -29,7 +31,7 @@ abbrev pub binding : List Edit → TableName → Option (Binding × ℕ)
 binding edits t = option_map (λ b. (b, binding_edition edits t)) (bound edits t)
 
 abbrev pub spot_with : ℕ → Binding × ℕ → Spot
-spot_with edition b = record { grant = edition; binding = b.1; history = b.0.history; location = b.0.location }
+spot_with edition b = record { grant = edition; binding = b.1; history = b.0.history; first = b.0.first; only = b.0.only; location = b.0.location }
 
 -- a table that is bound in a share that the recipient is granted
 abbrev pub shared : List Edit → List ℕ → TableName → Option Spot

@@ -1,11 +1,13 @@
 // The edits of a catalogue.
-ghost use Rattle.std.specs.Prelude.{◌≡◌, IfOk, option_map};
+ghost use Rattle.std.specs.Prelude.{◌≡◌, IfOk, None, option_map};
 ghost use Rattle.share_catalog.specs.Catalogue.{bound_location};
 
 use crate::credential::Credential;
 use crate::location::Location;
 use crate::name::CatalogName;
+use crate::restriction::{Restriction, copy_restriction_or_none};
 use crate::table_name::TableName;
+use json_tree::Version;
 use std::alloc::{AllocError, Global};
 
 /// What stands behind a table's name.
@@ -13,17 +15,35 @@ use std::alloc::{AllocError, Global};
 pub struct Binding {
     /// Whether the table's earlier versions and its changes are shared too.
     pub history: bool,
+    /// The first version of the table that is shared.
+    pub first: Version,
+    /// What of each version is shared: the files that it shows, all where there is none.
+    pub only: Option<Restriction>,
     /// Where the table's log is stored.
     pub location: Location,
 }
 
 impl Binding {
+    /// A binding that shares each version of a table whole.
+    pub fn whole(history: bool, location: Location) -> Binding
+        ensures { result ≡ record { history = history; first = 0; only = None; location = location } }
+    {
+        Binding {
+            history,
+            first: Version::of_small(0),
+            only: None,
+            location,
+        }
+    }
+
     /// The same binding again. The error is want of memory.
     pub fn copy(&self, alloc: Global) -> Result<Binding, AllocError>
         ensures { IfOk result (λ b. b ≡ self.now) }
     {
         Ok(Binding {
             history: self.history,
+            first: self.first,
+            only: copy_restriction_or_none(alloc, &self.only)?,
             location: self.location.copy(alloc)?,
         })
     }

@@ -11,6 +11,7 @@ mod listing;
 mod location;
 mod name;
 mod past;
+mod restriction;
 mod sorted;
 mod state;
 mod table_name;
@@ -26,4 +27,5 @@ pub use laws::{
 pub use listing::{Bound, Granted};
 pub use location::Location;
 pub use name::{CatalogName, is_catalog_name_text};
+pub use restriction::{Restriction, copy_restriction_or_none};
 pub use table_name::TableName;

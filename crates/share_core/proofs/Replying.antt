@@ -3,16 +3,17 @@ use Rattle.std.proofs.Common.{◌≡◌, ℕ, Bool, true, false, cond, List, [],
 use Rattle.std.specs.Prelude.{if◌then◌else◌, option_to_list}
 use Rattle.share_book.specs.declared.look.Seen.{Seen}
 use Rattle.share_reply.specs.Asking.{ask_of}
-use Rattle.share_reply.specs.Replies.{seen_for}
+use Rattle.share_reply.specs.Bodies.{reply_of}
+use Rattle.share_reply.specs.Replies.{answer_from, seen_for}
 use Rattle.share_reply.specs.declared.keys.ReplyKeys.{ReplyKeys}
 use Rattle.share_request.specs.declared.asked.Request.{Request}
-use Rattle.share_core.specs.Answers.{chosen_replies, is_chosen, reply_to}
+use Rattle.share_core.specs.Answers.{chosen_replies, is_chosen, reply_to, sent}
 use Rattle.share_core.specs.Seen.{chosen_reply, is_chosen_by}
 use Rattle.share_core.specs.Asks.{Asked, asked_by, view_for}
-use Rattle.share_world.specs.Worlds.{shown}
+use Rattle.share_world.specs.Worlds.{looked}
 use Rattle.share_world.specs.declared.event.Event.{Event}
 use Rattle.share_world.specs.declared.event.Event.TheVariants as event
-use Rattle.share_core.proofs.Seeing.{seen_whose, shown_for}
+use Rattle.share_core.proofs.Seeing.{seen_whose, shown_for, whose_shown}
 
 -- a request with its moment and its view
 abbrev pub asked_at : ReplyKeys → List Event → Request → ℕ → Asked
@@ -26,13 +27,16 @@ chosen_one : (keys : ReplyKeys) (b : Bool) (a : Asked) → option_to_list (if b 
 chosen_one keys true a = refl
 chosen_one keys false a = refl
 
--- the reply by what the events show is the one by the view
-pub reply_seen : (keys : ReplyKeys) (events : List Event) (request : Request) (now : ℕ) (r : Option (List ℕ)) (seen : Option Seen) → seen ≡ shown events (ask_of keys request)
+-- the reply by what is found, as it is shown, is the one by the view
+pub reply_seen : (keys : ReplyKeys) (events : List Event) (request : Request) (now : ℕ) (r : Option (List ℕ)) (seen : Option Seen) → seen ≡ looked events (ask_of keys request)
     → option_to_list (chosen_reply keys r request now seen) ≡ chosen_replies keys r (option_to_list (asked_by keys events (event.Ask request now)))
 reply_seen keys events request now r seen is =
     let asked = asked_at keys events request now in
-    ap (λ (s : Option Seen). option_to_list (chosen_reply keys r request now s)) (is ∙ shown_for keys events request)
-    ∙ ap (λ (b : Bool). option_to_list (if b then Some (reply_to keys asked) else None)) (chosen_by keys events request now r)
+    let found = looked events (ask_of keys request) in
+    let view = shown_for keys events request in
+    let whose : is_chosen_by r found ≡ is_chosen r asked = whose_shown r found ∙ ap (is_chosen_by r) view ∙ chosen_by keys events request now r in
+    ap (λ (s : Option Seen). option_to_list (chosen_reply keys r request now s)) is
+    ∙ (λ i. option_to_list (if whose i then Some (sent (reply_of keys (answer_from keys now request (view i)))) else None))
     ∙ chosen_one keys (is_chosen r asked) asked
 
 -- a value that stands under a test

@@ -1,5 +1,6 @@
--- Whose a request is and what it is answered, by what is seen for it. No statement to the outside cites it.
-use Rattle.std.specs.Prelude.{ℕ, List, Bool, true, false, Option, Some, None, bytes_eq, if◌then◌else◌}
+-- Whose a request is and what it is answered, by what is found for it in whole logs. No statement to the outside cites it.
+use Rattle.std.specs.Prelude.{ℕ, List, Bool, true, false, Option, Some, None, bytes_eq, option_map, if◌then◌else◌}
+use Rattle.share_book.specs.Shown.{show}
 use Rattle.share_book.specs.declared.look.Seen.{Seen}
 use Rattle.share_reply.specs.Bodies.{reply_of}
 use Rattle.share_reply.specs.Replies.{answer_from}
@@ -18,6 +19,6 @@ abbrev pub is_chosen_by : Option (List ℕ) → Option Seen → Bool
 is_chosen_by None seen = true
 is_chosen_by (Some recipient) seen = is_seen_by recipient seen
 
--- the reply by what is seen, where that is the recipient's
+-- the reply by what was found, as it is shown, where that is the recipient's
 abbrev pub chosen_reply : ReplyKeys → Option (List ℕ) → Request → ℕ → Option Seen → Option Reply
-chosen_reply keys recipient request now seen = if is_chosen_by recipient seen then Some (sent (reply_of keys (answer_from keys now request seen))) else None
+chosen_reply keys recipient request now seen = if is_chosen_by recipient seen then Some (sent (reply_of keys (answer_from keys now request (option_map show seen)))) else None

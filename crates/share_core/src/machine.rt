@@ -5,7 +5,7 @@ ghost use Rattle.share_core.specs.Asks.{asked_by, asks_of};
 ghost use Rattle.share_core.specs.Seen.{chosen_reply, is_chosen_by};
 ghost use Rattle.share_reply.specs.Asking.{ask_of};
 ghost use Rattle.share_world.specs.Standing.{Stands};
-ghost use Rattle.share_world.specs.Worlds.{shown};
+ghost use Rattle.share_world.specs.Worlds.{looked};
 ghost use Rattle.share_world.specs.declared.event.Event.{Event as OneEvent};
 ghost use Rattle.share_world.specs.declared.event.Event.TheVariants as event_is;
 
@@ -30,7 +30,7 @@ fn is_chosen(recipient: Option<&str>, seen: &Option<Seen>) -> bool
     }
 }
 
-// What is seen for a request.
+// What is found for a request.
 fn seen_by(
     alloc: Global,
     keys: &ReplyKeys,
@@ -38,7 +38,7 @@ fn seen_by(
     request: &Request,
 ) -> Result<Option<Seen>, AllocError>
     ensures same { world.new ≡ world.old }
-    ensures seen { (before : List OneEvent) → Stands world.old before → IfOk result (λ s. s ≡ shown before (ask_of keys.now request.now)) }
+    ensures seen { (before : List OneEvent) → Stands world.old before → IfOk result (λ s. s ≡ looked before (ask_of keys.now request.now)) }
 {
     let ask = ask_of(alloc, keys, request)?;
     world.see(alloc, &ask)

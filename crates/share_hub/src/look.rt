@@ -2,7 +2,7 @@
 ghost use Rattle.std.specs.Prelude.{◌≡◌, [], false, IfOk, IfSome, OnOk, length};
 ghost use Rattle.share_book.specs.Bases.{CanReplay, FilesStand, MakesFound};
 ghost use Rattle.share_book.specs.Looks.{commits_of, glance_of, look_of, who_of};
-ghost use Rattle.share_book.specs.Views.{view_by};
+ghost use Rattle.share_book.specs.Views.{held_view};
 ghost use Rattle.hub_calls.specs.Calls.{Adds, IsIdle, IsKnown};
 ghost use Rattle.share_hub.specs.Replays.{Replayed};
 
@@ -39,8 +39,8 @@ impl Hub {
         ensures same { IsIdle pass.old pass.new }
         ensures added { Adds pass.old pass.new [] }
         ensures at { IfOk result (λ p. p.look.at ≡ length pass.new.seen) }
-        ensures seen { IfOk result (λ p. p.look.seen ≡ glance_of (view_by pass.new.seen (who_of ask.now.who)) ask.now.want) }
-        ensures makes { IfOk result (λ p. MakesFound (commits_of (view_by pass.new.seen (who_of ask.now.who)) ask.now.want) p.replay) }
+        ensures seen { IfOk result (λ p. p.look.seen ≡ glance_of (held_view pass.new.seen (who_of ask.now.who)) ask.now.want) }
+        ensures makes { IfOk result (λ p. MakesFound (commits_of (held_view pass.new.seen (who_of ask.now.who)) ask.now.want) p.replay) }
         ensures fits { IfOk result (λ p. IfSome p.replay CanReplay) }
         ensures known { IsKnown pass.new }
     {
@@ -55,7 +55,7 @@ impl Hub {
     }
 
     /// What is found for one request, at the point of the history that the pass has seen then, which is no earlier than what it had
-    /// seen: a plain function of the recipient's view at that point and of what is asked. It adds no entry.
+    /// seen: a plain function of what is held of the recipient's tables at that point and of what is asked. It adds no entry.
     ///
     /// The files of a version are made without the turn, of the latest state of their table that is kept, up to that version, and the
     /// commits after it. Where commits were left, the state is then kept, and what is found is looked up again, each in one further
@@ -73,7 +73,7 @@ impl Hub {
         ensures added { Adds pass.old pass.new [] }
         ensures known { IsKnown pass.new }
         ensures at { IfOk result (λ l. l.at ≡ length pass.new.seen) }
-        ensures seen { IfOk result (λ l. l.seen ≡ look_of (view_by pass.new.seen (who_of ask.now.who)) ask.now.want) }
+        ensures seen { IfOk result (λ l. l.seen ≡ look_of (held_view pass.new.seen (who_of ask.now.who)) ask.now.want) }
         ensures counted { OnOk result (Replayed pass.old.seen pass.new.seen ask.now steps.old steps.new) }
     {
         let pinned = self.pin(rt, alloc, pass, ask)?;

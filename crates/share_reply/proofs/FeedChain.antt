@@ -1,5 +1,5 @@
 -- The pages of a chain of changes are the changes of the range that the first one was of.
-use Rattle.std.proofs.Common.{◌≡◌, ℕ, ◌<◌, ◌⊎◌, inl, inr, List, [], ◌∷◌, Some, Result, Ok, refl, sym, ap, ◌∙◌, subst, length, drop, filter}
+use Rattle.std.proofs.Common.{◌≡◌, ℕ, ◌<◌, ◌⊎◌, inl, inr, List, [], ◌∷◌, Option, Some, None, Result, Ok, refl, sym, ap, ◌∙◌, subst, length, drop, filter}
 use Rattle.std.specs.Prelude.{is_some}
 use mathlib.Core.List.{IsPrefix}
 use Rattle.change_feed.specs.Changes.{ChangedFile}
@@ -12,6 +12,7 @@ use Rattle.page_token.specs.declared.cursor.Cursor.TheVariants as cursor
 use Rattle.page_token.specs.declared.cursor.FeedCursor.{FeedCursor}
 use Rattle.page_token.specs.declared.cursor.TableAccess.{TableAccess}
 use Rattle.share_book.specs.Looks.{log_in}
+use Rattle.share_book.specs.Parts.{found_of}
 use Rattle.share_book.specs.Views.{Log, view_by}
 use Rattle.share_book.specs.declared.entry.Entry.{Entry}
 use Rattle.share_catalog.specs.Views.{Spot, token}
@@ -21,13 +22,14 @@ use Rattle.share_reply.specs.Access.{access}
 use Rattle.share_reply.specs.Answer.{Page, page}
 use Rattle.share_reply.specs.Asking.{asked_at, feed_part}
 use Rattle.share_reply.specs.Chains.{AreSpelt, FeedChainsAreWhole, Gives, IsChain, IsChainAfter, IsSpelt, NextIsSpelt, PinsRange, Sees, Turn, answer_at, by_changes, linked_change, next_in, next_token}
-use Rattle.share_reply.specs.Feeds.{ChangesQuery, FeedStart, changes_page, feed_cursor, feed_page, lists_all, start_at}
+use Rattle.share_reply.specs.Feeds.{ChangesQuery, FeedStart, changes_page, feed_cursor, feed_page, lists_all, start_at, unrestricted_changes}
 use Rattle.share_reply.specs.Pages.{next_place}
 use Rattle.share_reply.specs.declared.keys.ReplyKeys.{ReplyKeys}
 use Rattle.share_reply.proofs.AtTable.{AtTable, at_table}
 use Rattle.share_reply.proofs.ChainCore.{NextIs, end_says, one_page, read_again}
-use Rattle.share_reply.proofs.FeedPaged.{FirstFeed, LaterFeed, Ranged, first, later as later_page}
-use Rattle.share_reply.proofs.SeenTable.{Grown, IsBound, either_log, is_bound}
+use Rattle.share_reply.proofs.FeedPaged.{FirstFeed, LaterFeed, Ranged, first, later as later_page, shared_whole}
+use Rattle.share_book.proofs.Versions.{IsWhole}
+use Rattle.share_reply.proofs.SeenTable.{Grown, IsBound, either_log, is_bound, is_whole}
 
 says_next : (keys : ReplyKeys) (a : TableAccess) (now : ℕ) (q : ChangesQuery) (start : FeedStart) (meta : MetaData) (changes : List ChangedFile)
     → NextIs (feed_cursor a start) (next_place lists_all q.max start.place changes) (next_in (feed_page keys a now q start meta changes))
@@ -36,11 +38,11 @@ says_next keys a now q start meta changes = end_says (feed_cursor a start) lists
 -- ---- a turn's answer
 
 abbrev pub TurnAt : ReplyKeys → TableName → Turn ChangesQuery → Page → Type 0
-TurnAt keys name t p = AtTable (token t.digest) t.point name (feed_part keys t.query.from t.query.to t.query.token) (λ a x. changes_page keys a t.moment t.query x) p
+TurnAt keys name t p = AtTable (token t.digest) t.point name (feed_part keys t.query.from t.query.to t.query.token) (λ spot a x. unrestricted_changes keys spot.only a t.moment t.query x) p
 
 pub turn_at : (keys : ReplyKeys) (name : TableName) (t : Turn ChangesQuery) (p : Page) → answer_at by_changes keys name t ≡ page p → TurnAt keys name t p
 turn_at keys name t p e =
-    at_table keys (token t.digest) t.point t.moment name (feed_part keys t.query.from t.query.to t.query.token) (what.Changes name t.query.from t.query.to t.query.max t.query.token) (λ a x. changes_page keys a t.moment t.query x) p
+    at_table keys (token t.digest) t.point t.moment name (feed_part keys t.query.from t.query.to t.query.token) (what.Changes name t.query.from t.query.to t.query.max t.query.token) (λ spot a x. unrestricted_changes keys spot.only a t.moment t.query x) p
     (view_by t.point (token t.digest)) (λ r x. refl) refl e
 
 bound_at : (keys : ReplyKeys) (name : TableName) (t : Turn ChangesQuery) (p : Page) (T : TurnAt keys name t p) → IsBound t.point name T.spot (log_in T.view name)
@@ -48,6 +50,17 @@ bound_at keys name t p T = is_bound t.point (token t.digest) T.view name T.spot 
 
 sees_at : (keys : ReplyKeys) (name : TableName) (t : Turn ChangesQuery) (p : Page) (T : TurnAt keys name t p) → Sees t name T.spot (log_in T.view name) (access T.view.catalog.recipient name T.spot)
 sees_at keys name t p T = record { view = T.view; is_view = T.is_view; is_spot = T.is_spot; is_log = refl; is_access = refl }
+
+-- its table is shared whole, and so is its log
+pub record Unrestricted (keys : ReplyKeys) (name : TableName) (t : Turn ChangesQuery) (p : Page) (T : TurnAt keys name t p) : Type 0 where
+  pub none : T.spot.only ≡ None
+  pub whole : IsWhole (log_in T.view name)
+  pub page_is : changes_page keys (access T.view.catalog.recipient name T.spot) t.moment t.query (found_of T.spot (log_in T.view name) (feed_part keys t.query.from t.query.to t.query.token)) ≡ Ok p
+
+pub unrestricted_at : (keys : ReplyKeys) (name : TableName) (t : Turn ChangesQuery) (p : Page) (T : TurnAt keys name t p) → Unrestricted keys name t p T
+unrestricted_at keys name t p T =
+    let (none, is) = shared_whole T.spot.only _ p T.page_is in
+    record { none = none; whole = is_whole t.point name T.spot (log_in T.view name) (bound_at keys name t p T) none; page_is = is }
 
 -- ---- a later point
 
@@ -57,6 +70,7 @@ record Held (point : List Entry) (name : TableName) (c : FeedCursor) (changes : 
   log : Log
   is_bound : IsBound point name spot log
   binding : spot.binding ≡ c.access.binding
+  none : spot.only ≡ None
   kept : c.to < length log.commits
   is_feed : feed_of log.commits c.from c.to ≡ Ok changes
 
@@ -66,12 +80,13 @@ same_changes r r' xs ys e f g = cc
 page_same : (keys : ReplyKeys) (a a' : TableAccess) (now : ℕ) (q : ChangesQuery) (start : FeedStart) (meta : MetaData) (xs ys : List ChangedFile) → a ≡ a' → xs ≡ ys → feed_page keys a now q start meta xs ≡ feed_page keys a' now q start meta ys
 page_same keys a a' now q start meta xs ys e g = λ i. feed_page keys (e i) now q start meta (g i)
 
-grown_feeds : (log log' : Log) (from to : ℕ) → Grown log log' → to < length log.commits → feed_of log'.commits from to ≡ feed_of log.commits from to
-grown_feeds log log' from to (more, grown) kept = ap (λ (cs : List (List Action)). feed_of cs from to) grown ∙ later_commits_leave log.commits more from to kept
+grown_feeds : (only : Option (List ℕ)) (log log' : Log) (from to : ℕ) → Grown only log log' → only ≡ None → to < length log.commits → feed_of log'.commits from to ≡ feed_of log.commits from to
+grown_feeds only log log' from to g none kept = let (more, grown) = g.commits none in ap (λ (cs : List (List Action)). feed_of cs from to) grown ∙ later_commits_leave log.commits more from to kept
 
-either_feeds : (log log' : Log) (from to : ℕ) → Grown log log' ⊎ Grown log' log → to < length log.commits → to < length log'.commits → feed_of log'.commits from to ≡ feed_of log.commits from to
-either_feeds log log' from to (inl g) kept kept' = grown_feeds log log' from to g kept
-either_feeds log log' from to (inr g) kept kept' = sym (grown_feeds log' log from to g kept')
+either_feeds : (only only' : Option (List ℕ)) (log log' : Log) (from to : ℕ) → Grown only log log' ⊎ Grown only' log' log → only ≡ None → only' ≡ None → to < length log.commits → to < length log'.commits
+    → feed_of log'.commits from to ≡ feed_of log.commits from to
+either_feeds only only' log log' from to (inl g) none none' kept kept' = grown_feeds only log log' from to g none kept
+either_feeds only only' log log' from to (inr g) none none' kept kept' = sym (grown_feeds only' log' log from to g none' kept')
 
 later : (keys : ReplyKeys) (name : TableName) (ts : List (Turn ChangesQuery)) (history before : List Entry) (c : FeedCursor) (changes : List ChangedFile) → IsPrefix before history → Held before name c changes
     → IsSpelt keys (cursor.Feed c) → AreSpelt by_changes keys name ts → IsChainAfter by_changes keys name history (Some (token_text keys.token (cursor.Feed c))) ts
@@ -81,12 +96,13 @@ later keys name (t ∷ ts) history before c changes stands held spelt (spelt_her
     let T : TurnAt keys name t p = turn_at keys name t p answered in
     let a : TableAccess = access T.view.catalog.recipient name T.spot in
     let log : Log = log_in T.view name in
-    let P : LaterFeed keys a t.moment t.query c log p = later_page keys a t.moment t.query c (token_text keys.token (cursor.Feed c)) T.spot.history log p (read_again keys (cursor.Feed c) spelt) has T.page_is in
+    let U : Unrestricted keys name t p T = unrestricted_at keys name t p T in
+    let P : LaterFeed keys a t.moment t.query c T.spot log p = later_page keys a t.moment t.query c (token_text keys.token (cursor.Feed c)) T.spot log p U.whole (read_again keys (cursor.Feed c) spelt) has U.page_is in
     let here : IsBound t.point name T.spot log = bound_at keys name t p T in
     let binding : T.spot.binding ≡ c.access.binding = ap (λ (x : TableAccess). x.binding) P.same in
-    let S : Ranged keys a t.moment t.query (start_at c) p log c.from c.to = P.ranged in
+    let S : Ranged keys a t.moment t.query (start_at c) p log c.from c.to = P.ranged.ranged in
     let feed_stays : feed_of log.commits c.from c.to ≡ feed_of held.log.commits c.from c.to =
-    either_feeds held.log log c.from c.to (either_log history before t.point name held.spot T.spot held.log log held.is_bound here stands goes (binding ∙ sym held.binding)) held.kept S.kept in
+    either_feeds held.spot.only T.spot.only held.log log c.from c.to (either_log history before t.point name held.spot T.spot held.log log held.is_bound here stands goes (binding ∙ sym held.binding)) held.none U.none held.kept S.kept in
     let changes_here : S.changes ≡ changes = same_changes (feed_of held.log.commits c.from c.to) (feed_of log.commits c.from c.to) changes S.changes held.is_feed S.is_feed feed_stays in
     let page_is : p ≡ feed_page keys c.access t.moment t.query (start_at c) S.meta changes = S.page_is ∙ page_same keys a c.access t.moment t.query (start_at c) S.meta S.changes changes P.same changes_here in
     let answered_here : answer_at by_changes keys name t ≡ page (feed_page keys c.access t.moment t.query (start_at c) S.meta changes) = answered ∙ ap page page_is in
@@ -96,7 +112,7 @@ later keys name (t ∷ ts) history before c changes stands held spelt (spelt_her
     (subst (λ (x : Page). IsChainAfter by_changes keys name history (next_token keys x) ts) page_is chain)
     (λ place spelt_next chain_next.
     later keys name ts history t.point (record { access = c.access; asked_from = c.asked_from; asked_to = c.asked_to; from = c.from; to = c.to; place = place }) changes goes
-    (record { spot = T.spot; log = log; is_bound = here; binding = binding; kept = S.kept; is_feed = feed_stays ∙ held.is_feed })
+    (record { spot = T.spot; log = log; is_bound = here; binding = binding; none = U.none; kept = S.kept; is_feed = feed_stays ∙ held.is_feed })
     spelt_next spelt_later chain_next)
 
 -- ---- the whole chain
@@ -116,9 +132,10 @@ whole_if_spelt keys name history t ts (stands, none, (p, answered, chain)) (spel
     let T : TurnAt keys name t p = turn_at keys name t p answered in
     let a : TableAccess = access T.view.catalog.recipient name T.spot in
     let log : Log = log_in T.view name in
-    let F : FirstFeed keys a t.moment t.query log p = first keys a t.moment t.query T.spot.history log p none T.page_is in
+    let U : Unrestricted keys name t p T = unrestricted_at keys name t p T in
+    let F : FirstFeed keys a t.moment t.query T.spot log p = first keys a t.moment t.query T.spot log p U.whole none U.page_is in
     let start : FeedStart = start_of t.query F.from F.to in
-    let S : Ranged keys a t.moment t.query start p log F.from F.to = F.ranged in
+    let S : Ranged keys a t.moment t.query start p log F.from F.to = F.ranged.ranged in
     let answered_here : answer_at by_changes keys name t ≡ page (feed_page keys a t.moment t.query start S.meta S.changes) = answered ∙ ap page S.page_is in
     let gives : Gives by_changes keys name (linked_change keys a) (t ∷ ts) (filter lists_all S.changes) =
     one_page by_changes keys name (linked_change keys a) history t ts lists_all t.query.max 0 S.changes (feed_cursor a start) (feed_page keys a t.moment t.query start S.meta S.changes)
@@ -127,7 +144,7 @@ whole_if_spelt keys name history t ts (stands, none, (p, answered, chain)) (spel
     (subst (λ (x : Page). IsChainAfter by_changes keys name history (next_token keys x) ts) S.page_is chain)
     (λ place spelt_next chain_next.
     later keys name ts history t.point (record { access = a; asked_from = start.asked_from; asked_to = start.asked_to; from = start.from; to = start.to; place = place }) S.changes stands
-    (record { spot = T.spot; log = log; is_bound = bound_at keys name t p T; binding = refl; kept = S.kept; is_feed = S.is_feed })
+    (record { spot = T.spot; log = log; is_bound = bound_at keys name t p T; binding = refl; none = U.none; kept = S.kept; is_feed = S.is_feed })
     spelt_next spelt_later chain_next) in (
       T.spot,
       log,

@@ -1,15 +1,15 @@
 -- The pages of a chain are the files of the version that the first one was of.
-use Rattle.std.proofs.Common.{◌≡◌, ℕ, ◌<◌, List, [], ◌∷◌, Some, Ok, refl, sym, ap, ◌∙◌, subst, length, drop, filter}
+use Rattle.std.proofs.Common.{◌≡◌, ℕ, ◌<◌, List, [], ◌∷◌, Some, Result, Ok, refl, sym, ap, ◌∙◌, subst, length, drop, filter}
 use Rattle.std.specs.Prelude.{is_some}
 use mathlib.Core.List.{IsPrefix}
-use Rattle.log_actions.specs.declared.actions.Action.{Action}
-use Rattle.log_replay.specs.State.{State, state_of}
+use Rattle.log_replay.specs.State.{State}
+use Rattle.log_replay.specs.declared.refusal.ReplayRefusal.{ReplayRefusal}
 use Rattle.page_token.specs.Token.{token_text}
 use Rattle.page_token.specs.declared.cursor.Cursor.TheVariants as cursor
 use Rattle.page_token.specs.declared.cursor.FilesCursor.{FilesCursor}
 use Rattle.page_token.specs.declared.cursor.TableAccess.{TableAccess}
 use Rattle.share_book.specs.Looks.{log_in}
-use Rattle.share_book.specs.Parts.{up_to}
+use Rattle.share_book.specs.Parts.{state_at}
 use Rattle.share_book.specs.Views.{Log, view_by}
 use Rattle.share_book.specs.declared.entry.Entry.{Entry}
 use Rattle.share_catalog.specs.Views.{Spot, token}
@@ -26,7 +26,7 @@ use Rattle.share_reply.specs.declared.keys.ReplyKeys.{ReplyKeys}
 use Rattle.share_reply.proofs.AtTable.{AtTable, at_table}
 use Rattle.share_reply.proofs.FilesPaged.{First, Later, Stated, first, later as later_page}
 use Rattle.share_reply.proofs.ChainCore.{NextIs, end_says, one_page, read_again}
-use Rattle.share_reply.proofs.SeenTable.{IsBound, either_log, either_versions, is_bound}
+use Rattle.share_reply.proofs.SeenTable.{IsBound, either_log, either_states, is_bound, marks_kept}
 
 says_next : (keys : ReplyKeys) (a : TableAccess) (now : ℕ) (q : QueryBody) (start : FilesStart) (state : State) → NextIs (files_cursor a start) (next_place (lists start.hint state) q.max start.place state.files) (next_in (files_page keys a now q start state))
 says_next keys a now q start state = end_says (files_cursor a start) (lists start.hint state) q.max (is_some q.token) start.place state.files _
@@ -34,11 +34,11 @@ says_next keys a now q start state = end_says (files_cursor a start) (lists star
 -- ---- a turn's answer
 
 abbrev pub TurnAt : ReplyKeys → TableName → Turn QueryBody → Page → Type 0
-TurnAt keys name t p = AtTable (token t.digest) t.point name (files_part keys t.query t.query.token) (λ a x. query_page keys a t.moment t.query x) p
+TurnAt keys name t p = AtTable (token t.digest) t.point name (files_part keys t.query t.query.token) (λ spot a x. query_page keys a t.moment t.query x) p
 
 pub turn_at : (keys : ReplyKeys) (name : TableName) (t : Turn QueryBody) (p : Page) → answer_at by_files keys name t ≡ page p → TurnAt keys name t p
 turn_at keys name t p e =
-    at_table keys (token t.digest) t.point t.moment name (files_part keys t.query t.query.token) (what.Query name t.query) (λ a x. query_page keys a t.moment t.query x) p (view_by t.point (token t.digest)) (λ r x. refl) refl e
+    at_table keys (token t.digest) t.point t.moment name (files_part keys t.query t.query.token) (what.Query name t.query) (λ spot a x. query_page keys a t.moment t.query x) p (view_by t.point (token t.digest)) (λ r x. refl) refl e
 
 abbrev access_of : (keys : ReplyKeys) (name : TableName) (t : Turn QueryBody) (p : Page) → TurnAt keys name t p → TableAccess
 access_of keys name t p T = access T.view.catalog.recipient name T.spot
@@ -54,36 +54,36 @@ sees_at keys name t p T = record { view = T.view; is_view = T.is_view; is_spot =
 
 -- ---- a later point
 
--- what is known of a cursor at the point where it was given: the versions up to its own are these
-record Held (point : List Entry) (name : TableName) (c : FilesCursor) (front : List (List Action)) : Type 0 where
+-- what is known of a cursor at the point where it was given: its version has this state
+record Held (point : List Entry) (name : TableName) (c : FilesCursor) (state : State) : Type 0 where
   spot : Spot
   log : Log
   is_bound : IsBound point name spot log
   binding : spot.binding ≡ c.access.binding
-  kept : c.version < length log.commits
-  front_is : up_to log c.version ≡ front
+  kept : c.version < length log.states
+  is_state : state_at log c.version ≡ Ok state
 
-same_state : (front front' : List (List Action)) (s s' : State) → state_of front ≡ Ok s → state_of front' ≡ Ok s' → front' ≡ front → s' ≡ s
-same_state front front' s s' is is' e = let f : state_of front' ≡ state_of front = ap state_of e in cc
+same_state : (r r' : Result State ReplayRefusal) (s s' : State) → r ≡ Ok s → r' ≡ Ok s' → r' ≡ r → s' ≡ s
+same_state r r' s s' is is' e = cc
 
 page_same : (keys : ReplyKeys) (a a' : TableAccess) (now : ℕ) (q : QueryBody) (start : FilesStart) (state state' : State) → a ≡ a' → state ≡ state' → files_page keys a now q start state ≡ files_page keys a' now q start state'
 page_same keys a a' now q start state state' e g = λ i. files_page keys (e i) now q start (g i)
 
-later : (keys : ReplyKeys) (name : TableName) (ts : List (Turn QueryBody)) (history before : List Entry) (c : FilesCursor) (front : List (List Action)) (state : State) → IsPrefix before history → Held before name c front → state_of front ≡ Ok state
+later : (keys : ReplyKeys) (name : TableName) (ts : List (Turn QueryBody)) (history before : List Entry) (c : FilesCursor) (state : State) → IsPrefix before history → Held before name c state
     → IsSpelt keys (cursor.Files c) → AreSpelt by_files keys name ts → IsChainAfter by_files keys name history (Some (token_text keys.token (cursor.Files c))) ts
     → Gives by_files keys name (linked_file keys c.access) ts (filter (lists c.hint state) (drop c.place state.files))
-later keys name [] history before c front state stands held is spelt all chain = absurd chain
-later keys name (t ∷ ts) history before c front state stands held is spelt (spelt_here, spelt_later) (goes, has, (p, answered, chain)) =
+later keys name [] history before c state stands held spelt all chain = absurd chain
+later keys name (t ∷ ts) history before c state stands held spelt (spelt_here, spelt_later) (goes, has, (p, answered, chain)) =
     let T : TurnAt keys name t p = turn_at keys name t p answered in
     let a : TableAccess = access T.view.catalog.recipient name T.spot in
     let log : Log = log_in T.view name in
-    let P : Later keys a t.moment t.query c log p = later_page keys a t.moment t.query c (token_text keys.token (cursor.Files c)) T.spot.history log p (read_again keys (cursor.Files c) spelt) has T.page_is in
+    let P : Later keys a t.moment t.query c T.spot log p = later_page keys a t.moment t.query c (token_text keys.token (cursor.Files c)) T.spot log p (read_again keys (cursor.Files c) spelt) has T.page_is in
     let here : IsBound t.point name T.spot log = bound_at keys name t p T in
     let binding : T.spot.binding ≡ c.access.binding = ap (λ (x : TableAccess). x.binding) P.same in
-    let front_here : up_to log c.version ≡ front =
-    either_versions held.log log c.version (either_log history before t.point name held.spot T.spot held.log log held.is_bound here stands goes (binding ∙ sym held.binding)) held.kept P.kept ∙ held.front_is in
-    let S : Stated keys a t.moment t.query (start_at c) p (state_of (up_to log c.version)) = P.stated in
-    let state_here : S.state ≡ state = same_state front (up_to log c.version) state S.state is S.is_state front_here in
+    let stays : state_at log c.version ≡ state_at held.log c.version =
+    either_states held.spot.only T.spot.only held.log log c.version (either_log history before t.point name held.spot T.spot held.log log held.is_bound here stands goes (binding ∙ sym held.binding)) held.kept P.kept in
+    let S : Stated keys a t.moment t.query (start_at c) p (state_at log c.version) = P.stated in
+    let state_here : S.state ≡ state = same_state (state_at held.log c.version) (state_at log c.version) state S.state held.is_state S.is_state stays in
     let answered_here : answer_at by_files keys name t ≡ page (files_page keys c.access t.moment t.query (start_at c) state) =
     answered ∙ ap page (S.page_is ∙ page_same keys a c.access t.moment t.query (start_at c) S.state state P.same state_here) in
     let page_is : p ≡ files_page keys c.access t.moment t.query (start_at c) state = S.page_is ∙ page_same keys a c.access t.moment t.query (start_at c) S.state state P.same state_here in
@@ -92,9 +92,9 @@ later keys name (t ∷ ts) history before c front state stands held is spelt (sp
     (says_next keys c.access t.moment t.query (start_at c) state) (subst (NextIsSpelt keys) answered_here spelt_here)
     (subst (λ (x : Page). IsChainAfter by_files keys name history (next_token keys x) ts) page_is chain)
     (λ place spelt_next chain_next.
-    later keys name ts history t.point (record { access = c.access; asked = c.asked; version = c.version; hint = c.hint; place = place }) front state goes
-    (record { spot = T.spot; log = log; is_bound = here; binding = binding; kept = P.kept; front_is = front_here })
-    is spelt_next spelt_later chain_next)
+    later keys name ts history t.point (record { access = c.access; asked = c.asked; version = c.version; hint = c.hint; place = place }) state goes
+    (record { spot = T.spot; log = log; is_bound = here; binding = binding; kept = P.kept; is_state = stays ∙ held.is_state })
+    spelt_next spelt_later chain_next)
 
 -- ---- the whole chain
 
@@ -106,9 +106,9 @@ whole_if_spelt keys name history t ts (stands, none, (p, answered, chain)) (spel
     let T : TurnAt keys name t p = turn_at keys name t p answered in
     let a : TableAccess = access T.view.catalog.recipient name T.spot in
     let log : Log = log_in T.view name in
-    let F : First keys a t.moment t.query log p = first keys a t.moment t.query T.spot.history log p none T.page_is in
+    let F : First keys a t.moment t.query T.spot log p = first keys a t.moment t.query T.spot log p (marks_kept t.point name T.spot log (bound_at keys name t p T)) none T.page_is in
     let start : FilesStart = first_start t.query F.version in
-    let S : Stated keys a t.moment t.query start p (state_of (up_to log F.version)) = F.stated in
+    let S : Stated keys a t.moment t.query start p (state_at log F.version) = F.stated in
     let answered_here : answer_at by_files keys name t ≡ page (files_page keys a t.moment t.query start S.state) = answered ∙ ap page S.page_is in
     let gives : Gives by_files keys name (linked_file keys a) (t ∷ ts) (filter (lists start.hint S.state) S.state.files) =
     one_page by_files keys name (linked_file keys a) history t ts (lists start.hint S.state) t.query.max 0 S.state.files (files_cursor a start) (files_page keys a t.moment t.query start S.state)
@@ -116,9 +116,9 @@ whole_if_spelt keys name history t ts (stands, none, (p, answered, chain)) (spel
     (says_next keys a t.moment t.query start S.state) (subst (NextIsSpelt keys) answered_here spelt_here)
     (subst (λ (x : Page). IsChainAfter by_files keys name history (next_token keys x) ts) S.page_is chain)
     (λ place spelt_next chain_next.
-    later keys name ts history t.point (record { access = a; asked = start.asked; version = start.version; hint = start.hint; place = place }) (up_to log F.version) S.state stands
-    (record { spot = T.spot; log = log; is_bound = bound_at keys name t p T; binding = refl; kept = F.kept; front_is = refl })
-    S.is_state spelt_next spelt_later chain_next) in
+    later keys name ts history t.point (record { access = a; asked = start.asked; version = start.version; hint = start.hint; place = place }) S.state stands
+    (record { spot = T.spot; log = log; is_bound = bound_at keys name t p T; binding = refl; kept = F.kept; is_state = S.is_state })
+    spelt_next spelt_later chain_next) in
     (T.spot, log, a, sees_at keys name t p T, (S.state, record { version = F.version; is_version = F.is_version; is_state = S.is_state }, gives))
 
 pub chains_are_whole : ChainsAreWhole

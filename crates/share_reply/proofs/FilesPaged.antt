@@ -1,22 +1,19 @@
 -- What a page of files tells of the log that it was answered from.
-use Rattle.std.proofs.Common.{◌≡◌, ℕ, ◌<◌, ◌≤◌, List, [], ◌∷◌, Bool, true, false, cond, ◌&&◌, Option, Some, None, Result, Ok, Err, refl, sym, ap, ◌∙◌, arith, length, bytes_eq}
-use Rattle.std.specs.Prelude.{nat_le, nat_lt, not, ◌==◌}
+use Rattle.std.proofs.Common.{◌≡◌, ℕ, ◌<◌, ◌≤◌, List, [], ◌∷◌, Bool, true, false, ◌&&◌, Option, Some, None, Result, Ok, refl, sym, ap, ◌∙◌, arith, length, bytes_eq}
+use Rattle.std.specs.Prelude.{nat_le, ◌==◌}
 use Rattle.std.proofs.lemmas.Bool.Decides.{nat_tests}
 use Rattle.std.proofs.lemmas.Slice.Eq.{bytes_eq-Decides}
 use Rattle.case_table.specs.declared.refuse.Refusal.{Refusal}
-use Rattle.log_replay.specs.State.{State, state_of}
-use Rattle.log_replay.specs.Times.{marks_in}
+use Rattle.log_replay.specs.State.{State}
 use Rattle.log_replay.specs.declared.refusal.ReplayRefusal.{ReplayRefusal}
-use Rattle.log_replay.specs.declared.times.Unresolved.{Unresolved}
 use Rattle.page_token.specs.Cursors.{cursor_of}
 use Rattle.page_token.specs.declared.cursor.Cursor.{Cursor}
 use Rattle.page_token.specs.declared.cursor.Cursor.TheVariants as cursor
 use Rattle.page_token.specs.declared.cursor.FilesCursor.{FilesCursor}
 use Rattle.page_token.specs.declared.cursor.TableAccess.{TableAccess}
-use Rattle.share_book.specs.Parts.{files_of, found_of, head_found, is_latest, pinned_found, resolved_at, up_to, version_found, with_files}
+use Rattle.share_book.specs.Parts.{found_of, head_found, pinned_found, resolved_at, state_at, with_files}
 use Rattle.share_book.specs.Views.{Log}
-use Rattle.share_book.specs.declared.look.PartFound.TheVariants as part_found
-use Rattle.share_book.specs.declared.look.TableRefusal.TheVariants as refusal
+use Rattle.share_catalog.specs.Views.{Spot}
 use Rattle.query_body.specs.declared.query.QueryBody.{QueryBody}
 use Rattle.share_reply.specs.Answer.{Page}
 use Rattle.share_reply.specs.Asking.{asked_by, files_by as part_by, files_part, last_bound}
@@ -24,7 +21,8 @@ use Rattle.share_reply.specs.Files.{FilesStart, agrees, files_by, files_from, fi
 use Rattle.share_reply.specs.Access.{is_same_edition, is_same_table}
 use Rattle.share_reply.specs.Refusing.{Refused, where_all}
 use Rattle.share_reply.specs.declared.keys.ReplyKeys.{ReplyKeys}
-use Rattle.share_reply.proofs.ResolvedLemmas.{marks_few, resolved_below}
+use Rattle.share_reply.proofs.FoundLemmas.{FoundAt, FoundBy, Refuses, found_by, pinned_at}
+use Rattle.share_book.proofs.ResolvedLemmas.{resolved_below}
 
 -- a test that was passed
 pub passed : {X : Type 0} (b : Bool) (refusal : Refusal) (tests : List (Bool × Refusal)) (x : Result X Refused) (y : X) → where_all ((b, refusal) ∷ tests) x ≡ Ok y → (b ≡ true) × (where_all tests x ≡ Ok y)
@@ -41,46 +39,45 @@ pub record Stated (keys : ReplyKeys) (a : TableAccess) (now : ℕ) (q : QueryBod
   pub within : start.place ≤ length state.files
   pub page_is : p ≡ files_page keys a now q start state
 
-state_from : (keys : ReplyKeys) (a : TableAccess) (now : ℕ) (q : QueryBody) (start : ℕ → FilesStart) (p : Page) (v : ℕ) (r : Result State ReplayRefusal) → files_from keys a now q start (files_of v r) ≡ Ok p → Stated keys a now q (start v) p r
-state_from keys a now q start p v (Err x) e = absurd cc
-state_from keys a now q start p v (Ok state) e =
-    let (within, is) = passed (nat_le (start v).place (length state.files)) _ [] (Ok (files_page keys a now q (start v) state)) p e in
-    record { state = state; is_state = refl; within = grind (arith, nat_tests, within); page_is = ok_is (files_page keys a now q (start v) state) p (Ok (files_page keys a now q (start v) state)) refl is }
+stated_at : (keys : ReplyKeys) (a : TableAccess) (now : ℕ) (q : QueryBody) (start : ℕ → FilesStart) (spot : Spot) (log : Log) (p : Page) (v : ℕ) → FoundAt spot log (files_from keys a now q start) p v → Stated keys a now q (start v) p (state_at log v)
+stated_at keys a now q start spot log p v F =
+    let (within, is) = passed (nat_le (start v).place (length F.state.files)) _ [] (Ok (files_page keys a now q (start v) F.state)) p F.page_is in
+    record { state = F.state; is_state = F.is_state; within = grind (arith, nat_tests, within); page_is = ok_is (files_page keys a now q (start v) F.state) p (Ok (files_page keys a now q (start v) F.state)) refl is }
+
+refuses : (keys : ReplyKeys) (a : TableAccess) (now : ℕ) (q : QueryBody) (start : ℕ → FilesStart) → Refuses (files_from keys a now q start)
+refuses keys a now q start why p e = absurd cc
 
 -- ---- a first page
 
-pub record First (keys : ReplyKeys) (a : TableAccess) (now : ℕ) (q : QueryBody) (log : Log) (p : Page) : Type 0 where
+pub record First (keys : ReplyKeys) (a : TableAccess) (now : ℕ) (q : QueryBody) (spot : Spot) (log : Log) (p : Page) : Type 0 where
   pub version : ℕ
   pub is_version : resolved_at log (last_bound (asked_by q.version q.moment)) ≡ Ok version
-  pub kept : version < length log.commits
-  pub stated : Stated keys a now q (first_start q version) p (state_of (up_to log version))
+  pub kept : version < length log.states
+  pub shared : spot.first ≤ version
+  pub stated : Stated keys a now q (first_start q version) p (state_at log version)
 
-first_version : (keys : ReplyKeys) (a : TableAccess) (now : ℕ) (q : QueryBody) (log : Log) (p : Page) (r : Result ℕ Unresolved) → resolved_at log (last_bound (asked_by q.version q.moment)) ≡ r
-    → files_from keys a now q (first_start q) (with_files log (version_found r)) ≡ Ok p → First keys a now q log p
-first_version keys a now q log p (Err why) is e = absurd cc
-first_version keys a now q log p (Ok v) is e =
-    let below = resolved_below (marks_in log.commits) log.blocked (last_bound (asked_by q.version q.moment)) v is in
-    let few = marks_few log.commits in
-    record { version = v; is_version = is; kept = omega (arith, below, few); stated = state_from keys a now q (first_start q) p v (state_of (up_to log v)) e }
-
-first_shared : (keys : ReplyKeys) (a : TableAccess) (now : ℕ) (q : QueryBody) (log : Log) (p : Page) (b : Bool)
-    → files_from keys a now q (first_start q) (with_files log (cond b (part_found.Refused refusal.NoHistory) (version_found (resolved_at log (last_bound (asked_by q.version q.moment)))))) ≡ Ok p → First keys a now q log p
-first_shared keys a now q log p true e = absurd cc
-first_shared keys a now q log p false e = first_version keys a now q log p (resolved_at log (last_bound (asked_by q.version q.moment))) refl e
-
-pub first : (keys : ReplyKeys) (a : TableAccess) (now : ℕ) (q : QueryBody) (history : Bool) (log : Log) (p : Page) → q.token ≡ None
-    → query_page keys a now q (found_of history log (files_part keys q q.token)) ≡ Ok p → First keys a now q log p
-first keys a now q history log p none e =
-    let here : files_from keys a now q (first_start q) (with_files log (head_found history log (last_bound (asked_by q.version q.moment)))) ≡ Ok p =
-    sym (ap (λ (o : Option (List ℕ)). files_with keys a now q o (found_of history log (files_part keys q o))) none) ∙ e in
-    first_shared keys a now q log p (not history && not (is_latest (last_bound (asked_by q.version q.moment)))) here
+pub first : (keys : ReplyKeys) (a : TableAccess) (now : ℕ) (q : QueryBody) (spot : Spot) (log : Log) (p : Page) → length log.marks ≤ length log.states → q.token ≡ None
+    → query_page keys a now q (found_of spot log (files_part keys q q.token)) ≡ Ok p → First keys a now q spot log p
+first keys a now q spot log p few none e =
+    let b = last_bound (asked_by q.version q.moment) in
+    let here : files_from keys a now q (first_start q) (with_files log (head_found spot log b)) ≡ Ok p = sym (ap (λ (o : Option (List ℕ)). files_with keys a now q o (found_of spot log (files_part keys q o))) none) ∙ e in
+    let F : FoundBy spot log b (files_from keys a now q (first_start q)) p = found_by spot log b (files_from keys a now q (first_start q)) p (refuses keys a now q (first_start q)) here in
+    let below = resolved_below log.marks log.blocked b F.version F.is_version in
+    record {
+      version = F.version;
+      is_version = F.is_version;
+      kept = omega (arith, below, few);
+      shared = F.found.shared;
+      stated = stated_at keys a now q (first_start q) spot log p F.version F.found;
+    }
 
 -- ---- a later page
 
-pub record Later (keys : ReplyKeys) (a : TableAccess) (now : ℕ) (q : QueryBody) (c : FilesCursor) (log : Log) (p : Page) : Type 0 where
+pub record Later (keys : ReplyKeys) (a : TableAccess) (now : ℕ) (q : QueryBody) (c : FilesCursor) (spot : Spot) (log : Log) (p : Page) : Type 0 where
   pub same : a ≡ c.access
-  pub kept : c.version < length log.commits
-  pub stated : Stated keys a now q (start_at c) p (state_of (up_to log c.version))
+  pub kept : c.version < length log.states
+  pub shared : spot.first ≤ c.version
+  pub stated : Stated keys a now q (start_at c) p (state_at log c.version)
 
 both : (a b : Bool) → (a && b) ≡ true → (a ≡ true) × (b ≡ true)
 both true b e = (refl, e)
@@ -103,25 +100,22 @@ same_access given a table edition =
     let binding_is : given.binding ≡ a.binding = grind (arith, nat_tests, binding) in
     λ i. record { recipient = sym recipient_is i; share = sym share_is i; schema = sym schema_is i; table = sym table_is i; grant = sym grant_is i; binding = sym binding_is i }
 
-later_kept : (keys : ReplyKeys) (a : TableAccess) (now : ℕ) (q : QueryBody) (c : FilesCursor) (log : Log) (p : Page) (b : Bool) → a ≡ c.access → nat_lt c.version (length log.commits) ≡ b
-    → files_from keys a now q (λ version. start_at c) (with_files log (cond b (part_found.Version c.version) (part_found.Refused refusal.Ahead))) ≡ Ok p → Later keys a now q c log p
-later_kept keys a now q c log p false same is e = absurd cc
-later_kept keys a now q c log p true same is e =
-    record { same = same; kept = grind (arith, nat_tests, is); stated = state_from keys a now q (λ version. start_at c) p c.version (state_of (up_to log c.version)) e }
+later_by : (keys : ReplyKeys) (a : TableAccess) (now : ℕ) (q : QueryBody) (c : FilesCursor) (spot : Spot) (log : Log) (p : Page) → later_files keys a now q c (with_files log (pinned_found spot log c.version)) ≡ Ok p → Later keys a now q c spot log p
+later_by keys a now q c spot log p e =
+    let f = files_from keys a now q (λ version. start_at c) in
+    let x = f (with_files log (pinned_found spot log c.version)) in
+    let (table, e1) = passed (is_same_table c.access a) _ _ x p e in
+    let (edition, e2) = passed (is_same_edition c.access a) _ _ x p e1 in
+    let (agree, e3) = passed (agrees q c) _ [] x p e2 in
+    let (kept, F) = pinned_at spot log c.version f p (refuses keys a now q (λ version. start_at c)) e3 in
+    record { same = same_access c.access a table edition; kept = kept; shared = F.shared; stated = stated_at keys a now q (λ version. start_at c) spot log p c.version F }
 
-later_by : (keys : ReplyKeys) (a : TableAccess) (now : ℕ) (q : QueryBody) (c : FilesCursor) (log : Log) (p : Page) → later_files keys a now q c (with_files log (pinned_found log c.version)) ≡ Ok p → Later keys a now q c log p
-later_by keys a now q c log p e =
-    let (table, e1) = passed (is_same_table c.access a) _ _ (files_from keys a now q (λ version. start_at c) (with_files log (pinned_found log c.version))) p e in
-    let (edition, e2) = passed (is_same_edition c.access a) _ _ (files_from keys a now q (λ version. start_at c) (with_files log (pinned_found log c.version))) p e1 in
-    let (agree, e3) = passed (agrees q c) _ [] (files_from keys a now q (λ version. start_at c) (with_files log (pinned_found log c.version))) p e2 in
-    later_kept keys a now q c log p (nat_lt c.version (length log.commits)) (same_access c.access a table edition) refl e3
-
-pub later : (keys : ReplyKeys) (a : TableAccess) (now : ℕ) (q : QueryBody) (c : FilesCursor) (text : List ℕ) (history : Bool) (log : Log) (p : Page)
+pub later : (keys : ReplyKeys) (a : TableAccess) (now : ℕ) (q : QueryBody) (c : FilesCursor) (text : List ℕ) (spot : Spot) (log : Log) (p : Page)
     → cursor_of keys.token text ≡ Some (cursor.Files c) → q.token ≡ Some text
-    → query_page keys a now q (found_of history log (files_part keys q q.token)) ≡ Ok p → Later keys a now q c log p
-later keys a now q c text history log p again is e =
-    let by_text : files_by keys a now q (cursor_of keys.token text) (found_of history log (part_by (cursor_of keys.token text))) ≡ Ok p =
-    sym (ap (λ (o : Option (List ℕ)). files_with keys a now q o (found_of history log (files_part keys q o))) is) ∙ e in
-    let by_cursor : later_files keys a now q c (with_files log (pinned_found log c.version)) ≡ Ok p =
-    sym (ap (λ (o : Option Cursor). files_by keys a now q o (found_of history log (part_by o))) again) ∙ by_text in
-    later_by keys a now q c log p by_cursor
+    → query_page keys a now q (found_of spot log (files_part keys q q.token)) ≡ Ok p → Later keys a now q c spot log p
+later keys a now q c text spot log p again is e =
+    let by_text : files_by keys a now q (cursor_of keys.token text) (found_of spot log (part_by (cursor_of keys.token text))) ≡ Ok p =
+    sym (ap (λ (o : Option (List ℕ)). files_with keys a now q o (found_of spot log (files_part keys q o))) is) ∙ e in
+    let by_cursor : later_files keys a now q c (with_files log (pinned_found spot log c.version)) ≡ Ok p =
+    sym (ap (λ (o : Option Cursor). files_by keys a now q o (found_of spot log (part_by o))) again) ∙ by_text in
+    later_by keys a now q c spot log p by_cursor

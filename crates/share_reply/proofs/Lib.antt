@@ -1,8 +1,8 @@
 pub mod PageLemmas
-pub mod ResolvedLemmas
 pub mod BindingLemmas
 pub mod TokenLemmas
 pub mod AtTable
+pub mod FoundLemmas
 pub mod FilesPaged
 pub mod SeenTable
 pub mod ChainCore
@@ -11,8 +11,11 @@ pub mod FeedPaged
 pub mod FeedChain
 pub mod LawLemmas
 pub mod RevokedLemmas
+pub mod PartsKept
 pub mod Cutting
+pub mod ShownWalk
 pub mod Paging
+pub mod ShownParts
 pub mod Standing
 pub mod PrintedLengths
 pub mod LinkLengths

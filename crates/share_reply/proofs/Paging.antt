@@ -59,18 +59,10 @@ abbrev ending_with : TableAccess → ℕ → FilesStart → List AddFile → Opt
 ending_with a expires s files next = record { expires = ends_with expires files; next = option_map (files_cursor a s) next }
 
 -- what a filter of the hint lets pass is what is listed
-listed_by : (hint : Option (List ℕ)) (state : State) (filter : Filter) (meta : MetaData) → meta ≡ state.meta → IsFilter (pred_by hint) meta filter → passes filter ≡ lists hint state
+pub listed_by : (hint : Option (List ℕ)) (state : State) (filter : Filter) (meta : MetaData) → meta ≡ state.meta → IsFilter (pred_by hint) meta filter → passes filter ≡ lists hint state
 listed_by hint state filter meta is_meta is_filter =
     let filter_is = subst (λ m. IsFilter (pred_by hint) m filter) is_meta is_filter in
     λ i file. filter_is file i
-
-pub given_by : (hint : Option (List ℕ)) (state : State) (filter : Filter) (meta : MetaData) (most : Option ℕ) (at place : ℕ) → meta ≡ state.meta → IsFilter (pred_by hint) meta filter → at ≡ place
-    → given (passes filter) most at state.files ≡ given (lists hint state) most place state.files
-given_by hint state filter meta most at place is_meta is_filter is_place = λ i. given (listed_by hint state filter meta is_meta is_filter i) most (is_place i) state.files
-
-pub next_by : (hint : Option (List ℕ)) (state : State) (filter : Filter) (meta : MetaData) (most : Option ℕ) (at place : ℕ) → meta ≡ state.meta → IsFilter (pred_by hint) meta filter → at ≡ place
-    → next_place (passes filter) most at state.files ≡ next_place (lists hint state) most place state.files
-next_by hint state filter meta most at place is_meta is_filter is_place = λ i. next_place (listed_by hint state filter meta is_meta is_filter i) most (is_place i) state.files
 
 -- the page of the files that were cut
 pub files_paged : (keys : ReplyKeys) (a : TableAccess) (now : ℕ) (q : QueryBody) (s : FilesStart) (state : State) (expires version : ℕ) (meta : MetaData)

@@ -10,6 +10,7 @@ use Rattle.share_book.specs.NamesView.{NamesView}
 use Rattle.share_book.specs.declared.look.Found.{Found}
 use Rattle.share_book.specs.declared.look.Found.TheVariants as found
 use Rattle.share_book.specs.declared.look.PartFound.{PartFound}
+use Rattle.share_catalog.specs.Views.{Spot}
 use Rattle.share_catalog.specs.declared.table_name.TableName.{TableName}
 use Rattle.share_request.specs.declared.fault.TurnedAway.{TurnedAway}
 use Rattle.share_request.specs.declared.fault.TurnedAway.TheVariants as early
@@ -55,11 +56,11 @@ names_spelt keys answer found.NoTable spelt = tt
 names_spelt keys answer (found.Table spot part) spelt = tt
 
 -- of a table
-pub table_spelt : (keys : ReplyKeys) (recipient : List ℕ) (name : TableName) (answer : TableAccess → PartFound → Answer) (f : Found) → ((a : TableAccess) (part : PartFound) → NextIsSpelt keys (answer a part))
+pub table_spelt : (keys : ReplyKeys) (recipient : List ℕ) (name : TableName) (answer : Spot → TableAccess → PartFound → Answer) (f : Found) → ((spot : Spot) (a : TableAccess) (part : PartFound) → NextIsSpelt keys (answer spot a part))
     → NextIsSpelt keys (of_table recipient name answer f)
 table_spelt keys recipient name answer (found.Names seen) spelt = tt
 table_spelt keys recipient name answer found.NoTable spelt = tt
-table_spelt keys recipient name answer (found.Table spot part) spelt = spelt _ part
+table_spelt keys recipient name answer (found.Table spot part) spelt = spelt spot _ part
 
 -- of a request that is turned away
 pub early_spelt : (keys : ReplyKeys) (why : TurnedAway) → NextIsSpelt keys (answer_early why)

@@ -7,13 +7,13 @@ use Rattle.case_table.specs.declared.routing.Route.TheVariants as route
 use Rattle.change_feed.specs.Changes.{ChangedFile}
 use Rattle.change_feed.specs.Feed.{feed_of}
 use Rattle.log_actions.specs.declared.actions.AddFile.{AddFile}
-use Rattle.log_replay.specs.State.{State, state_of}
+use Rattle.log_replay.specs.State.{State}
 use Rattle.page_token.specs.Payload.{IsInRange, IsValue}
 use Rattle.page_token.specs.Token.{token_text}
 use Rattle.page_token.specs.declared.cursor.Cursor.{Cursor}
 use Rattle.page_token.specs.declared.cursor.TableAccess.{TableAccess}
 use Rattle.share_book.specs.Looks.{log_in}
-use Rattle.share_book.specs.Parts.{resolved_at, up_to}
+use Rattle.share_book.specs.Parts.{resolved_at, state_at}
 use Rattle.share_book.specs.Views.{Log, View, view_by}
 use Rattle.share_book.specs.declared.entry.Entry.{Entry}
 use Rattle.share_catalog.specs.TableNames.{parts_of}
@@ -99,11 +99,11 @@ pub record Sees {Q : Type 0} (t : Turn Q) (name : TableName) (spot : Spot) (log 
   pub is_log : log_in view name ≡ log
   pub is_access : access view.catalog.recipient name spot ≡ a
 
--- the version that a first query means, and its state
+-- the version that a first query means, and its state as the view's log has it: with the files that are shown
 pub record Pins (q : QueryBody) (log : Log) (state : State) : Type 0 where
   pub version : ℕ
   pub is_version : resolved_at log (last_bound (asked_by q.version q.moment)) ≡ Ok version
-  pub is_state : state_of (up_to log version) ≡ Ok state
+  pub is_state : state_at log version ≡ Ok state
 
 -- the range that a first query of changes means, and its changes
 pub record PinsRange (q : ChangesQuery) (log : Log) (changes : List ChangedFile) : Type 0 where

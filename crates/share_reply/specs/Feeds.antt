@@ -1,8 +1,8 @@
 -- What a query of a table's changes is answered (Delta Sharing PROTOCOL.md, "Read Change Data Feed from a Table").
-use Rattle.std.specs.Prelude.{ℕ, ◌==◌, ◌&&◌, List, [], ◌∷◌, ◌++◌, Bool, true, false, Option, Some, None, Result, Ok, Err, length, map, nat_le, option_map, if◌then◌else◌}
+use Rattle.std.specs.Prelude.{ℕ, ◌==◌, ◌&&◌, List, [], ◌∷◌, ◌++◌, Bool, true, false, Option, Some, None, Result, Ok, Err, is_none, length, map, nat_le, option_map, if◌then◌else◌}
 use Rattle.std.specs.Fmt.{decimal}
 use Rattle.std.specs.Ordering.{int_eq}
-use Rattle.case_table.specs.declared.refuse.Refusal.TheVariants.{ChangesNotEnabled, TokenAhead, TokenInvalid, TokenMismatch, UnsupportedTable}
+use Rattle.case_table.specs.declared.refuse.Refusal.TheVariants.{ChangesNotEnabled, ChangesRestricted, TokenAhead, TokenInvalid, TokenMismatch, UnsupportedTable}
 use Rattle.change_feed.specs.Changes.{ChangedFile}
 use Rattle.change_feed.specs.Shown.{feed_from as feed_in}
 use Rattle.change_feed.specs.declared.change.ChangeKind.{ChangeKind}
@@ -151,3 +151,7 @@ feed_with keys a now q (Some token) found = feed_by keys a now q (cursor_of keys
 -- the page of changes that is answered, or the refusal
 abbrev pub changes_page : ReplyKeys → TableAccess → ℕ → ChangesQuery → PartFound → Result Page Refused
 changes_page keys a now q found = feed_with keys a now q q.token found
+
+-- The same of a table that may be shared in part: then it is refused before any token is tested, and whatever the range is.
+abbrev pub unrestricted_changes : ReplyKeys → Option (List ℕ) → TableAccess → ℕ → ChangesQuery → PartFound → Result Page Refused
+unrestricted_changes keys only a now q found = where_all ((is_none only, ChangesRestricted) ∷ []) (changes_page keys a now q found)

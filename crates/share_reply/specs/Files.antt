@@ -1,7 +1,8 @@
 -- What a query of a table's files is answered (Delta Sharing PROTOCOL.md, "Read Data from a Table").
 use Rattle.std.specs.Prelude.{ℕ, ◌==◌, ◌&&◌, ◌||◌, ℤ, List, [], ◌∷◌, ◌++◌, Bool, true, false, Option, Some, None, Result, Ok, Err, filter, is_some, length, map, option_map, bytes_eq, nat_le, if◌then◌else◌}
+use Rattle.std.specs.Fmt.{decimal}
 use Rattle.std.specs.Ordering.{int_eq}
-use Rattle.case_table.specs.declared.refuse.Refusal.TheVariants.{HistoryNotShared, NotFound, TimestampRange, TokenAhead, TokenInvalid, TokenMismatch, UnsupportedTable, VersionRange}
+use Rattle.case_table.specs.declared.refuse.Refusal.TheVariants.{ChangesRestricted, HistoryNotShared, NotFound, TimestampRange, TokenAhead, TokenInvalid, TokenMismatch, UnsupportedTable, VersionNotShared, VersionRange}
 use Rattle.log_actions.specs.declared.actions.AddFile.{AddFile}
 use Rattle.log_replay.specs.State.{State}
 use Rattle.page_token.specs.Cursors.{cursor_of}
@@ -37,6 +38,8 @@ refused_for refusal.Unsupported = plain UnsupportedTable
 refused_for refusal.VersionRange = plain VersionRange
 refused_for refusal.TimestampRange = plain TimestampRange
 refused_for refusal.Ahead = plain TokenAhead
+refused_for (refusal.NotShared first) = record { refusal = VersionNotShared; detail = decimal first }
+refused_for refusal.Restricted = plain ChangesRestricted
 
 -- a find of another kind than was asked, which none is
 abbrev pub unlike : {X : Type 0} → Result X Refused
@@ -119,7 +122,7 @@ files_ending keys a now q s state = record {
   next = option_map (files_cursor a s) (next_place (lists s.hint state) q.max s.place state.files);
 }
 
--- a place counts the live files, listed or not
+-- a place counts the files that are shown, listed or not, so that it tells nothing of others
 abbrev pub files_page : ReplyKeys → TableAccess → ℕ → QueryBody → FilesStart → State → Page
 files_page keys a now q s state = record {
   version = s.version;

@@ -1,16 +1,23 @@
 -- Laws of replies, over the definitions alone.
-use Rattle.std.specs.Prelude.{◌≡◌, ◌≢◌, ◌≤◌, ◌++◌, ℕ, List, false, Option, Some, None, Ok, IsErr}
+use Rattle.std.specs.Prelude.{◌≡◌, ◌≢◌, ◌≤◌, ◌++◌, ⊤, ℕ, List, [], ◌∷◌, true, false, All, Contains, Option, Some, None, Ok, IsErr, filter_map}
 use Rattle.case_table.specs.declared.refuse.Refusal.TheVariants.{NotFound}
 use Rattle.case_table.specs.declared.routing.Route.TheVariants as route
+use Rattle.case_table.specs.declared.routing.Route.{Route}
+use Rattle.log_actions.specs.declared.actions.AddFile.{AddFile}
+use Rattle.log_replay.specs.State.{State}
 use Rattle.page_token.specs.Cursors.{cursor_of}
 use Rattle.page_token.specs.declared.cursor.Cursor.TheVariants as cursor
 use Rattle.page_token.specs.declared.cursor.FeedCursor.{FeedCursor}
 use Rattle.page_token.specs.declared.cursor.FilesCursor.{FilesCursor}
 use Rattle.page_token.specs.declared.cursor.TableAccess.{TableAccess}
+use Rattle.pred_tree.specs.Shown.{shows}
 use Rattle.share_book.specs.History.{edits}
+use Rattle.share_book.specs.Parts.{state_at}
+use Rattle.share_book.specs.Views.{log_at}
 use Rattle.share_book.specs.declared.entry.Entry.{Entry}
 use Rattle.share_book.specs.declared.look.PartFound.{PartFound}
 use Rattle.share_book.specs.declared.look.Found.TheVariants as found
+use Rattle.share_catalog.specs.declared.edit.Binding.{Binding}
 use Rattle.share_catalog.specs.declared.table_name.TableName.{TableName}
 use Rattle.share_catalog.specs.Catalogue.{binding_edition, bound, grant_edition, granted}
 use Rattle.file_ranges.specs.declared.span.Span.{Span}
@@ -24,7 +31,10 @@ use Rattle.signed_link.specs.Parts.{parts_of}
 use Rattle.signed_link.specs.declared.parts.LinkParts.{LinkParts}
 use Rattle.share_book.specs.NamesView.{NamesView}
 use Rattle.share_reply.specs.Access.{is_same_edition}
-use Rattle.share_reply.specs.Answer.{Page, object, page, refused}
+use Rattle.share_lines.specs.declared.kinds.Line.{Line}
+use Rattle.share_lines.specs.declared.kinds.Line.TheVariants as line
+use Rattle.share_reply.specs.Answer.{Answer, Page, at_version, object, page, refused}
+use Rattle.share_reply.specs.Chains.{linked_file}
 use Rattle.share_reply.specs.Feeds.{ChangesQuery, changes_page}
 use Rattle.share_reply.specs.Files.{query_page}
 use Rattle.share_reply.specs.Lists.{has_share}
@@ -84,3 +94,48 @@ RevokedGrantsGiveNothing = GivesNothing (λ history a. IsRevoked history a.recip
 -- And under a binding that is over.
 abbrev pub UnboundTablesGiveNothing : Type 0
 UnboundTablesGiveNothing = GivesNothing (λ history a. IsUnbound history (record { share = a.share; schema = a.schema; table = a.table }) a.binding)
+
+-- ---- tables that are shared in part
+
+-- what is asked of a table, by whom the digest finds
+abbrev pub asked_of : List ℕ → Route → What → Request
+asked_of digest r w = request.ByToken (record { digest = digest; route = r; asked = Ok w })
+
+-- a line that is given of a file of a state, one that is shown
+abbrev pub IsOfShown : ReplyKeys → ℕ → List ℕ → State → Line → Type 0
+IsOfShown keys now text state l = (f : AddFile) × Contains state.files f × (shows (Some text) state.meta f ≡ true) × ((a : TableAccess) × (l ≡ linked_file keys a now f))
+
+-- No hidden file is given: where the binding of a table restricts it, each line of files of a page, whatever is asked, is of a file that the restriction shows, of the version of the table's log that the page tells.
+abbrev pub HiddenFilesAreNotGiven : Type 0
+HiddenFilesAreNotGiven = (keys : ReplyKeys) (history : List Entry) (now : ℕ) (digest : List ℕ) (r : Route) (name : TableName) (w : What) (b : Binding) (text : List ℕ) (p : Page)
+    → AsksFor name w → bound (edits history) name ≡ Some b → b.only ≡ Some text → answered_at keys history now (asked_of digest r w) ≡ page p
+    → (state : State) × (state_at (log_at history b.location) p.version ≡ Ok state) × All (IsOfShown keys now text state) p.content
+
+-- the version that a line tells: that of a change
+abbrev pub line_version : Line → Option ℕ
+line_version (line.File f) = f.version
+line_version (line.Add f) = f.version
+line_version (line.Cdf f) = f.version
+line_version (line.Remove f) = f.version
+line_version _ = None
+
+-- the versions of a table that an answer of status 200 tells
+abbrev pub versions_told : Answer → List ℕ
+versions_told (at_version v) = v ∷ []
+versions_told (page p) = p.version ∷ filter_map line_version p.content
+versions_told _ = []
+
+-- a token of changes, if one is given, is of a range that runs forwards, as that of each page does
+abbrev pub RunsOn : ReplyKeys → Option (List ℕ) → Type 0
+RunsOn keys None = ⊤
+RunsOn keys (Some text) = (c : FeedCursor) → cursor_of keys.token text ≡ Some (cursor.Feed c) → c.from ≤ c.to
+
+-- and so is what is asked with one
+abbrev pub AsksOn : ReplyKeys → What → Type 0
+AsksOn keys (what.Changes name from to max token) = RunsOn keys token
+AsksOn keys _ = ⊤
+
+-- Nothing is told of versions before the first one that the binding of a table shares.
+abbrev pub NothingBeforeFirst : Type 0
+NothingBeforeFirst = (keys : ReplyKeys) (history : List Entry) (now : ℕ) (digest : List ℕ) (r : Route) (name : TableName) (w : What) (b : Binding) → AsksFor name w → AsksOn keys w → bound (edits history) name ≡ Some b
+    → All (λ v. b.first ≤ v) (versions_told (answered_at keys history now (asked_of digest r w)))

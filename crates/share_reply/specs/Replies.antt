@@ -12,6 +12,7 @@ use Rattle.share_book.specs.declared.look.Found.{Found}
 use Rattle.share_book.specs.declared.look.Found.TheVariants as found
 use Rattle.share_book.specs.declared.look.PartFound.{PartFound}
 use Rattle.share_book.specs.declared.look.Seen.{Seen}
+use Rattle.share_catalog.specs.Views.{Spot}
 use Rattle.share_catalog.specs.declared.table_name.TableName.{TableName}
 use Rattle.share_request.specs.Faults.{early_refusal, fault_detail, fault_refusal}
 use Rattle.share_request.specs.declared.asked.Request.{Request}
@@ -25,7 +26,7 @@ use Rattle.signed_link.specs.Parts.{parts_of}
 use Rattle.share_reply.specs.Access.{access}
 use Rattle.share_reply.specs.Answer.{Answer, at_version, names, of, of_object, one_share, only, page, refused}
 use Rattle.share_reply.specs.Asking.{ask_of}
-use Rattle.share_reply.specs.Feeds.{changes_page}
+use Rattle.share_reply.specs.Feeds.{unrestricted_changes}
 use Rattle.share_reply.specs.Files.{metadata_page, query_page, version_in}
 use Rattle.share_reply.specs.Links.{linked_object}
 use Rattle.share_reply.specs.Lists.{listing, names_page, share_in}
@@ -41,10 +42,10 @@ of_names answer found.NoTable = refused (plain NotFound)
 of_names answer (found.Table spot part) = refused (plain NotFound)
 
 -- of a table: one that isn't bound in a granted share is answered like one that isn't there
-abbrev pub of_table : List ℕ → TableName → (TableAccess → PartFound → Answer) → Found → Answer
+abbrev pub of_table : List ℕ → TableName → (Spot → TableAccess → PartFound → Answer) → Found → Answer
 of_table recipient name answer (found.Names seen) = refused (plain NotFound)
 of_table recipient name answer found.NoTable = refused (plain NotFound)
-of_table recipient name answer (found.Table spot part) = answer (access recipient name spot) part
+of_table recipient name answer (found.Table spot part) = answer spot (access recipient name spot) part
 
 -- the last three are no recipient's, and no recipient has them
 abbrev pub answer_what : ReplyKeys → List ℕ → ℕ → What → Found → Answer
@@ -53,11 +54,11 @@ answer_what keys r now (what.GetShare share) f = of_names (λ seen. of one_share
 answer_what keys r now (what.ListSchemas share p) f = of_names (λ seen. of names (names_page keys r seen (listing kind.Schemas share [] p))) f
 answer_what keys r now (what.ListTables share schema p) f = of_names (λ seen. of names (names_page keys r seen (listing kind.Tables share schema p))) f
 answer_what keys r now (what.ListAll share p) f = of_names (λ seen. of names (names_page keys r seen (listing kind.AllTables share [] p))) f
-answer_what keys r now (what.Version table from) f = of_table r table (λ a part. of at_version (version_in part)) f
-answer_what keys r now (what.Metadata table at) f = of_table r table (λ a part. of page (metadata_page part)) f
-answer_what keys r now (what.Query table body) f = of_table r table (λ a part. of page (query_page keys a now body part)) f
+answer_what keys r now (what.Version table from) f = of_table r table (λ spot a part. of at_version (version_in part)) f
+answer_what keys r now (what.Metadata table at) f = of_table r table (λ spot a part. of page (metadata_page part)) f
+answer_what keys r now (what.Query table body) f = of_table r table (λ spot a part. of page (query_page keys a now body part)) f
 answer_what keys r now (what.Changes table from to max token) f =
-    of_table r table (λ a part. of page (changes_page keys a now (record { from = from; to = to; max = max; token = token }) part)) f
+    of_table r table (λ spot a part. of page (unrestricted_changes keys spot.only a now (record { from = from; to = to; max = max; token = token }) part)) f
 answer_what keys r now (what.Commit offer) f = refused (plain NotFound)
 answer_what keys r now (what.Refresh location) f = refused (plain NotFound)
 answer_what keys r now (what.Edit edit) f = refused (plain NotFound)

@@ -17,7 +17,7 @@ pub(crate) struct FilesCut<'a> {
 }
 
 // Whether a page has all that it may have.
-fn is_full(count: usize, most: Option<u64>) -> bool
+pub(crate) fn is_full(count: usize, most: Option<u64>) -> bool
     ensures { result ≡ is_full count most }
 {
     match most {

@@ -1,6 +1,7 @@
 // Pages of a table's changes.
 ghost use Rattle.std.specs.Prelude.{◌≡◌, ◌+◌, ◌≤◌, ◌^◌, true, IfOk, IfSome, length, map, option_copied, option_map, vec_len};
 ghost use Rattle.page_token.specs.Token.{token_text};
+ghost use Rattle.share_book.specs.Shown.{show_part};
 ghost use Rattle.share_reply.specs.Answer.{ends_with};
 ghost use Rattle.share_reply.specs.Chains.{IsSpelt};
 ghost use Rattle.share_reply.specs.Asking.{asked_at};
@@ -13,7 +14,7 @@ ghost use Rattle.std.specs.Arc.{arc_value};
 ghost use Rattle.share_reply.specs.Stops.{GivesItems, GivesPage};
 
 use crate::access::{Access, Signing, expiry};
-use crate::files::{ends_with, is_paged, not_found};
+use crate::files::{ends_with, is_paged, refusal_for};
 use crate::keys::ReplyKeys;
 use crate::lines::{Content, LinePlan};
 use crate::numbers::{place_of, version_of};
@@ -27,7 +28,7 @@ use json_tree::{Millis, Place, Text, Version};
 use log_actions::{Action, Commit};
 use log_replay::{Mark, meta_in};
 use page_token::{Asked, Cursor, FeedCursor, cursor_of};
-use share_book::{FeedPart, PartFound};
+use share_book::{FeedPart, PartFound, Spot};
 use share_lines::EndLine;
 use share_request::Bound;
 use std::alloc::{AllocError, Global};
@@ -310,7 +311,7 @@ fn feed_from<'a>(
             Some(begin) => page_of_feed(alloc, keys, access, now, begin, asked, feed),
             None => first_page(alloc, keys, access, now, asked, feed),
         },
-        PartFound::Refused(why) => Err(not_found(alloc, *why)),
+        PartFound::Refused(why) => Err(Stop::Refused(refusal_for(alloc, *why)?)),
         PartFound::Nothing | PartFound::Version(_) | PartFound::Files(_, _) => {
             Err(refuse(alloc, Refusal::NotFound))
         }
@@ -364,8 +365,8 @@ fn feed_by<'a>(
     }
 }
 
-// The page of changes that is answered, or the refusal.
-pub(crate) fn changes_page<'a>(
+// The page of changes that is answered of a table that is shared whole, or the refusal.
+fn whole_changes<'a>(
     alloc: Global,
     keys: &'a ReplyKeys,
     access: Access<'a>,
@@ -380,4 +381,22 @@ pub(crate) fn changes_page<'a>(
     };
     let cursor = cursor_of(alloc, &keys.token, token.as_str())?;
     feed_by(alloc, keys, access, now, asked, &cursor, found)
+}
+
+// The page of changes that is answered, or the refusal. Of a table that is shared in part none is, whatever token comes with it.
+pub(crate) fn changes_page<'a>(
+    alloc: Global,
+    keys: &'a ReplyKeys,
+    access: Access<'a>,
+    now: Millis,
+    asked: &ChangesAsked<'_>,
+    spot: &Spot,
+    found: &'a PartFound,
+) -> Result<Paged<'a>, Stop>
+    ensures { GivesPage keys.now result (spec.unrestricted_changes keys.now spot.now.only access.entry now (query_in asked.now) (show_part spot.now.only found.now)) }
+{
+    if spot.is_restricted() {
+        return Err(refuse(alloc, Refusal::ChangesRestricted));
+    }
+    whole_changes(alloc, keys, access, now, asked, found)
 }

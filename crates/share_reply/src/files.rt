@@ -1,16 +1,17 @@
 // Pages of a table's files.
-ghost use Rattle.std.specs.Prelude.{◌≡◌, [], Some, None, Ok, if◌then◌else◌, true, IfOk, IfSome, is_some, map, option_copied, option_map};
+ghost use Rattle.std.specs.Prelude.{◌≡◌, ℕ, List, Option, [], Some, None, Ok, if◌then◌else◌, true, IfOk, IfSome, is_some, map, option_copied, option_map};
 ghost use Rattle.page_token.specs.Token.{token_text};
 ghost use Rattle.pred_tree.specs.Grammar.{predicate_in};
+ghost use Rattle.pred_tree.specs.Listing.{passes};
 ghost use Rattle.share_reply.specs.Answer.{ends_with};
 ghost use Rattle.share_reply.specs.Chains.{IsSpelt};
+ghost use Rattle.share_book.specs.Shown.{show_part};
+ghost use Rattle.share_book.specs.Views.{shown_state};
 ghost use Rattle.share_reply.specs.Asking.{asked_by};
+ghost use Rattle.share_reply.specs.Cuts.{IsCutOf};
 ghost use Rattle.share_reply.specs.Files as spec;
-ghost use Rattle.share_reply.specs.Pages.{given, next_place};
-ghost use Rattle.share_reply.specs.Refusing.{plain};
 ghost use Rattle.share_reply.specs.Starts.{end_of, files_start, files_start_by};
 ghost use Rattle.share_reply.specs.Stops.{Gives, GivesPage};
-ghost use Rattle.share_reply.specs.declared.stop.Stop.TheVariants as stop;
 
 use crate::access::{Access, Signing, expiry};
 use crate::cut::{FilesCut, files_cut};
@@ -18,15 +19,17 @@ use crate::keys::ReplyKeys;
 use crate::lines::{Content, LinePlan};
 use crate::numbers::{place_of, version_of};
 use crate::page::Paged;
+use crate::refused::Refused;
 use crate::refusing::refuse;
+use crate::shown::shown_cut;
 use crate::stop::Stop;
 use case_table::Refusal;
 use json_tree::{Millis, Place, Text, Version, copy_text_or_none};
 use log_replay::Snapshot;
 use page_token::{Asked, Cursor, FilesCursor, cursor_of};
-use pred_tree::{Filter, pred_of};
+use pred_tree::{Filter, Shown, pred_of};
 use query_body::QueryBody;
-use share_book::{PartFound, TableRefusal};
+use share_book::{PartFound, Spot, TableRefusal};
 use share_lines::EndLine;
 use std::alloc::{AllocError, Global};
 
@@ -41,22 +44,18 @@ pub(crate) struct FilesBegin {
 
 // ---- what isn't found
 
-fn refusal_for(why: TableRefusal) -> Refusal
-    ensures { plain result ≡ spec.refused_for why }
+pub(crate) fn refusal_for(alloc: Global, why: TableRefusal) -> Result<Refused, AllocError>
+    ensures { IfOk result (λ r. r ≡ spec.refused_for why) }
 {
     match why {
-        TableRefusal::NoHistory => Refusal::HistoryNotShared,
-        TableRefusal::Unsupported => Refusal::UnsupportedTable,
-        TableRefusal::VersionRange => Refusal::VersionRange,
-        TableRefusal::TimestampRange => Refusal::TimestampRange,
-        TableRefusal::Ahead => Refusal::TokenAhead,
+        TableRefusal::NoHistory => Ok(Refused::plain(alloc, Refusal::HistoryNotShared)),
+        TableRefusal::Unsupported => Ok(Refused::plain(alloc, Refusal::UnsupportedTable)),
+        TableRefusal::VersionRange => Ok(Refused::plain(alloc, Refusal::VersionRange)),
+        TableRefusal::TimestampRange => Ok(Refused::plain(alloc, Refusal::TimestampRange)),
+        TableRefusal::Ahead => Ok(Refused::plain(alloc, Refusal::TokenAhead)),
+        TableRefusal::NotShared { first } => Refused::before_first(alloc, first),
+        TableRefusal::Restricted => Ok(Refused::plain(alloc, Refusal::ChangesRestricted)),
     }
-}
-
-pub(crate) fn not_found(alloc: Global, why: TableRefusal) -> Stop
-    ensures { result ≡ stop.Refused (spec.refused_for why) }
-{
-    refuse(alloc, refusal_for(why))
 }
 
 // ---- where a page begins
@@ -242,18 +241,40 @@ fn page_end(
     }))
 }
 
-// The files of a page, of those that its predicate lists.
+// The files of a page of a table that is shared whole.
+fn whole_cut<'a>(
+    alloc: Global,
+    snapshot: &'a Snapshot,
+    listing: &Filter,
+    most: Option<u64>,
+    place: u64,
+) -> Result<Option<FilesCut<'a>>, AllocError>
+    ensures { IfOk result (IsCutOf (passes listing.now) most place snapshot.now.files) }
+{
+    if snapshot.len() < place {
+        return Ok(None);
+    }
+    Ok(Some(files_cut(alloc, snapshot, listing, most, place)?))
+}
+
+// The files of a page, of those that are shown and that its predicate lists; none where its place is behind all that are shown.
 fn page_cut<'a>(
     alloc: Global,
     query: &QueryBody,
     begin: &FilesBegin,
+    spot: &Spot,
     snapshot: &'a Snapshot,
-) -> Result<FilesCut<'a>, AllocError>
-    ensures files { IfOk result (λ c. map (λ f. f.now) c.files.items ≡ given (spec.lists begin.now.hint snapshot.now) query.now.max begin.now.place snapshot.now.files) }
-    ensures next { IfOk result (λ c. c.next ≡ next_place (spec.lists begin.now.hint snapshot.now) query.now.max begin.now.place snapshot.now.files) }
+) -> Result<Option<FilesCut<'a>>, AllocError>
+    ensures { IfOk result (IsCutOf (spec.lists begin.now.hint (shown_state spot.now.only snapshot.now)) query.now.max begin.now.place (shown_state spot.now.only snapshot.now).files) }
 {
-    let filter = Filter::of_hint(alloc, &begin.hint, snapshot.meta())?;
-    files_cut(alloc, snapshot, &filter, query.max, begin.place.get())
+    let meta = snapshot.meta();
+    let filter = Filter::of_hint(alloc, &begin.hint, meta)?;
+    let place = begin.place.get();
+    let Some(only) = spot.only() else {
+        return whole_cut(alloc, snapshot, &filter, query.max, place);
+    };
+    let shown = Shown::of(alloc, Some(only), meta)?;
+    shown_cut(alloc, snapshot, &shown, &filter, query.max, place)
 }
 
 // The page of a state. A token's place may be behind all of its files.
@@ -264,16 +285,17 @@ fn page_of_state<'a>(
     now: Millis,
     query: &QueryBody,
     begin: &FilesBegin,
+    spot: &Spot,
     snapshot: &'a Snapshot,
 ) -> Result<Paged<'a>, Stop>
-    ensures { GivesPage keys.now result (spec.page_of_state keys.now access.entry now query.now (files_start begin.now) snapshot.now) }
+    ensures { GivesPage keys.now result (spec.page_of_state keys.now access.entry now query.now (files_start begin.now) (shown_state spot.now.only snapshot.now)) }
 {
-    if snapshot.len() < begin.place.get() {
+    let found = page_cut(alloc, query, begin, spot, snapshot)?;
+    let Some(cut) = found else {
         return Err(refuse(alloc, Refusal::TokenAhead));
-    }
+    };
     let expires = expiry(keys, now)?;
     let meta = snapshot.meta();
-    let cut = page_cut(alloc, query, begin, snapshot)?;
     let signing = Signing {
         keys,
         access,
@@ -295,16 +317,17 @@ fn files_from<'a>(
     now: Millis,
     query: &QueryBody,
     later: Option<&FilesCursor>,
+    spot: &Spot,
     found: &'a PartFound,
 ) -> Result<Paged<'a>, Stop>
-    ensures { GivesPage keys.now result (spec.files_from keys.now access.entry now query.now (files_start_by query.now (option_copied later.entry)) found.now) }
+    ensures { GivesPage keys.now result (spec.files_from keys.now access.entry now query.now (files_start_by query.now (option_copied later.entry)) (show_part spot.now.only found.now)) }
 {
     match found {
         PartFound::Files(version, state) => {
             let begin = begin_by(alloc, query, later, *version)?;
-            page_of_state(alloc, keys, access, now, query, &begin, state.get())
+            page_of_state(alloc, keys, access, now, query, &begin, spot, state.get())
         }
-        PartFound::Refused(why) => Err(not_found(alloc, *why)),
+        PartFound::Refused(why) => Err(Stop::Refused(refusal_for(alloc, *why)?)),
         PartFound::Nothing | PartFound::Version(_) | PartFound::Feed(_) => {
             Err(refuse(alloc, Refusal::NotFound))
         }
@@ -318,9 +341,10 @@ fn later_files<'a>(
     now: Millis,
     query: &QueryBody,
     cursor: &FilesCursor,
+    spot: &Spot,
     found: &'a PartFound,
 ) -> Result<Paged<'a>, Stop>
-    ensures { GivesPage keys.now result (spec.later_files keys.now access.entry now query.now cursor.now found.now) }
+    ensures { GivesPage keys.now result (spec.later_files keys.now access.entry now query.now cursor.now (show_part spot.now.only found.now)) }
 {
     if !access.is_same_table(&cursor.access) {
         return Err(refuse(alloc, Refusal::TokenInvalid));
@@ -331,7 +355,7 @@ fn later_files<'a>(
     if !agrees(alloc, query, cursor)? {
         return Err(refuse(alloc, Refusal::TokenMismatch));
     }
-    files_from(alloc, keys, access, now, query, Some(cursor), found)
+    files_from(alloc, keys, access, now, query, Some(cursor), spot, found)
 }
 
 fn files_by<'a>(
@@ -341,13 +365,14 @@ fn files_by<'a>(
     now: Millis,
     query: &QueryBody,
     cursor: &Option<Cursor>,
+    spot: &Spot,
     found: &'a PartFound,
 ) -> Result<Paged<'a>, Stop>
-    ensures { GivesPage keys.now result (spec.files_by keys.now access.entry now query.now cursor.now found.now) }
+    ensures { GivesPage keys.now result (spec.files_by keys.now access.entry now query.now cursor.now (show_part spot.now.only found.now)) }
 {
     match cursor {
         Some(Cursor::Files(cursor)) => {
-            later_files(alloc, keys, access, now, query, cursor, found)
+            later_files(alloc, keys, access, now, query, cursor, spot, found)
         }
         _ => Err(refuse(alloc, Refusal::TokenInvalid)),
     }
@@ -360,25 +385,26 @@ pub(crate) fn query_page<'a>(
     access: Access<'a>,
     now: Millis,
     query: &QueryBody,
+    spot: &Spot,
     found: &'a PartFound,
 ) -> Result<Paged<'a>, Stop>
-    ensures { GivesPage keys.now result (spec.query_page keys.now access.entry now query.now found.now) }
+    ensures { GivesPage keys.now result (spec.query_page keys.now access.entry now query.now (show_part spot.now.only found.now)) }
 {
     let Some(token) = &query.token else {
-        return files_from(alloc, keys, access, now, query, None, found);
+        return files_from(alloc, keys, access, now, query, None, spot, found);
     };
     let cursor = cursor_of(alloc, &keys.token, token.as_str())?;
-    files_by(alloc, keys, access, now, query, &cursor, found)
+    files_by(alloc, keys, access, now, query, &cursor, spot, found)
 }
 
-// The metaData of the version that is found, without files.
+// The metaData of the version that is found, without files: the same whatever is shown of these.
 pub(crate) fn metadata_page<'a>(
     alloc: Global,
     keys: &'a ReplyKeys,
     access: Access<'a>,
     found: &'a PartFound,
 ) -> Result<Paged<'a>, Stop>
-    ensures { GivesPage keys.now result (spec.metadata_page found.now) }
+    ensures { (only : Option (List ℕ)) → GivesPage keys.now result (spec.metadata_page (show_part only found.now)) }
 {
     match found {
         PartFound::Files(version, state) => {
@@ -392,20 +418,20 @@ pub(crate) fn metadata_page<'a>(
                 lines: LinePlan::of(signing, state.get().meta(), Content::Nothing, None),
             })
         }
-        PartFound::Refused(why) => Err(not_found(alloc, *why)),
+        PartFound::Refused(why) => Err(Stop::Refused(refusal_for(alloc, *why)?)),
         PartFound::Nothing | PartFound::Version(_) | PartFound::Feed(_) => {
             Err(refuse(alloc, Refusal::NotFound))
         }
     }
 }
 
-// The version that is found.
+// The version that is found, whatever is shown of its files.
 pub(crate) fn version_in(alloc: Global, found: &PartFound) -> Result<u64, Stop>
-    ensures { Gives result (spec.version_in found.now) }
+    ensures { (only : Option (List ℕ)) → Gives result (spec.version_in (show_part only found.now)) }
 {
     match found {
         PartFound::Version(version) => Ok(*version),
-        PartFound::Refused(why) => Err(not_found(alloc, *why)),
+        PartFound::Refused(why) => Err(Stop::Refused(refusal_for(alloc, *why)?)),
         PartFound::Nothing | PartFound::Files(_, _) | PartFound::Feed(_) => {
             Err(refuse(alloc, Refusal::NotFound))
         }

@@ -1,6 +1,6 @@
 // Laws of replies. None of these functions does anything when it is called.
 ghost use Rattle.share_reply.specs.Chains.{ChainsAreWhole, FeedChainsAreWhole};
-ghost use Rattle.share_reply.specs.Laws.{EqualViewsAnswerAlike, RevokedGrantsGiveNothing, StaleTokensGiveNothing, UnboundTablesGiveNothing, UngrantedSharesAreAlike, UnseenTablesAreAlike};
+ghost use Rattle.share_reply.specs.Laws.{EqualViewsAnswerAlike, HiddenFilesAreNotGiven, NothingBeforeFirst, RevokedGrantsGiveNothing, StaleTokensGiveNothing, UnboundTablesGiveNothing, UngrantedSharesAreAlike, UnseenTablesAreAlike};
 
 /// A law: the pages of a chain, joined, are the files of the version that the first one was of that the predicate doesn't make false,
 /// each once and in order, each with the link and the expiry of its own page's moment, whatever is committed, granted or bound
@@ -25,6 +25,15 @@ pub fn hidden_is_like_absent()
     ensures shares { UngrantedSharesAreAlike }
     // A token of another edition of the grant or of the binding never gives a line.
     ensures stale { StaleTokensGiveNothing }
+{}
+
+/// Laws of tables that are shared in part.
+pub fn parts_are_kept()
+    // Where the binding of a table restricts it, no file is given that the restriction doesn't show.
+    ensures files { HiddenFilesAreNotGiven }
+    // Of versions before the first one that the binding shares nothing is told, but by a token whose range runs backwards, which no
+    // page gives.
+    ensures versions { NothingBeforeFirst }
 {}
 
 /// A law: a token or a link that was given under a grant which was revoked gives no line and no byte at any later point, whether the

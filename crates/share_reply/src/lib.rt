@@ -19,14 +19,15 @@ mod page;
 mod plan;
 mod refused;
 mod refusing;
+mod shown;
 mod stop;
 mod walk;
 
 pub use asking::ask_of;
 pub use keys::ReplyKeys;
 pub use law::{
-    chains_are_whole, equal_views_answer_alike, hidden_is_like_absent, revoked_grants_give_nothing,
-    unbound_tables_give_nothing,
+    chains_are_whole, equal_views_answer_alike, hidden_is_like_absent, parts_are_kept,
+    revoked_grants_give_nothing, unbound_tables_give_nothing,
 };
 pub use lines::LinePlan;
 pub use plan::{Plan, plan_of};

@@ -1,6 +1,7 @@
 // How a request is answered, before its text is made.
-ghost use Rattle.std.specs.Prelude.{◌≡◌, ℕ, List, Option, Result, IfOk};
+ghost use Rattle.std.specs.Prelude.{◌≡◌, ℕ, List, Option, Result, IfOk, option_map};
 ghost use Rattle.page_token.specs.declared.cursor.ListKind.TheVariants as kind;
+ghost use Rattle.share_book.specs.Shown.{show, show_found};
 ghost use Rattle.share_book.specs.Views.{View};
 ghost use Rattle.share_request.specs.declared.asked.Request.TheVariants as request_is;
 ghost use Rattle.share_reply.specs.Answer.{NamesPage, Page, of};
@@ -125,7 +126,7 @@ fn listing_plan<'a>(
     listing: Listing,
     found: &Found,
 ) -> Result<Plan<'a>, AllocError>
-    ensures { IfOk result (λ p. p ≡ reply_of keys.now (replies.of_names (λ seen. of answer.names (lists.names_page keys.now recipient.now seen listing.entry)) found.now)) }
+    ensures { IfOk result (λ p. p ≡ reply_of keys.now (replies.of_names (λ seen. of answer.names (lists.names_page keys.now recipient.now seen listing.entry)) (show_found found.now))) }
 {
     match found {
         Found::Names(names) => of_names(names_text(alloc, keys, recipient, names, &listing)),
@@ -134,7 +135,7 @@ fn listing_plan<'a>(
 }
 
 fn share_plan<'a>(alloc: Global, share: &CatalogName, found: &Found) -> Result<Plan<'a>, AllocError>
-    ensures { (keys : Keys) → IfOk result (λ p. p ≡ reply_of keys (replies.of_names (λ seen. of answer.one_share (lists.share_in seen share.now)) found.now)) }
+    ensures { (keys : Keys) → IfOk result (λ p. p ≡ reply_of keys (replies.of_names (λ seen. of answer.one_share (lists.share_in seen share.now)) (show_found found.now))) }
 {
     match found {
         Found::Names(names) => of_share(one_share_text(alloc, names, share)),
@@ -150,7 +151,7 @@ fn version_plan<'a>(
     table: &TableName,
     found: &Found,
 ) -> Result<Plan<'a>, AllocError>
-    ensures { (keys : Keys) → IfOk result (λ p. p ≡ reply_of keys (replies.of_table recipient.now table.now (λ a part. of answer.at_version (files_spec.version_in part)) found.now)) }
+    ensures { (keys : Keys) → IfOk result (λ p. p ≡ reply_of keys (replies.of_table recipient.now table.now (λ spot a part. of answer.at_version (files_spec.version_in part)) (show_found found.now))) }
 {
     match found {
         Found::Table(_, part) => of_version(files::version_in(alloc, part)),
@@ -165,8 +166,8 @@ fn metadata_plan<'a>(
     table: &'a TableName,
     found: &'a Found,
 ) -> Result<Plan<'a>, AllocError>
-    ensures reply { IfOk result (λ p. p ≡ reply_of keys.now (replies.of_table recipient.now table.now (λ a part. of answer.page (files_spec.metadata_page part)) found.now)) }
-    ensures spelt { IfOk result (λ _. NextIsSpelt keys.now (replies.of_table recipient.now table.now (λ a part. of answer.page (files_spec.metadata_page part)) found.now)) }
+    ensures reply { IfOk result (λ p. p ≡ reply_of keys.now (replies.of_table recipient.now table.now (λ spot a part. of answer.page (files_spec.metadata_page part)) (show_found found.now))) }
+    ensures spelt { IfOk result (λ _. NextIsSpelt keys.now (replies.of_table recipient.now table.now (λ spot a part. of answer.page (files_spec.metadata_page part)) (show_found found.now))) }
 {
     match found {
         Found::Table(spot, part) => {
@@ -186,13 +187,13 @@ fn query_plan<'a>(
     query: &QueryBody,
     found: &'a Found,
 ) -> Result<Plan<'a>, AllocError>
-    ensures reply { IfOk result (λ p. p ≡ reply_of keys.now (replies.of_table recipient.now table.now (λ a part. of answer.page (files_spec.query_page keys.now a now query.now part)) found.now)) }
-    ensures spelt { IfOk result (λ _. NextIsSpelt keys.now (replies.of_table recipient.now table.now (λ a part. of answer.page (files_spec.query_page keys.now a now query.now part)) found.now)) }
+    ensures reply { IfOk result (λ p. p ≡ reply_of keys.now (replies.of_table recipient.now table.now (λ spot a part. of answer.page (files_spec.query_page keys.now a now query.now part)) (show_found found.now))) }
+    ensures spelt { IfOk result (λ _. NextIsSpelt keys.now (replies.of_table recipient.now table.now (λ spot a part. of answer.page (files_spec.query_page keys.now a now query.now part)) (show_found found.now))) }
 {
     match found {
         Found::Table(spot, part) => {
             let access = Access::of(alloc, recipient, table, spot)?;
-            of_page(files::query_page(alloc, keys, access, now, query, part))
+            of_page(files::query_page(alloc, keys, access, now, query, spot, part))
         }
         Found::Names(_) | Found::NoTable => Ok(refused(alloc, Refusal::NotFound)),
     }
@@ -207,13 +208,13 @@ fn changes_plan<'a>(
     asked: &ChangesAsked,
     found: &'a Found,
 ) -> Result<Plan<'a>, AllocError>
-    ensures reply { IfOk result (λ p. p ≡ reply_of keys.now (replies.of_table recipient.now table.now (λ a part. of answer.page (feeds_spec.changes_page keys.now a now (record { from = asked.now.from; to = asked.now.to; max = asked.now.max; token = asked.now.token.now }) part)) found.now)) }
-    ensures spelt { IfOk result (λ _. NextIsSpelt keys.now (replies.of_table recipient.now table.now (λ a part. of answer.page (feeds_spec.changes_page keys.now a now (record { from = asked.now.from; to = asked.now.to; max = asked.now.max; token = asked.now.token.now }) part)) found.now)) }
+    ensures reply { IfOk result (λ p. p ≡ reply_of keys.now (replies.of_table recipient.now table.now (λ spot a part. of answer.page (feeds_spec.unrestricted_changes keys.now spot.only a now (record { from = asked.now.from; to = asked.now.to; max = asked.now.max; token = asked.now.token.now }) part)) (show_found found.now))) }
+    ensures spelt { IfOk result (λ _. NextIsSpelt keys.now (replies.of_table recipient.now table.now (λ spot a part. of answer.page (feeds_spec.unrestricted_changes keys.now spot.only a now (record { from = asked.now.from; to = asked.now.to; max = asked.now.max; token = asked.now.token.now }) part)) (show_found found.now))) }
 {
     match found {
         Found::Table(spot, part) => {
             let access = Access::of(alloc, recipient, table, spot)?;
-            of_page(feeds::changes_page(alloc, keys, access, now, asked, part))
+            of_page(feeds::changes_page(alloc, keys, access, now, asked, spot, part))
         }
         Found::Names(_) | Found::NoTable => Ok(refused(alloc, Refusal::NotFound)),
     }
@@ -229,8 +230,8 @@ fn what_plan<'a>(
     what: &'a What,
     found: &'a Found,
 ) -> Result<Plan<'a>, AllocError>
-    ensures reply { IfOk result (λ p. p ≡ reply_of keys.now (replies.answer_what keys.now recipient.now now what.now found.now)) }
-    ensures spelt { IfOk result (λ _. NextIsSpelt keys.now (replies.answer_what keys.now recipient.now now what.now found.now)) }
+    ensures reply { IfOk result (λ p. p ≡ reply_of keys.now (replies.answer_what keys.now recipient.now now what.now (show_found found.now))) }
+    ensures spelt { IfOk result (λ _. NextIsSpelt keys.now (replies.answer_what keys.now recipient.now now what.now (show_found found.now))) }
 {
     match what {
         What::ListShares { page } => {
@@ -288,8 +289,8 @@ fn asked_plan<'a>(
     asked: &'a Result<What, RequestFault>,
     found: &'a Found,
 ) -> Result<Plan<'a>, AllocError>
-    ensures reply { IfOk result (λ p. p ≡ reply_of keys.now (replies.answer_asked keys.now recipient.now now asked.now found.now)) }
-    ensures spelt { IfOk result (λ _. NextIsSpelt keys.now (replies.answer_asked keys.now recipient.now now asked.now found.now)) }
+    ensures reply { IfOk result (λ p. p ≡ reply_of keys.now (replies.answer_asked keys.now recipient.now now asked.now (show_found found.now))) }
+    ensures spelt { IfOk result (λ _. NextIsSpelt keys.now (replies.answer_asked keys.now recipient.now now asked.now (show_found found.now))) }
 {
     match asked {
         Ok(what) => what_plan(alloc, keys, recipient, now, what, found),
@@ -315,8 +316,8 @@ fn token_plan<'a>(
     asked: &'a Result<What, RequestFault>,
     seen: &'a Option<Seen>,
 ) -> Result<Plan<'a>, AllocError>
-    ensures reply { IfOk result (λ p. p ≡ reply_of keys.now (replies.answer_to keys.now now asked.now seen.now)) }
-    ensures spelt { IfOk result (λ _. NextIsSpelt keys.now (replies.answer_to keys.now now asked.now seen.now)) }
+    ensures reply { IfOk result (λ p. p ≡ reply_of keys.now (replies.answer_to keys.now now asked.now (option_map show seen.now))) }
+    ensures spelt { IfOk result (λ _. NextIsSpelt keys.now (replies.answer_to keys.now now asked.now (option_map show seen.now))) }
 {
     let Some(seen) = seen else {
         return Ok(refused(alloc, Refusal::Unauthenticated));
@@ -334,7 +335,7 @@ fn link_plan<'a>(
     by: &ByLink,
     seen: &Option<Seen>,
 ) -> Result<Plan<'a>, AllocError>
-    ensures { IfOk result (λ p. p ≡ reply_of keys.now (answer_from keys.now now (request_is.ByLink by.now) seen.now)) }
+    ensures { IfOk result (λ p. p ≡ reply_of keys.now (answer_from keys.now now (request_is.ByLink by.now) (option_map show seen.now))) }
 {
     let parts = parts_of(alloc, &keys.link, by.target.as_str())?;
     of_object(linked_object(alloc, seen, now, &parts), by.span)
@@ -350,8 +351,9 @@ fn early_plan<'a>(alloc: Global, why: TurnedAway) -> Plan<'a>
     }
 }
 
-/// How a request is answered at a moment, by what was seen for what it asks. The plan borrows the keys, the request and what
-/// was seen, and copies nothing of a table's files. The error is want of memory.
+/// How a request is answered at a moment, by what is shown of what was seen for what it asks: of a table that is shared in part the
+/// files that its restriction shows, and no changes. The plan borrows the keys, the request and what was seen, and copies nothing of
+/// a table's files. The error is want of memory.
 pub fn plan_of<'a>(
     alloc: Global,
     keys: &'a ReplyKeys,
@@ -359,13 +361,13 @@ pub fn plan_of<'a>(
     now: Millis,
     seen: &'a Option<Seen>,
 ) -> Result<Plan<'a>, AllocError>
-    ensures reply { IfOk result (λ p. p ≡ reply_of keys.now (answer_from keys.now now request.now seen.now)) }
+    ensures reply { IfOk result (λ p. p ≡ reply_of keys.now (answer_from keys.now now request.now (option_map show seen.now))) }
 
     // Where it is a page behind which another is left, there is a token of where that begins.
-    ensures spelt { IfOk result (λ _. NextIsSpelt keys.now (answer_from keys.now now request.now seen.now)) }
+    ensures spelt { IfOk result (λ _. NextIsSpelt keys.now (answer_from keys.now now request.now (option_map show seen.now))) }
 
-    // What was seen is what a view shows for the request: then it is the answer by that view.
-    ensures view { (view : Option View) → seen.now ≡ seen_for keys.now request.now view → IfOk result (λ p. p ≡ reply_of keys.now (answered keys.now view now request.now)) }
+    // What is shown of what was seen is what a view shows for the request: then it is the answer by that view.
+    ensures view { (view : Option View) → option_map show seen.now ≡ seen_for keys.now request.now view → IfOk result (λ p. p ≡ reply_of keys.now (answered keys.now view now request.now)) }
 {
     match request {
         Request::TurnedAway(why) => Ok(early_plan(alloc, *why)),

@@ -1,7 +1,7 @@
 // A refusal as it is told.
 ghost use Rattle.std.specs.Prelude.{◌≡◌, IfOk, IsTrue};
 ghost use Rattle.std.specs.Fmt.{decimal};
-ghost use Rattle.case_table.specs.declared.refuse.Refusal.TheVariants.{ChangesNotEnabled};
+ghost use Rattle.case_table.specs.declared.refuse.Refusal.TheVariants.{ChangesNotEnabled, VersionNotShared};
 ghost use Rattle.share_lines.specs.Errors.{error_body, takes_detail};
 ghost use Rattle.share_request.specs.Faults.{fault_detail, fault_refusal};
 ghost use Rattle.share_reply.specs.Refusing.{plain};
@@ -60,6 +60,17 @@ impl Refused {
         Ok(Refused {
             refusal: Refusal::ChangesNotEnabled,
             detail: Text::of(version.to_string(alloc)?),
+        })
+    }
+
+    // The refusal of a version before the first one that is shared.
+    pub(crate) fn before_first(alloc: Global, first: u64) -> Result<Refused, AllocError>
+        ensures { IfOk result (λ r. r ≡ record { refusal = VersionNotShared; detail = decimal first }) }
+    {
+        let detail = Text::of(first.to_string(alloc)?);
+        Ok(Refused {
+            refusal: Refusal::VersionNotShared,
+            detail,
         })
     }
 

@@ -1,5 +1,5 @@
 -- The bodies of providers' and the administrator's requests (RFC 8259; they are our own).
-use Rattle.std.specs.Prelude.{ℕ, Bool, List, [], ◌∷◌, Option, Some, None, Result, Ok, Err, is_some, option_map, bytes_eq, if◌then◌else◌, codes}
+use Rattle.std.specs.Prelude.{ℕ, Bool, true, List, [], ◌∷◌, Option, Some, None, Result, Ok, Err, is_some, option_map, bytes_eq, if◌then◌else◌, codes}
 use Rattle.std.specs.Result.{result_ok}
 use Rattle.serde_json.specs.Data.{Data, Items, no_items, item}
 use Rattle.serde_json.specs.Find.{as_array, as_str}
@@ -16,6 +16,7 @@ use Rattle.log_actions.specs.declared.actions.Action.{Action}
 use Rattle.log_actions.specs.declared.line_fault.LineFault.{LineFault}
 use Rattle.pred_tree.specs.Grammar.{predicate_in}
 use Rattle.share_catalog.specs.declared.edit.Edit.{Edit}
+use Rattle.share_catalog.specs.declared.edit.Edit.TheVariants as edit
 
 -- `readVersion`, a whole number from 0 to 2^63 - 1; absent or null where no version was read
 abbrev pub version_or_none : Option Data → Option (Option ℕ)
@@ -86,6 +87,18 @@ offer_in body = result_ok (tree_in body) >>= offer_of
 abbrev pub refresh_in : List ℕ → Option (List ℕ)
 refresh_in body = result_ok (tree_in body) >>= location_in
 
+-- a table that is bound is shared whole, or by a predicate
+abbrev pub is_readable : Option (List ℕ) → Bool
+is_readable None = true
+is_readable (Some text) = is_predicate text
+
+abbrev pub has_readable_restriction : Edit → Bool
+has_readable_restriction (edit.Bind t b) = is_readable b.only
+has_readable_restriction _ = true
+
+abbrev pub edit_of : Data → Option Edit
+edit_of d = catalog.edit_in d >>= passing has_readable_restriction
+
 -- the administrator's edit, as the catalogue's records have it
 abbrev pub edit_in : List ℕ → Option Edit
-edit_in body = result_ok (tree_in body) >>= catalog.edit_in
+edit_in body = result_ok (tree_in body) >>= edit_of

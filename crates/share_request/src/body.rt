@@ -1,8 +1,8 @@
 // The bodies of providers' and the administrator's requests.
 ghost use Rattle.std.specs.Prelude.{◌≡◌, IfOk, option_map};
 ghost use Rattle.serde_json.specs.View.{items_view, view};
-ghost use Rattle.catalog_log.specs.Reading.{edit_in as edit_of_data, location_in, text_in};
-ghost use Rattle.share_request.specs.Bodies.{action_in, actions_of, read_in, reads_of, where_in};
+ghost use Rattle.catalog_log.specs.Reading.{edit_in as edit_of_data, location_in, passing, text_in};
+ghost use Rattle.share_request.specs.Bodies.{action_in, actions_of, has_readable_restriction, read_in, reads_of, where_in};
 ghost use Rattle.share_request.specs.Bodies as spec;
 ghost use Rattle.share_request.specs.Stops.{GivesBody};
 
@@ -13,7 +13,7 @@ use json_tree::{Text, Version, member_at, tree_of};
 use log_actions::{Action, Actions, action_of};
 use pred_tree::pred_of;
 use serde_json::Value;
-use share_catalog::{Edit, Location};
+use share_catalog::{Edit, Location, Restriction};
 use std::alloc::{AllocError, Global};
 
 // The body is a bad one.
@@ -175,7 +175,43 @@ pub(crate) fn edit_in(alloc: Global, body: &[u8]) -> Result<Edit, Stop>
 }
 
 fn edit_of(alloc: Global, object: &Value) -> Result<Edit, Stop>
+    ensures { GivesBody result (spec.edit_of (view object.now)) }
+{
+    let edit = edit_at(alloc, object)?;
+    readable(alloc, edit)
+}
+
+fn edit_at(alloc: Global, object: &Value) -> Result<Edit, Stop>
     ensures { GivesBody result (edit_of_data (view object.now)) }
 {
     Ok(catalog_log::edit_at(alloc, object)?)
+}
+
+// The edit, unless it binds a table by a text that is no predicate: that would show no file, and who wrote it meant some.
+fn readable(alloc: Global, edit: Edit) -> Result<Edit, Stop>
+    ensures { GivesBody result (passing has_readable_restriction edit) }
+{
+    if has_readable_restriction(alloc, &edit)? {
+        Ok(edit)
+    } else {
+        Err(BAD)
+    }
+}
+
+fn has_readable_restriction(alloc: Global, edit: &Edit) -> Result<bool, AllocError>
+    ensures { IfOk result (λ b. b ≡ has_readable_restriction edit.now) }
+{
+    match edit {
+        Edit::Bind { binding, .. } => is_readable(alloc, &binding.only),
+        _ => Ok(true),
+    }
+}
+
+fn is_readable(alloc: Global, only: &Option<Restriction>) -> Result<bool, AllocError>
+    ensures { IfOk result (λ b. b ≡ spec.is_readable only.now) }
+{
+    match only {
+        Some(only) => is_predicate(alloc, only.as_str()),
+        None => Ok(true),
+    }
 }

@@ -23,6 +23,7 @@ pub mod Requests
 pub mod Runs
 pub mod Same
 pub mod Sent
+pub mod Shown
 pub mod Statuses
 pub mod Told
 pub mod WholeBytes

@@ -10,7 +10,7 @@ use Rattle.page_token.specs.declared.cursor.ListKind.TheVariants as kind
 use Rattle.share_book.specs.History.{edits}
 use Rattle.share_book.specs.Looks.{look_of}
 use Rattle.share_book.specs.NamesView.{NamesView}
-use Rattle.share_book.specs.Views.{View, log_at, view_with}
+use Rattle.share_book.specs.Views.{View, log_at, shown, view_with}
 use Rattle.share_book.specs.declared.entry.Entry.{Entry}
 use Rattle.share_book.specs.declared.look.Found.{Found}
 use Rattle.share_catalog.specs.Views as catalog
@@ -50,11 +50,11 @@ module _ (keys : ReplyKeys) (point : List Entry) (now : ℕ) (digest : List ℕ)
       absurd (stranger (record { keys = keys; point = point; now = now; digest = digest; route = route; recipient = r; has_token = has; credential = c; is_credential = is; is_fresh = fresh_of c.expires now over }) refl refl refl)
 
   by_credential : (r : List ℕ) (o : Option Credential) → catalog.name_of (edits point) (catalog.token digest) ≡ Some r → catalogue.credential (edits point) r ≡ o
-      → Unknown (option_map (view_with (edits point) (log_at point)) (option_map (catalog.view_with (edits point) r) o))
+      → Unknown (option_map (view_with (edits point) (shown (log_at point))) (option_map (catalog.view_with (edits point) r) o))
   by_credential r None has is = refl
   by_credential r (Some c) has is = by_expiry r c _ (is_expired c.expires now) has is refl
 
-  by_name : (o : Option (List ℕ)) → catalog.name_of (edits point) (catalog.token digest) ≡ o → Unknown (option_map (view_with (edits point) (log_at point)) (option_and_then (catalog.view_of (edits point)) o))
+  by_name : (o : Option (List ℕ)) → catalog.name_of (edits point) (catalog.token digest) ≡ o → Unknown (option_map (view_with (edits point) (shown (log_at point))) (option_and_then (catalog.view_of (edits point)) o))
   by_name None has = refl
   by_name (Some r) has = by_credential r (catalogue.credential (edits point) r) has refl
 

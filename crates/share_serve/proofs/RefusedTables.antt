@@ -1,10 +1,10 @@
 -- Why versions, metadata and links are refused.
 use Rattle.std.proofs.Common.{◌≡◌, ◌⊎◌, inl, inr, ℕ, ℤ, List, [], ◌∷◌, Bool, true, false, cond, not, ◌&&◌, Option, Some, None, Result, Ok, Err, option_map, option_and_then, refl, sym, ap, ◌∙◌, arith, true≢false}
-use Rattle.std.specs.Prelude.{nat_le, ◌==◌}
+use Rattle.std.specs.Prelude.{nat_le, nat_lt, ◌==◌}
 use Rattle.std.proofs.lemmas.Bool.Decides.{nat_tests}
 use Rattle.case_table.specs.declared.refuse.Refusal.TheVariants as refusal
 use Rattle.log_actions.specs.Paths.{name_under}
-use Rattle.log_replay.specs.State.{State, state_of}
+use Rattle.log_replay.specs.State.{State}
 use Rattle.log_replay.specs.declared.refusal.ReplayRefusal.{ReplayRefusal}
 use Rattle.log_replay.specs.declared.times.Bound.{Bound}
 use Rattle.log_replay.specs.declared.times.Bound.TheVariants as bound
@@ -12,8 +12,9 @@ use Rattle.log_replay.specs.declared.times.Unresolved.{Unresolved}
 use Rattle.log_replay.specs.declared.times.Unresolved.TheVariants as unresolved
 use Rattle.share_book.specs.History.{edits}
 use Rattle.share_book.specs.Looks.{found_in, log_in, look_of, table_found}
-use Rattle.share_book.specs.Parts.{files_of, found_of, is_latest, refused_by, resolved_at, up_to, version_found, with_files}
-use Rattle.share_book.specs.Views.{Log, log_at, view_with}
+use Rattle.share_book.specs.Parts.{files_of, found_of, is_latest, refused_by, resolved_at, state_at, version_found, with_files}
+use Rattle.share_book.specs.Shown.{show_part}
+use Rattle.share_book.specs.Views.{Log, log_at, shown, shown_state, view_with}
 use Rattle.share_book.specs.declared.entry.Entry.{Entry}
 use Rattle.share_book.specs.declared.look.Found.{Found}
 use Rattle.share_book.specs.declared.look.Found.TheVariants as found
@@ -21,8 +22,10 @@ use Rattle.share_book.specs.declared.look.Part.{Part}
 use Rattle.share_book.specs.declared.look.Part.TheVariants as part
 use Rattle.share_book.specs.declared.look.PartFound.{PartFound}
 use Rattle.share_book.specs.declared.look.PartFound.TheVariants as part_found
+use Rattle.share_book.specs.declared.look.TableRefusal.{TableRefusal}
 use Rattle.share_book.specs.declared.look.TableRefusal.TheVariants as table_refusal
 use Rattle.share_book.specs.declared.look.Want.TheVariants as want
+use Rattle.share_book.proofs.Versions.{IsWhole, resolved_kept, state_whole}
 use Rattle.share_catalog.specs.Catalogue.{binding_edition, grant_edition, said}
 use Rattle.share_catalog.specs.Catalogue as catalogue
 use Rattle.share_catalog.specs.Views.{Spot, shared, spot_with}
@@ -45,10 +48,11 @@ use Rattle.share_reply.specs.Refusing.{Refused, plain, where_all}
 use Rattle.share_reply.specs.Replies.{answer_what}
 use Rattle.share_reply.specs.declared.keys.ReplyKeys.{ReplyKeys}
 use Rattle.share_serve.specs.Entitled.{Asking, Shares, Stands, shared_log}
-use Rattle.share_serve.specs.RefusalCauses.{IsRefused, LinkCause, LinksHaveCauses, StateCause, TableCause, VersionCause, VersionsHaveCauses, unresolved_as}
+use Rattle.share_serve.specs.RefusalCauses.{IsRefused, LinkCause, LinksHaveCauses, StateCause, TableCause, VersionCause, VersionsHaveCauses, before_first, unresolved_as}
 use Rattle.share_serve.proofs.Asked.{answered_is, shared_is, spot_at, table_is, view_at}
 use Rattle.share_serve.proofs.GivenChanges.{same_number, to_link}
-use Rattle.share_serve.proofs.GivenTables.{part_at}
+use Rattle.share_serve.proofs.GivenTables.{binding_of, grant_of, part_at, shown_of}
+use Rattle.share_serve.proofs.Meant.{whole_at}
 use Rattle.share_serve.proofs.RefusedNames.{refused_same}
 
 -- ---- a table that is shared, or not
@@ -76,18 +80,22 @@ not_shared point r name none t = apart (spot_at point r name t) (sym none ∙ sh
 hidden_is : (point : List Entry) (r : List ℕ) (c : Credential) (name : TableName) (p : Part) → shared (edits point) r name ≡ None → found_in found_of (view_at point r c) (want.Table name p) ≡ found.NoTable
 hidden_is point r c name p none = ap (table_found found_of (log_in (view_at point r c) name) p) (tables_are_shown (edits point) r name ∙ none)
 
--- what asks for a part of a table by a function of it
-abbrev pub Asks : Asking → What → TableName → Part → (PartFound → Answer) → Type 0
-Asks a w name p f = (t : Shares a.point a.recipient name) → answer_what a.keys a.recipient a.now w (found.Table (spot_at a.point a.recipient name t) (part_at a name t p)) ≡ f (part_at a name t p)
+-- what asks for a part of a table by a function of what of the table is shared and of the part
+abbrev pub Asks : Asking → What → TableName → Part → (Option (List ℕ) → PartFound → Answer) → Type 0
+Asks a w name p f = (t : Shares a.point a.recipient name) → answer_what a.keys a.recipient a.now w (found.Table (spot_at a.point a.recipient name t) (part_at a name t p)) ≡ f t.binding.only (part_at a name t p)
 
-pub table_cause : (a : Asking) (w : What) (name : TableName) (p : Part) (f : PartFound → Answer) (Cause : Log → Bool → Type 0) (x : Refused) → want_of a.keys w ≡ want.Table name p
-    → answer_what a.keys a.recipient a.now w found.NoTable ≡ refused (plain refusal.NotFound) → Asks a w name p f → ((log : Log) (history : Bool) → f (found_of history log p) ≡ refused x → Cause log history)
+pub table_cause : (a : Asking) (w : What) (name : TableName) (p : Part) (f : Option (List ℕ) → PartFound → Answer) (Cause : Log → Binding → Type 0) (x : Refused) → want_of a.keys w ≡ want.Table name p
+    → answer_what a.keys a.recipient a.now w found.NoTable ≡ refused (plain refusal.NotFound) → Asks a w name p f → ((log : Log) (binding : Binding) → IsWhole log → f binding.only (shown_of a name binding p log) ≡ refused x → Cause log binding)
     → IsRefused a w x → TableCause a name Cause x
 table_cause a w name p f Cause x wants none asks cause e =
     let here : answer_what a.keys a.recipient a.now w (found_in found_of (view_at a.point a.recipient a.credential) (want.Table name p)) ≡ refused x =
     ap (λ z. answer_what a.keys a.recipient a.now w (found_in found_of (view_at a.point a.recipient a.credential) z)) (sym wants) ∙ sym (answered_is a w) ∙ e in
     elim (shares_or a.point a.recipient name) as (λ s. TableCause a name Cause x) [
-      | inl t ↦ inr (t, cause (shared_log a.point a.recipient name t) t.binding.history (sym (asks t) ∙ sym (ap (answer_what a.keys a.recipient a.now w) (table_is a.point a.recipient a.credential name p t)) ∙ here))
+      | inl t ↦ inr (
+        t,
+        cause (shared_log a.point a.recipient name t) t.binding (whole_at a.point t.binding.location)
+            (sym (asks t) ∙ sym (ap (answer_what a.keys a.recipient a.now w) (table_is a.point a.recipient a.credential name p t)) ∙ here),
+      )
       | inr hidden ↦ inl (
         refused_same (plain refusal.NotFound) x (sym none ∙ sym (ap (answer_what a.keys a.recipient a.now w) (hidden_is a.point a.recipient a.credential name p hidden)) ∙ here),
         not_shared a.point a.recipient name hidden,
@@ -115,46 +123,75 @@ version_apart v x P e = absurd cc
 pub page_apart : (p : Page) (x : Refused) (P : Type 0) → page p ≡ refused x → P
 page_apart p x P e = absurd cc
 
-pub unresolved_given : (log : Log) (history : Bool) (b : Bound) (x : Refused) (why : Unresolved) → resolved_at log b ≡ Err why → refused (refused_for (refused_by why)) ≡ refused x → VersionCause log history b x
-unresolved_given log history b x why is e = inr (why, is, refused_same (refused_for (refused_by why)) x e ∙ unresolved_is why)
+abbrev pub FilesCause : Log → Binding → Bound → Refused → Type 0
+FilesCause log binding b x = VersionCause log binding b x ⊎ StateCause log b x
 
-by_version : (log : Log) (history : Bool) (b : Bound) (x : Refused) (r : Result ℕ Unresolved) → resolved_at log b ≡ r → of at_version (version_in (version_found r)) ≡ refused x → VersionCause log history b x
-by_version log history b x (Ok v) is e = version_apart v x (VersionCause log history b x) e
-by_version log history b x (Err why) is e = unresolved_given log history b x why is e
+module _ (log : Log) (whole : IsWhole log) (binding : Binding) (grant edition : ℕ) (b : Bound) (x : Refused) where
+  abbrev spot : Spot
+  spot = spot_with grant (binding, edition)
 
-pub early : (log : Log) (history : Bool) (b : Bound) (x : Refused) → (not history && not (is_latest b)) ≡ true → refused (plain refusal.HistoryNotShared) ≡ refused x → VersionCause log history b x
-early log history b x is e = let so = both_true history (is_latest b) is in inl (refused_same (plain refusal.HistoryNotShared) x e, so.0, not_latest b so.1)
+  unresolved_given : (why : Unresolved) → resolved_at log b ≡ Err why → refused (refused_for (refused_by why)) ≡ refused x → VersionCause log binding b x
+  unresolved_given why is e = inr (inl (why, is, refused_same (refused_for (refused_by why)) x e ∙ unresolved_is why))
 
-by_history : (log : Log) (history : Bool) (b : Bound) (x : Refused) (c : Bool) → (not history && not (is_latest b)) ≡ c
-    → of at_version (version_in (cond c (part_found.Refused table_refusal.NoHistory) (version_found (resolved_at log b)))) ≡ refused x → VersionCause log history b x
-by_history log history b x true is e = early log history b x is e
-by_history log history b x false is e = by_version log history b x (resolved_at log b) refl e
+  too_early : (v : ℕ) → resolved_at log b ≡ Ok v → nat_lt v binding.first ≡ true → refused (before_first binding.first) ≡ refused x → VersionCause log binding b x
+  too_early v is lt e = inr (inr (v, is, grind (arith, nat_tests, lt), refused_same (before_first binding.first) x e))
 
-abbrev pub FilesCause : Log → Bool → Bound → Refused → Type 0
-FilesCause log history b x = VersionCause log history b x ⊎ StateCause log b x
+  no_history : (not binding.history && not (is_latest b)) ≡ true → refused (plain refusal.HistoryNotShared) ≡ refused x → VersionCause log binding b x
+  no_history is e = let so = both_true binding.history (is_latest b) is in inl (refused_same (plain refusal.HistoryNotShared) x e, so.0, not_latest b so.1)
 
-by_state : (log : Log) (history : Bool) (b : Bound) (x : Refused) (v : ℕ) (r : Result State ReplayRefusal) → resolved_at log b ≡ Ok v → state_of (up_to log v) ≡ r → of page (metadata_page (files_of v r)) ≡ refused x → FilesCause log history b x
-by_state log history b x v (Ok state) at is e = page_apart _ x (FilesCause log history b x) e
-by_state log history b x v (Err why) at is e = inr (v, why, at, is, refused_same (plain refusal.UnsupportedTable) x e)
+  by_first : (v : ℕ) (c : Bool) → resolved_at log b ≡ Ok v → nat_lt v binding.first ≡ c
+      → of at_version (version_in (show_part binding.only (cond c (part_found.Refused (table_refusal.NotShared binding.first)) (part_found.Version v)))) ≡ refused x → VersionCause log binding b x
+  by_first v true is lt e = too_early v is lt e
+  by_first v false is lt e = version_apart v x (VersionCause log binding b x) e
 
-by_files : (log : Log) (history : Bool) (b : Bound) (x : Refused) (r : Result ℕ Unresolved) → resolved_at log b ≡ r → of page (metadata_page (with_files log (version_found r))) ≡ refused x → FilesCause log history b x
-by_files log history b x (Ok v) is e = by_state log history b x v (state_of (up_to log v)) is refl e
-by_files log history b x (Err why) is e = inl (unresolved_given log history b x why is e)
+  by_version : (r : Result ℕ Unresolved) → resolved_at log b ≡ r → of at_version (version_in (show_part binding.only (version_found spot r))) ≡ refused x → VersionCause log binding b x
+  by_version (Ok v) is e = by_first v (nat_lt v binding.first) is refl e
+  by_version (Err why) is e = unresolved_given why is e
 
-by_earlier : (log : Log) (history : Bool) (b : Bound) (x : Refused) (c : Bool) → (not history && not (is_latest b)) ≡ c
-    → of page (metadata_page (with_files log (cond c (part_found.Refused table_refusal.NoHistory) (version_found (resolved_at log b))))) ≡ refused x → FilesCause log history b x
-by_earlier log history b x true is e = inl (early log history b x is e)
-by_earlier log history b x false is e = by_files log history b x (resolved_at log b) refl e
+  by_history : (c : Bool) → (not binding.history && not (is_latest b)) ≡ c
+      → of at_version (version_in (show_part binding.only (cond c (part_found.Refused table_refusal.NoHistory) (version_found spot (resolved_at log b))))) ≡ refused x → VersionCause log binding b x
+  by_history true is e = no_history is e
+  by_history false is e = by_version (resolved_at log b) refl e
 
-version_cause : (a : Asking) (name : TableName) (from : Option ℤ) (x : Refused) → IsRefused a (what.Version name from) x → TableCause a name (λ log history. VersionCause log history (from_bound from) x) x
+  pub head_cause : of at_version (version_in (show_part binding.only (found_of spot log (part.Head b)))) ≡ refused x → VersionCause log binding b x
+  head_cause e = by_history (not binding.history && not (is_latest b)) refl e
+
+  -- what is answered of files that are found, or not
+  module _ (answer : PartFound → Answer) (told : (why : TableRefusal) → answer (part_found.Refused why) ≡ refused (refused_for why))
+      (given : (v : ℕ) (state : State) → answer (part_found.Files v state) ≡ refused x → FilesCause log binding b x) where
+    by_state : (v : ℕ) (r : Result State ReplayRefusal) → resolved_at log b ≡ Ok v → state_at log v ≡ r → answer (show_part binding.only (files_of v r)) ≡ refused x → FilesCause log binding b x
+    by_state v (Ok state) at is e = given v (shown_state binding.only state) e
+    by_state v (Err why) at is e =
+        inr (v, why, at, sym (state_whole log whole v (resolved_kept log whole b v at)) ∙ is, refused_same (plain refusal.UnsupportedTable) x (sym (told table_refusal.Unsupported) ∙ e))
+
+    files_first : (v : ℕ) (c : Bool) → resolved_at log b ≡ Ok v → nat_lt v binding.first ≡ c
+        → answer (show_part binding.only (with_files log (cond c (part_found.Refused (table_refusal.NotShared binding.first)) (part_found.Version v)))) ≡ refused x → FilesCause log binding b x
+    files_first v true is lt e = inl (too_early v is lt (sym (told (table_refusal.NotShared binding.first)) ∙ e))
+    files_first v false is lt e = by_state v (state_at log v) is refl e
+
+    files_version : (r : Result ℕ Unresolved) → resolved_at log b ≡ r → answer (show_part binding.only (with_files log (version_found spot r))) ≡ refused x → FilesCause log binding b x
+    files_version (Ok v) is e = files_first v (nat_lt v binding.first) is refl e
+    files_version (Err why) is e = inl (unresolved_given why is (sym (told (refused_by why)) ∙ e))
+
+    files_history : (c : Bool) → (not binding.history && not (is_latest b)) ≡ c
+        → answer (show_part binding.only (with_files log (cond c (part_found.Refused table_refusal.NoHistory) (version_found spot (resolved_at log b))))) ≡ refused x → FilesCause log binding b x
+    files_history true is e = inl (no_history is (sym (told table_refusal.NoHistory) ∙ e))
+    files_history false is e = files_version (resolved_at log b) refl e
+
+    pub files_cause : answer (show_part binding.only (found_of spot log (part.Files b))) ≡ refused x → FilesCause log binding b x
+    files_cause e = files_history (not binding.history && not (is_latest b)) refl e
+
+version_cause : (a : Asking) (name : TableName) (from : Option ℤ) (x : Refused) → IsRefused a (what.Version name from) x → TableCause a name (λ log binding. VersionCause log binding (from_bound from) x) x
 version_cause a name from x e =
-    table_cause a (what.Version name from) name (part.Head (from_bound from)) (λ p. of at_version (version_in p)) (λ log history. VersionCause log history (from_bound from) x) x refl refl (λ t. refl)
-    (λ log history is. by_history log history (from_bound from) x (not history && not (is_latest (from_bound from))) refl is) e
+    table_cause a (what.Version name from) name (part.Head (from_bound from)) (λ only p. of at_version (version_in p)) (λ log binding. VersionCause log binding (from_bound from) x) x refl refl (λ t. refl)
+    (λ log binding whole is. head_cause log whole binding (grant_of a name) (binding_of a name) (from_bound from) x is) e
 
-metadata_cause : (a : Asking) (name : TableName) (at : Option At) (x : Refused) → IsRefused a (what.Metadata name at) x → TableCause a name (λ log history. FilesCause log history (last_bound (asked_at at)) x) x
+metadata_cause : (a : Asking) (name : TableName) (at : Option At) (x : Refused) → IsRefused a (what.Metadata name at) x → TableCause a name (λ log binding. FilesCause log binding (last_bound (asked_at at)) x) x
 metadata_cause a name at x e =
-    table_cause a (what.Metadata name at) name (part.Files (last_bound (asked_at at))) (λ p. of page (metadata_page p)) (λ log history. FilesCause log history (last_bound (asked_at at)) x) x refl refl (λ t. refl)
-    (λ log history is. by_earlier log history (last_bound (asked_at at)) x (not history && not (is_latest (last_bound (asked_at at)))) refl is) e
+    table_cause a (what.Metadata name at) name (part.Files (last_bound (asked_at at))) (λ only p. of page (metadata_page p)) (λ log binding. FilesCause log binding (last_bound (asked_at at)) x) x refl refl (λ t. refl)
+    (λ log binding whole is.
+    files_cause log whole binding (grant_of a name) (binding_of a name) (last_bound (asked_at at)) x (λ p. of page (metadata_page p)) (λ why. refl)
+    (λ v state so. page_apart _ x (FilesCause log binding (last_bound (asked_at at)) x) so) is) e
 
 pub versions_have_causes : VersionsHaveCauses
 versions_have_causes = record { version = version_cause; metadata = metadata_cause }
@@ -211,12 +248,12 @@ module _ (point : List Entry) (now : ℕ) (span : Option Span) (link : LinkParts
       apart e = cc
 
   by_recipient : (o : Option Credential) → catalogue.credential (edits point) link.recipient ≡ o
-      → of_object span (object_by link (look_of (option_map (view_with (edits point) (log_at point)) (option_map (catalog.view_with (edits point) link.recipient) o)) (want.Table link.table part.Place))) ≡ refused x → LinkCause point now link x
+      → of_object span (object_by link (look_of (option_map (view_with (edits point) (shown (log_at point))) (option_map (catalog.view_with (edits point) link.recipient) o)) (want.Table link.table part.Place))) ≡ refused x → LinkCause point now link x
   by_recipient None is e = revoked (λ s. nobody s.credential is s.is_credential) e
   by_recipient (Some c) is e = by_table c is e
 
   by_end : (b : Bool) → nat_le link.expires now ≡ b
-      → of_object span (where_all ((not b, refusal.LinkExpired) ∷ []) (object_by link (look_of (option_map (view_with (edits point) (log_at point)) (option_map (catalog.view_with (edits point) link.recipient) (catalogue.credential (edits point) link.recipient))) (want.Table link.table part.Place)))) ≡ refused x
+      → of_object span (where_all ((not b, refusal.LinkExpired) ∷ []) (object_by link (look_of (option_map (view_with (edits point) (shown (log_at point))) (option_map (catalog.view_with (edits point) link.recipient) (catalogue.credential (edits point) link.recipient))) (want.Table link.table part.Place)))) ≡ refused x
       → LinkCause point now link x
   by_end true is e = inl (refused_same (plain refusal.LinkExpired) x e, grind (arith, nat_tests, is))
   by_end false is e = by_recipient (catalogue.credential (edits point) link.recipient) refl e

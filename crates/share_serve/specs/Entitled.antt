@@ -1,5 +1,5 @@
 -- What a recipient is entitled to, as the history says it, and that it is given it: of the definitions alone (Delta Sharing PROTOCOL.md, "REST APIs"). No test of a reply is among the premises, but for whether a query agrees with its token.
-use Rattle.std.specs.Prelude.{◌≡◌, ◌⊎◌, ◌≤◌, ◌<◌, ℕ, ℤ, ◌+◌, Bool, true, false, List, [], length, Option, Some, None, IfSome, Ok}
+use Rattle.std.specs.Prelude.{◌≡◌, ◌⊎◌, ◌≤◌, ◌<◌, ℕ, ℤ, ◌+◌, true, false, List, [], length, Option, Some, None, IfSome, Ok}
 use Rattle.std.specs.FinMap as maps
 use Rattle.case_table.specs.declared.routing.Route.{Route}
 use Rattle.change_feed.specs.Changes.{ChangedFile}
@@ -19,7 +19,7 @@ use Rattle.page_token.specs.declared.cursor.ListKind.TheVariants as kind
 use Rattle.page_token.specs.declared.cursor.TableAccess.{TableAccess}
 use Rattle.share_book.specs.History.{edits}
 use Rattle.share_book.specs.Parts.{resolved_at, up_to}
-use Rattle.share_book.specs.Views.{Log, log_at}
+use Rattle.share_book.specs.Views.{Log, log_at, shown_state}
 use Rattle.share_book.specs.declared.entry.Entry.{Entry}
 use Rattle.share_catalog.specs.Catalogue.{binding_edition, grant_edition}
 use Rattle.share_catalog.specs.Catalogue as catalogue
@@ -106,7 +106,7 @@ pub record NamesAreGiven : Type 0 where
 
 -- ---- versions of a table
 
--- the log of a table that is shared
+-- the whole log of a table that is shared
 abbrev pub shared_log : (point : List Entry) (recipient : List ℕ) (name : TableName) → Shares point recipient name → Log
 shared_log point recipient name t = log_at point t.binding.location
 
@@ -117,20 +117,21 @@ Means log (bound.Version n) version = (version ≡ n) × (n < length log.commits
 Means log (bound.AtOrBefore moment) version = resolved_at log (bound.AtOrBefore moment) ≡ Ok version
 Means log (bound.AtOrAfter moment) version = resolved_at log (bound.AtOrAfter moment) ≡ Ok version
 
--- and may be told: the table is shared with its history, or the latest version is asked for
-pub record Tells (log : Log) (history : Bool) (b : Bound) (version : ℕ) : Type 0 where
+-- and may be told: the table is shared with its history, or the latest version is asked for; and it is shared from there on
+pub record Tells (log : Log) (binding : Binding) (b : Bound) (version : ℕ) : Type 0 where
   pub means : Means log b version
-  pub may : (history ≡ true) ⊎ (b ≡ bound.Latest)
+  pub may : (binding.history ≡ true) ⊎ (b ≡ bound.Latest)
+  pub from_first : binding.first ≤ version
 
 -- "Query Table Version"
 abbrev pub VersionsAreGiven : Type 0
 VersionsAreGiven = (a : Asking) (name : TableName) (t : Shares a.point a.recipient name) (from : Option ℤ) (version : ℕ)
-    → Tells (shared_log a.point a.recipient name t) t.binding.history (from_bound from) version → IsGiven a (what.Version name from) (Some version)
+    → Tells (shared_log a.point a.recipient name t) t.binding (from_bound from) version → IsGiven a (what.Version name from) (Some version)
 
 -- "Query Table Metadata", of a version whose state can be made
 abbrev pub MetadataIsGiven : Type 0
 MetadataIsGiven = (a : Asking) (name : TableName) (t : Shares a.point a.recipient name) (at : Option At) (version : ℕ) (state : State) (log : Log) → log ≡ shared_log a.point a.recipient name t
-    → Tells log t.binding.history (last_bound (asked_at at)) version → state_of (up_to log version) ≡ Ok state → IsGiven a (what.Metadata name at) (Some version)
+    → Tells log t.binding (last_bound (asked_at at)) version → state_of (up_to log version) ≡ Ok state → IsGiven a (what.Metadata name at) (Some version)
 
 -- ---- files
 
@@ -145,22 +146,23 @@ access_now point recipient name = record {
   binding = binding_edition (edits point) name;
 }
 
--- the token of a page of files, given under the editions that hold now, of a version that is kept and of a place in its files
-pub record IsFilesToken (a : Asking) (name : TableName) (log : Log) (q : QueryBody) (text : List ℕ) (c : FilesCursor) : Type 0 where
+-- the token of a page of files, given under the editions that hold now, of a version that is kept and shared and of a place in the files of it that are shown
+pub record IsFilesToken (a : Asking) (name : TableName) (log : Log) (binding : Binding) (q : QueryBody) (text : List ℕ) (c : FilesCursor) : Type 0 where
   pub is_cursor : cursor_of a.keys.token text ≡ Some (cursor.Files c)
   pub own : c.access ≡ access_now a.point a.recipient name
   pub agrees : files.agrees q c ≡ true
   pub kept : c.version < length log.commits
+  pub from_first : binding.first ≤ c.version
   pub state : State
   pub is_state : state_of (up_to log c.version) ≡ Ok state
-  pub within : c.place ≤ length state.files
+  pub within : c.place ≤ length (shown_state binding.only state).files
 
 -- "Read Data from a Table": a first page, whatever the predicate is, and a later one
 pub record FilesAreGiven : Type 0 where
   pub first : (a : Asking) (name : TableName) (t : Shares a.point a.recipient name) (q : QueryBody) (version : ℕ) (state : State) (log : Log) → log ≡ shared_log a.point a.recipient name t → q.token ≡ None
-      → Tells log t.binding.history (last_bound (asked_by q.version q.moment)) version → state_of (up_to log version) ≡ Ok state → IsGiven a (what.Query name q) (Some version)
+      → Tells log t.binding (last_bound (asked_by q.version q.moment)) version → state_of (up_to log version) ≡ Ok state → IsGiven a (what.Query name q) (Some version)
   pub later : (a : Asking) (name : TableName) (t : Shares a.point a.recipient name) (q : QueryBody) (text : List ℕ) (c : FilesCursor) → q.token ≡ Some text
-      → IsFilesToken a name (shared_log a.point a.recipient name t) q text c → IsGiven a (what.Query name q) (Some c.version)
+      → IsFilesToken a name (shared_log a.point a.recipient name t) t.binding q text c → IsGiven a (what.Query name q) (Some c.version)
 
 -- ---- changes
 
@@ -170,10 +172,11 @@ pub record HasFeed (log : Log) (from to : ℕ) (changes : List ChangedFile) : Ty
   pub kept : to < length log.commits
   pub is_feed : feed_of log.commits from to ≡ Ok changes
 
-pub record IsFeedToken (a : Asking) (name : TableName) (log : Log) (q : ChangesQuery) (text : List ℕ) (c : FeedCursor) : Type 0 where
+pub record IsFeedToken (a : Asking) (name : TableName) (log : Log) (binding : Binding) (q : ChangesQuery) (text : List ℕ) (c : FeedCursor) : Type 0 where
   pub is_cursor : cursor_of a.keys.token text ≡ Some (cursor.Feed c)
   pub own : c.access ≡ access_now a.point a.recipient name
   pub agrees : feeds.agrees q c ≡ true
+  pub from_first : binding.first ≤ c.from
   pub changes : List ChangedFile
   pub feed : HasFeed log c.from c.to changes
   pub within : c.place ≤ length changes
@@ -181,12 +184,13 @@ pub record IsFeedToken (a : Asking) (name : TableName) (log : Log) (q : ChangesQ
 abbrev pub changes_asked : TableName → ChangesQuery → What
 changes_asked name q = what.Changes name q.from q.to q.max q.token
 
--- "Read Change Data Feed from a Table", of a table that is shared with its history
+-- "Read Change Data Feed from a Table", of a table that is shared with its history, from the first version on that is shared, and not in part
 pub record ChangesAreGiven : Type 0 where
   pub first : (a : Asking) (name : TableName) (t : Shares a.point a.recipient name) (q : ChangesQuery) (from to : ℕ) (changes : List ChangedFile) (log : Log) → log ≡ shared_log a.point a.recipient name t → q.token ≡ None
-      → t.binding.history ≡ true → Means log (first_bound (asked_at q.from)) from → Means log (last_bound (asked_at q.to)) to → HasFeed log from to changes → IsGiven a (changes_asked name q) (Some to)
-  pub later : (a : Asking) (name : TableName) (t : Shares a.point a.recipient name) (q : ChangesQuery) (text : List ℕ) (c : FeedCursor) → q.token ≡ Some text
-      → IsFeedToken a name (shared_log a.point a.recipient name t) q text c → IsGiven a (changes_asked name q) (Some c.to)
+      → t.binding.only ≡ None → t.binding.history ≡ true → t.binding.first ≤ from
+      → Means log (first_bound (asked_at q.from)) from → Means log (last_bound (asked_at q.to)) to → HasFeed log from to changes → IsGiven a (changes_asked name q) (Some to)
+  pub later : (a : Asking) (name : TableName) (t : Shares a.point a.recipient name) (q : ChangesQuery) (text : List ℕ) (c : FeedCursor) → q.token ≡ Some text → t.binding.only ≡ None
+      → IsFeedToken a name (shared_log a.point a.recipient name t) t.binding q text c → IsGiven a (changes_asked name q) (Some c.to)
 
 -- ---- links
 

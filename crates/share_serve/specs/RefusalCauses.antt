@@ -1,11 +1,12 @@
 -- Why a recipient is refused, as the history says it: each refusal with its cause, of the definitions alone.
-use Rattle.std.specs.Prelude.{◌≡◌, ◌≢◌, ◌⊎◌, ◌≤◌, ◌<◌, ℕ, ℤ, Bool, false, List, [], length, Option, Some, None, Result, Ok, Err, ⊤}
+use Rattle.std.specs.Prelude.{◌≡◌, ◌≢◌, ◌⊎◌, ◌≤◌, ◌<◌, ℕ, ℤ, false, List, [], length, Option, Some, None, Result, Ok, Err, ⊤}
 use Rattle.std.specs.Fmt.{decimal}
 use Rattle.case_table.specs.declared.refuse.Refusal.TheVariants as refusal
 use Rattle.case_table.specs.declared.routing.Route.{Route}
 use Rattle.change_feed.specs.Changes.{ChangedFile}
 use Rattle.change_feed.specs.Feed.{feed_of}
 use Rattle.log_actions.specs.Paths.{name_under}
+use Rattle.log_replay.specs.Reconciliation.{meta_at}
 use Rattle.log_replay.specs.State.{State, state_of}
 use Rattle.log_replay.specs.declared.refusal.ReplayRefusal.{ReplayRefusal}
 use Rattle.log_replay.specs.declared.times.Bound.{Bound}
@@ -20,8 +21,9 @@ use Rattle.page_token.specs.declared.cursor.ListKind.{ListKind}
 use Rattle.page_token.specs.declared.cursor.ListKind.TheVariants as kind
 use Rattle.page_token.specs.declared.cursor.TableAccess.{TableAccess}
 use Rattle.share_book.specs.Parts.{resolved_at, up_to}
-use Rattle.share_book.specs.Views.{Log}
+use Rattle.share_book.specs.Views.{Log, shown_state}
 use Rattle.share_book.specs.declared.entry.Entry.{Entry}
+use Rattle.share_catalog.specs.declared.edit.Binding.{Binding}
 use Rattle.share_catalog.specs.declared.table_name.TableName.{TableName}
 use Rattle.share_request.specs.Faults.{fault_detail, fault_refusal}
 use Rattle.share_request.specs.declared.asked.Bound.{Bound as At}
@@ -88,22 +90,29 @@ unresolved_as unresolved.Unsupported = plain refusal.UnsupportedTable
 unresolved_as unresolved.VersionRange = plain refusal.VersionRange
 unresolved_as unresolved.TimestampRange = plain refusal.TimestampRange
 
--- an earlier version is asked for of a table that is shared without them, or the log has none that is meant
-abbrev pub VersionCause : Log → (history : Bool) → Bound → Refused → Type 0
-VersionCause log history b x = ((x ≡ plain refusal.HistoryNotShared) × (history ≡ false) × (b ≢ bound.Latest)) ⊎ ((why : Unresolved) × (resolved_at log b ≡ Err why) × (x ≡ unresolved_as why))
+-- a version is asked for before the first one that is shared, which is told
+abbrev pub before_first : ℕ → Refused
+before_first first = record { refusal = refusal.VersionNotShared; detail = decimal first }
+
+-- an earlier version is asked for of a table that is shared without them, or the log has none that is meant, or that one comes before the first that is shared
+abbrev pub VersionCause : Log → Binding → Bound → Refused → Type 0
+VersionCause log binding b x =
+    ((x ≡ plain refusal.HistoryNotShared) × (binding.history ≡ false) × (b ≢ bound.Latest))
+    ⊎ (((why : Unresolved) × (resolved_at log b ≡ Err why) × (x ≡ unresolved_as why))
+    ⊎ ((version : ℕ) × (resolved_at log b ≡ Ok version) × (version < binding.first) × (x ≡ before_first binding.first)))
 
 -- the version that is meant has no state
 abbrev pub StateCause : Log → Bound → Refused → Type 0
 StateCause log b x = (version : ℕ) × (why : ReplayRefusal) × (resolved_at log b ≡ Ok version) × (state_of (up_to log version) ≡ Err why) × (x ≡ plain refusal.UnsupportedTable)
 
--- the table isn't shared, or that holds of the log of one that is
-abbrev pub TableCause : Asking → TableName → (Log → Bool → Type 0) → Refused → Type 0
-TableCause a name Cause x = ((x ≡ plain refusal.NotFound) × (Shares a.point a.recipient name → ⊥)) ⊎ ((t : Shares a.point a.recipient name) × Cause (shared_log a.point a.recipient name t) t.binding.history)
+-- the table isn't shared, or that holds of the log and the binding of one that is
+abbrev pub TableCause : Asking → TableName → (Log → Binding → Type 0) → Refused → Type 0
+TableCause a name Cause x = ((x ≡ plain refusal.NotFound) × (Shares a.point a.recipient name → ⊥)) ⊎ ((t : Shares a.point a.recipient name) × Cause (shared_log a.point a.recipient name t) t.binding)
 
 pub record VersionsHaveCauses : Type 0 where
-  pub version : (a : Asking) (name : TableName) (from : Option ℤ) (x : Refused) → IsRefused a (what.Version name from) x → TableCause a name (λ log history. VersionCause log history (from_bound from) x) x
+  pub version : (a : Asking) (name : TableName) (from : Option ℤ) (x : Refused) → IsRefused a (what.Version name from) x → TableCause a name (λ log binding. VersionCause log binding (from_bound from) x) x
   pub metadata : (a : Asking) (name : TableName) (at : Option At) (x : Refused) → IsRefused a (what.Metadata name at) x
-      → TableCause a name (λ log history. VersionCause log history (last_bound (asked_at at)) x ⊎ StateCause log (last_bound (asked_at at)) x) x
+      → TableCause a name (λ log binding. VersionCause log binding (last_bound (asked_at at)) x ⊎ StateCause log (last_bound (asked_at at)) x) x
 
 -- ---- files
 
@@ -115,57 +124,69 @@ pub record IsOf (access : TableAccess) (who : List ℕ) (name : TableName) : Typ
   pub table : access.table ≡ name.table
 
 -- Why a later page of files is refused: a row for each cause.
-pub data FilesTokenCause (a : Asking) (name : TableName) (log : Log) (q : QueryBody) (text : List ℕ) : Refused → Type 0 where
+pub data FilesTokenCause (a : Asking) (name : TableName) (log : Log) (binding : Binding) (q : QueryBody) (text : List ℕ) : Refused → Type 0 where
   -- it is no token of a page of files
-  unknown : ((c : FilesCursor) → cursor_of a.keys.token text ≡ Some (cursor.Files c) → ⊥) → FilesTokenCause a name log q text (plain refusal.TokenInvalid)
+  unknown : ((c : FilesCursor) → cursor_of a.keys.token text ≡ Some (cursor.Files c) → ⊥) → FilesTokenCause a name log binding q text (plain refusal.TokenInvalid)
   -- it is of another recipient, or of another table
-  foreign : (c : FilesCursor) → cursor_of a.keys.token text ≡ Some (cursor.Files c) → (IsOf c.access a.recipient name → ⊥) → FilesTokenCause a name log q text (plain refusal.TokenInvalid)
+  foreign : (c : FilesCursor) → cursor_of a.keys.token text ≡ Some (cursor.Files c) → (IsOf c.access a.recipient name → ⊥) → FilesTokenCause a name log binding q text (plain refusal.TokenInvalid)
   -- the grant or the binding isn't the one that it was given under
-  stale : (c : FilesCursor) → cursor_of a.keys.token text ≡ Some (cursor.Files c) → (c.access ≡ access_now a.point a.recipient name → ⊥) → FilesTokenCause a name log q text (plain refusal.TokenStale)
+  stale : (c : FilesCursor) → cursor_of a.keys.token text ≡ Some (cursor.Files c) → (c.access ≡ access_now a.point a.recipient name → ⊥) → FilesTokenCause a name log binding q text (plain refusal.TokenStale)
   -- the query says what it wasn't given for
-  unlike : (c : FilesCursor) → cursor_of a.keys.token text ≡ Some (cursor.Files c) → files.agrees q c ≡ false → FilesTokenCause a name log q text (plain refusal.TokenMismatch)
-  -- its version isn't kept, or has no state, or fewer files
-  ahead : (c : FilesCursor) → cursor_of a.keys.token text ≡ Some (cursor.Files c) → length log.commits ≤ c.version → FilesTokenCause a name log q text (plain refusal.TokenAhead)
-  stateless : (c : FilesCursor) → cursor_of a.keys.token text ≡ Some (cursor.Files c) → (why : ReplayRefusal) → state_of (up_to log c.version) ≡ Err why → FilesTokenCause a name log q text (plain refusal.UnsupportedTable)
-  behind : (c : FilesCursor) → cursor_of a.keys.token text ≡ Some (cursor.Files c) → (state : State) → state_of (up_to log c.version) ≡ Ok state → length state.files < c.place → FilesTokenCause a name log q text (plain refusal.TokenAhead)
+  unlike : (c : FilesCursor) → cursor_of a.keys.token text ≡ Some (cursor.Files c) → files.agrees q c ≡ false → FilesTokenCause a name log binding q text (plain refusal.TokenMismatch)
+  -- its version isn't kept, or comes before the first that is shared, or has no state, or shows fewer files
+  ahead : (c : FilesCursor) → cursor_of a.keys.token text ≡ Some (cursor.Files c) → length log.commits ≤ c.version → FilesTokenCause a name log binding q text (plain refusal.TokenAhead)
+  early : (c : FilesCursor) → cursor_of a.keys.token text ≡ Some (cursor.Files c) → c.version < binding.first → FilesTokenCause a name log binding q text (before_first binding.first)
+  stateless : (c : FilesCursor) → cursor_of a.keys.token text ≡ Some (cursor.Files c) → (why : ReplayRefusal) → state_of (up_to log c.version) ≡ Err why → FilesTokenCause a name log binding q text (plain refusal.UnsupportedTable)
+  behind : (c : FilesCursor) → cursor_of a.keys.token text ≡ Some (cursor.Files c) → (state : State) → state_of (up_to log c.version) ≡ Ok state → length (shown_state binding.only state).files < c.place → FilesTokenCause a name log binding q text (plain refusal.TokenAhead)
 
 pub record FilesHaveCauses : Type 0 where
   pub first : (a : Asking) (name : TableName) (q : QueryBody) (x : Refused) → q.token ≡ None → IsRefused a (what.Query name q) x
-      → TableCause a name (λ log history. VersionCause log history (last_bound (asked_by q.version q.moment)) x ⊎ StateCause log (last_bound (asked_by q.version q.moment)) x) x
-  pub later : (a : Asking) (name : TableName) (q : QueryBody) (text : List ℕ) (x : Refused) → q.token ≡ Some text → IsRefused a (what.Query name q) x → TableCause a name (λ log history. FilesTokenCause a name log q text x) x
+      → TableCause a name (λ log binding. VersionCause log binding (last_bound (asked_by q.version q.moment)) x ⊎ StateCause log (last_bound (asked_by q.version q.moment)) x) x
+  pub later : (a : Asking) (name : TableName) (q : QueryBody) (text : List ℕ) (x : Refused) → q.token ≡ Some text → IsRefused a (what.Query name q) x → TableCause a name (λ log binding. FilesTokenCause a name log binding q text x) x
 
 -- ---- changes
 
--- Why a range of versions has no changes to give: it goes backward, or the feed is off at a version of it, the least of which is told.
-pub data RangeCause (log : Log) (from to : ℕ) : Refused → Type 0 where
-  backward : to < from → RangeCause log from to (plain refusal.VersionRange)
-  off : (version : ℕ) → feed_of log.commits from to ≡ Err version → RangeCause log from to (record { refusal = refusal.ChangesNotEnabled; detail = decimal version })
+-- Why a range of versions has no changes to give: it begins before the first version that is shared, or the feed is off at a version of it, the least of which is told.
+pub data RangeCause (log : Log) (binding : Binding) (from to : ℕ) : Refused → Type 0 where
+  begins_early : from < binding.first → RangeCause log binding from to (before_first binding.first)
+  off : (version : ℕ) → feed_of log.commits from to ≡ Err version → RangeCause log binding from to (record { refusal = refusal.ChangesNotEnabled; detail = decimal version })
 
 -- Why a first page of changes is refused.
-pub data ChangesCause (log : Log) (history : Bool) (q : ChangesQuery) : Refused → Type 0 where
-  hidden : history ≡ false → ChangesCause log history q (plain refusal.HistoryNotShared)
-  no_first : (why : Unresolved) → resolved_at log (first_bound (asked_at q.from)) ≡ Err why → ChangesCause log history q (unresolved_as why)
-  no_last : (why : Unresolved) → resolved_at log (last_bound (asked_at q.to)) ≡ Err why → ChangesCause log history q (unresolved_as why)
-  within : (from to : ℕ) (x : Refused) → resolved_at log (first_bound (asked_at q.from)) ≡ Ok from → resolved_at log (last_bound (asked_at q.to)) ≡ Ok to → RangeCause log from to x → ChangesCause log history q x
+pub data ChangesCause (log : Log) (binding : Binding) (q : ChangesQuery) : Refused → Type 0 where
+  -- the table is shared in part
+  restricted : (only : List ℕ) → binding.only ≡ Some only → ChangesCause log binding q (plain refusal.ChangesRestricted)
+  hidden : binding.history ≡ false → ChangesCause log binding q (plain refusal.HistoryNotShared)
+  no_first : (why : Unresolved) → resolved_at log (first_bound (asked_at q.from)) ≡ Err why → ChangesCause log binding q (unresolved_as why)
+  no_last : (why : Unresolved) → resolved_at log (last_bound (asked_at q.to)) ≡ Err why → ChangesCause log binding q (unresolved_as why)
+  backward : (from to : ℕ) → resolved_at log (first_bound (asked_at q.from)) ≡ Ok from → resolved_at log (last_bound (asked_at q.to)) ≡ Ok to → to < from → ChangesCause log binding q (plain refusal.VersionRange)
+  within : (from to : ℕ) (x : Refused) → resolved_at log (first_bound (asked_at q.from)) ≡ Ok from → resolved_at log (last_bound (asked_at q.to)) ≡ Ok to → RangeCause log binding from to x → ChangesCause log binding q x
 
 -- Why a later page of changes is refused.
-pub data FeedTokenCause (a : Asking) (name : TableName) (log : Log) (q : ChangesQuery) (text : List ℕ) : Refused → Type 0 where
+pub data FeedTokenCause (a : Asking) (name : TableName) (log : Log) (binding : Binding) (q : ChangesQuery) (text : List ℕ) : Refused → Type 0 where
+  -- the table is shared in part
+  feed_restricted : (only : List ℕ) → binding.only ≡ Some only → FeedTokenCause a name log binding q text (plain refusal.ChangesRestricted)
   -- it is no token of a page of changes
-  feed_unknown : ((c : FeedCursor) → cursor_of a.keys.token text ≡ Some (cursor.Feed c) → ⊥) → FeedTokenCause a name log q text (plain refusal.TokenInvalid)
+  feed_unknown : ((c : FeedCursor) → cursor_of a.keys.token text ≡ Some (cursor.Feed c) → ⊥) → FeedTokenCause a name log binding q text (plain refusal.TokenInvalid)
   -- it is of another recipient, or of another table
-  feed_foreign : (c : FeedCursor) → cursor_of a.keys.token text ≡ Some (cursor.Feed c) → (IsOf c.access a.recipient name → ⊥) → FeedTokenCause a name log q text (plain refusal.TokenInvalid)
+  feed_foreign : (c : FeedCursor) → cursor_of a.keys.token text ≡ Some (cursor.Feed c) → (IsOf c.access a.recipient name → ⊥) → FeedTokenCause a name log binding q text (plain refusal.TokenInvalid)
   -- the grant or the binding isn't the one that it was given under
-  feed_stale : (c : FeedCursor) → cursor_of a.keys.token text ≡ Some (cursor.Feed c) → (c.access ≡ access_now a.point a.recipient name → ⊥) → FeedTokenCause a name log q text (plain refusal.TokenStale)
+  feed_stale : (c : FeedCursor) → cursor_of a.keys.token text ≡ Some (cursor.Feed c) → (c.access ≡ access_now a.point a.recipient name → ⊥) → FeedTokenCause a name log binding q text (plain refusal.TokenStale)
   -- the query says what it wasn't given for
-  feed_unlike : (c : FeedCursor) → cursor_of a.keys.token text ≡ Some (cursor.Feed c) → feeds.agrees q c ≡ false → FeedTokenCause a name log q text (plain refusal.TokenMismatch)
-  -- its last version isn't kept, or its range has none to give, or fewer changes
-  feed_ahead : (c : FeedCursor) → cursor_of a.keys.token text ≡ Some (cursor.Feed c) → length log.commits ≤ c.to → FeedTokenCause a name log q text (plain refusal.TokenAhead)
-  feed_within : (c : FeedCursor) (x : Refused) → cursor_of a.keys.token text ≡ Some (cursor.Feed c) → RangeCause log c.from c.to x → FeedTokenCause a name log q text x
-  feed_behind : (c : FeedCursor) → cursor_of a.keys.token text ≡ Some (cursor.Feed c) → (changes : List ChangedFile) → feed_of log.commits c.from c.to ≡ Ok changes → length changes < c.place → FeedTokenCause a name log q text (plain refusal.TokenAhead)
+  feed_unlike : (c : FeedCursor) → cursor_of a.keys.token text ≡ Some (cursor.Feed c) → feeds.agrees q c ≡ false → FeedTokenCause a name log binding q text (plain refusal.TokenMismatch)
+  -- its last version isn't kept, or no metaData holds there, or its range has no changes to give, or fewer
+  feed_ahead : (c : FeedCursor) → cursor_of a.keys.token text ≡ Some (cursor.Feed c) → length log.commits ≤ c.to → FeedTokenCause a name log binding q text (plain refusal.TokenAhead)
+  feed_bare : (c : FeedCursor) → cursor_of a.keys.token text ≡ Some (cursor.Feed c) → c.to < c.from → meta_at log.commits c.to ≡ None → FeedTokenCause a name log binding q text (plain refusal.UnsupportedTable)
+  feed_within : (c : FeedCursor) (x : Refused) → cursor_of a.keys.token text ≡ Some (cursor.Feed c) → RangeCause log binding c.from c.to x → FeedTokenCause a name log binding q text x
+  feed_behind : (c : FeedCursor) → cursor_of a.keys.token text ≡ Some (cursor.Feed c) → (changes : List ChangedFile) → feed_of log.commits c.from c.to ≡ Ok changes → length changes < c.place → FeedTokenCause a name log binding q text (plain refusal.TokenAhead)
+
+-- A table that is shared in part has no changes to give, whatever the token and the range are.
+abbrev pub RestrictedGivesNoChanges : Type 0
+RestrictedGivesNoChanges = (a : Asking) (name : TableName) (t : Shares a.point a.recipient name) (q : ChangesQuery) (only : List ℕ) → t.binding.only ≡ Some only → IsRefused a (changes_asked name q) (plain refusal.ChangesRestricted)
 
 pub record ChangesHaveCauses : Type 0 where
-  pub first : (a : Asking) (name : TableName) (q : ChangesQuery) (x : Refused) → q.token ≡ None → IsRefused a (changes_asked name q) x → TableCause a name (λ log history. ChangesCause log history q x) x
-  pub later : (a : Asking) (name : TableName) (q : ChangesQuery) (text : List ℕ) (x : Refused) → q.token ≡ Some text → IsRefused a (changes_asked name q) x → TableCause a name (λ log history. FeedTokenCause a name log q text x) x
+  pub restricted : RestrictedGivesNoChanges
+  pub first : (a : Asking) (name : TableName) (q : ChangesQuery) (x : Refused) → q.token ≡ None → IsRefused a (changes_asked name q) x → TableCause a name (λ log binding. ChangesCause log binding q x) x
+  pub later : (a : Asking) (name : TableName) (q : ChangesQuery) (text : List ℕ) (x : Refused) → q.token ≡ Some text → IsRefused a (changes_asked name q) x → TableCause a name (λ log binding. FeedTokenCause a name log binding q text x) x
 
 -- ---- links
 

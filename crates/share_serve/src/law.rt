@@ -55,7 +55,7 @@ pub fn what_is_granted_is_given()
     // The version and the metadata of a table.
     ensures versions { VersionsAreGiven }
     ensures metadata { MetadataIsGiven }
-    // The files of a version, and the changes of a range, on first and on later pages.
+    // The files of a version that are shown, and the changes of a range of a table that is shared whole, on first and on later pages.
     ensures files { FilesAreGiven }
     ensures changes { ChangesAreGiven }
     // The object that a link is answered with, or the part of it that is asked for.
@@ -79,7 +79,8 @@ pub fn refusals_have_causes()
     ensures strangers { StrangersAreRefused }
     // Of a recipient's request that is at fault the fault is told.
     ensures faults { FaultsAreTold }
-    // Listings, versions and metadata, files and changes on first and on later pages, and links.
+    // Listings, versions and metadata, files and changes on first and on later pages, and links. Changes of a table that is shared in
+    // part are refused before all else.
     ensures names { NamesHaveCauses }
     ensures versions { VersionsHaveCauses }
     ensures files { FilesHaveCauses }

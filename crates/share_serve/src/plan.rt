@@ -1,7 +1,8 @@
 // A recipient's reply, written as a response.
-ghost use Rattle.std.specs.Prelude.{◌≡◌, ◌≤◌, ℕ, IfOk, Option};
+ghost use Rattle.std.specs.Prelude.{◌≡◌, ◌≤◌, ℕ, IfOk, Option, option_map};
 ghost use Rattle.edge_core.specs.Objects.{Objects};
 ghost use Rattle.log_store.specs.Loads.{Looked};
+ghost use Rattle.share_book.specs.Shown.{show};
 ghost use Rattle.share_book.specs.Views.{View};
 ghost use Rattle.share_reply.specs.Bodies.{reply_of};
 ghost use Rattle.share_reply.specs.Chains.{NextIsSpelt};
@@ -89,7 +90,7 @@ fn send_plan<W: Store, K: Sink>(
     }
 }
 
-/// Writes the response to a request, by what was seen for it. The moment is the delivery's.
+/// Writes the response to a request, by what is shown of what was seen for it. The moment is the delivery's.
 pub(crate) fn reply<W: Store, K: Sink>(
     alloc: Global,
     keys: &ReplyKeys,
@@ -103,10 +104,10 @@ pub(crate) fn reply<W: Store, K: Sink>(
     ensures looked { Looked (W.objects store.old) (W.objects store.new) (W.alone store.old) (W.alone store.new) }
     ensures stored { W.stored store.new ≡ W.stored store.old }
     ensures later { (W.faults store.old ≤ W.faults store.new) × (K.faults sink.old ≤ K.faults sink.new) }
-    ensures sent { (view : Option View) → seen.now ≡ seen_for keys.now request.now view → Writes result delivery (λ r. ReplyIs (reply_of keys.now (answered keys.now view delivery.moment request.now)) r (shelved W.objects W.alone W.faults W.stored store.old) (shelved W.objects W.alone W.faults W.stored store.new) × NextIsSpelt keys.now (answered keys.now view delivery.moment request.now)) (shelved W.objects W.alone W.faults W.stored store.new ≡ shelved W.objects W.alone W.faults W.stored store.old) (K.holds sink.old) (K.holds sink.new) }
+    ensures sent { (view : Option View) → option_map show seen.now ≡ seen_for keys.now request.now view → Writes result delivery (λ r. ReplyIs (reply_of keys.now (answered keys.now view delivery.moment request.now)) r (shelved W.objects W.alone W.faults W.stored store.old) (shelved W.objects W.alone W.faults W.stored store.new) × NextIsSpelt keys.now (answered keys.now view delivery.moment request.now)) (shelved W.objects W.alone W.faults W.stored store.new ≡ shelved W.objects W.alone W.faults W.stored store.old) (K.holds sink.old) (K.holds sink.new) }
     ensures cause { DeliveryCause result (W.objects store.old) (W.faults store.old) (W.faults store.new) (K.faults sink.old) (K.faults sink.new) }
     ensures out { HasGoneOut result (K.kept sink.new) }
-    ensures cut { (view : Option View) → seen.now ≡ seen_for keys.now request.now view → CutOnly result (IsFile (reply_of keys.now (answered keys.now view delivery.moment request.now))) }
+    ensures cut { (view : Option View) → option_map show seen.now ≡ seen_for keys.now request.now view → CutOnly result (IsFile (reply_of keys.now (answered keys.now view delivery.moment request.now))) }
 {
     let now = Millis::of_small(delivery.moment);
     match plan_of(alloc, keys, request, now, seen) {

@@ -1,6 +1,7 @@
 // The loop of a session.
-ghost use Rattle.std.specs.Prelude.{◌≡◌, ◌≤◌, ◌<◌, ◌+◌, ℕ, [], None, MatchOption, IfOk, true, false};
+ghost use Rattle.std.specs.Prelude.{◌≡◌, ◌≤◌, ◌<◌, ◌+◌, ℕ, [], None, MatchOption, IfOk, option_map, true, false};
 ghost use Rattle.hub_calls.specs.Calls.{Adds, IsIdle};
+ghost use Rattle.share_book.specs.Shown.{show};
 ghost use Rattle.share_reply.specs.Replies.{seen_for, view_for};
 ghost use Rattle.share_serve.specs.CallerViews.{by_call};
 ghost use Rattle.share_serve.specs.Callers as by;
@@ -130,7 +131,7 @@ fn refuse<C: Clock, K: Sink>(
 }
 
 impl<'a, R: Wait, G: Gate> Session<'a, R, G> {
-    // What is seen for a request: that of the view of whom it asks for, at what the pass has seen then.
+    // What is seen for a request, at what the pass has seen then: what is shown of it is that of the view of whom the request asks for.
     fn look<L>(
         &self,
         pass: &mut HubPass,
@@ -140,7 +141,7 @@ impl<'a, R: Wait, G: Gate> Session<'a, R, G> {
         requires cell { (pass.old.cell ≡ self.now.hub.now) × (pass.old.holds ≡ false) }
         ensures same { IsIdle pass.old pass.new }
         ensures added { Adds pass.old pass.new [] }
-        ensures seen { IfOk result (λ s. s ≡ seen_for self.now.server.now.keys request.now (view_for self.now.server.now.keys request.now pass.new.seen)) }
+        ensures seen { IfOk result (λ s. option_map show s ≡ seen_for self.now.server.now.keys request.now (view_for self.now.server.now.keys request.now pass.new.seen)) }
     {
         match ask_of(self.alloc, &self.server.keys, request)? {
             Some(ask) => Ok(self.hub.look(self.rt, self.alloc, pass, &ask, steps)?.seen),
@@ -303,11 +304,12 @@ impl<'a, R: Wait, G: Gate> Session<'a, R, G> {
 
 /// Serves one connection to its end (RFC 9112, section 9): reads its requests, answers each, and writes the responses in order.
 ///
-/// A recipient's request is answered from the recipient's own view at a point of the history that isn't before what the pass had
-/// seen; a link by that view and the store's object; a provider's or the administrator's by a call of the hub. The clock is asked
-/// once for each request, and for a message that is refused, after it was read. `gate.pass` stands between a request's look or call
-/// and its response, `gate.done` behind the response. A response's head tells the length of its body. Of a body one line, one JSON
-/// text or 65,536 bytes of an object are held at a time. After each response the sink is flushed.
+/// A recipient's request is answered from the recipient's own view, which has of each table what its binding shows, at a point of the
+/// history that isn't before what the pass had seen; a link by that view and the store's object; a provider's or the administrator's
+/// by a call of the hub. The clock is asked once for each request, and for a message that is refused, after it was read. `gate.pass`
+/// stands between a request's look or call and its response, `gate.done` behind the response. A response's head tells the length of
+/// its body. Of a body one line, one JSON text or 65,536 bytes of an object are held at a time. After each response the sink is
+/// flushed.
 ///
 /// The connection is closed behind a request whose sender closes it, behind the 10,000th, and behind the response to a message that
 /// is refused, and the response says so.

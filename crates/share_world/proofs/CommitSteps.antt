@@ -13,7 +13,7 @@ use Rattle.share_book.specs.History as history
 use Rattle.share_book.specs.History.{block_on, commit_on, edit_in, entry, grown, open_on, pending, start_in, starts, table_on}
 use Rattle.share_book.specs.Legal.{has_log, is_at}
 use Rattle.share_book.specs.TableView.{TableLog}
-use Rattle.share_book.specs.Views.{Log, log_at, seen_log}
+use Rattle.share_book.specs.Views.{Log, log_at, seen_log, whole_log}
 use Rattle.share_book.specs.declared.entry.Act.TheVariants.{Abort, Begin, Found}
 use Rattle.share_book.specs.declared.entry.Entry.{Entry}
 use Rattle.share_book.specs.declared.entry.LogStart.{LogStart}
@@ -36,7 +36,7 @@ pub passed_over : (h : List Entry) (before : List Event) (e : Event) → Stands 
 passed_over h before e s same logs = record {
   idle = s.idle;
   edits = s.edits ∙ sym (edits_more before e ∙ same);
-  logs = λ l has. s.logs l has ∙ (λ i. record { commits = sym (commits_more before e l ∙ logs l has) i; blocked = false });
+  logs = λ l has. s.logs l has ∙ (λ i. whole_log (sym (commits_more before e l ∙ logs l has) i) false);
 }
 
 abbrev pub event_at : List ℕ → List Action → Event → Type 0
@@ -87,15 +87,15 @@ module _ (h : List Entry) (j : ℕ) (c : List Action) where
       ∙ loud (commit_on j) (h ++ entry 0 j Begin ∷ []) (entry 0 j (Found c)) c (here (entry 0 j (Found c)) (Some c))
       ∙ ap (λ (l : List (List Action)). l ++ c ∷ []) (quiet (commit_on j) h (entry 0 j Begin) (nothing j (entry 0 j Begin)))
 
-  more : (cs : List (List Action)) (bs : List ℕ) (o : Option LogStart) (t : TableLog) → option_map (grown cs bs) o ≡ Some t → seen_log (option_map (grown (cs ++ c ∷ []) bs) o) ≡ record { commits = t.commits ++ c ∷ []; blocked = is_some t.block }
+  more : (cs : List (List Action)) (bs : List ℕ) (o : Option LogStart) (t : TableLog) → option_map (grown cs bs) o ≡ Some t → seen_log (option_map (grown (cs ++ c ∷ []) bs) o) ≡ whole_log (t.commits ++ c ∷ []) (is_some t.block)
   more cs bs None t e = absurd (cc e)
   more cs bs (Some s) t e =
       let g : grown cs bs s ≡ t = cc e in
       let qc : s.commits ++ (cs ++ c ∷ []) ≡ t.commits ++ c ∷ [] = sym (append_assoc s.commits cs (c ∷ [])) ∙ ap (λ (x : TableLog). x.commits ++ c ∷ []) g in
       let qb : is_some (grown cs bs s).block ≡ is_some t.block = ap (λ (x : TableLog). is_some x.block) g in
-      λ k. record { commits = qc k; blocked = qb k }
+      λ k. whole_log (qc k) (qb k)
 
-  table_here : (t : TableLog) → table_on j h ≡ Some t → seen_log (table_on j (committed_history h j c)) ≡ record { commits = t.commits ++ c ∷ []; blocked = is_some t.block }
+  table_here : (t : TableLog) → table_on j h ≡ Some t → seen_log (table_on j (committed_history h j c)) ≡ whole_log (t.commits ++ c ∷ []) (is_some t.block)
   table_here t is =
       let qb = blocks_same j in
       (λ k. seen_log (option_map (grown (commits_here k) (qb k)) (slice_get (starts_same k) (j - 1)))) ∙ more (filter_map (commit_on j) h) (filter_map (block_on j) h) (slice_get (starts h) (j - 1)) t is
@@ -134,20 +134,20 @@ module _ (h : List Entry) (before : List Event) (e : Event) (place : List ℕ) (
   place_of l None is has = absurd (cc (has_place h l None is, has))
   place_of l (Some n) is has = (n, is)
 
-  here_log : (t : TableLog) → table_on (i + 1) h ≡ Some t → log_at (committed_history h (i + 1) c) place ≡ record { commits = commits_of before place ++ c ∷ []; blocked = false }
+  here_log : (t : TableLog) → table_on (i + 1) h ≡ Some t → log_at (committed_history h (i + 1) c) place ≡ whole_log (commits_of before place ++ c ∷ []) false
   here_log t is =
       let qs = starts_same h (i + 1) c in
       let was : seen_log (Some t) ≡ log_of before place = ap seen_log (sym is) ∙ sym (log_placed h place (Some i) placed) ∙ s.logs place (has_place h place (Some i) placed) in
       let qc : t.commits ++ c ∷ [] ≡ commits_of before place ++ c ∷ [] = ap (λ (x : Log). x.commits ++ c ∷ []) was in
       let qb : is_some t.block ≡ false = ap (λ (x : Log). x.blocked) was in
-      log_placed (committed_history h (i + 1) c) place (Some i) (ap (position (is_at place)) qs ∙ placed) ∙ table_here h (i + 1) c t is ∙ (λ k. record { commits = qc k; blocked = qb k })
+      log_placed (committed_history h (i + 1) c) place (Some i) (ap (position (is_at place)) qs ∙ placed) ∙ table_here h (i + 1) c t is ∙ (λ k. whole_log (qc k) (qb k))
 
-  log_after : (t : TableLog) → table_on (i + 1) h ≡ Some t → (l : List ℕ) (b : Bool) → bytes_eq place l ≡ b → has_log h l ≡ true → log_at (committed_history h (i + 1) c) l ≡ record { commits = if b then with_commit (commits_of before l) c else commits_of before l; blocked = false }
+  log_after : (t : TableLog) → table_on (i + 1) h ≡ Some t → (l : List ℕ) (b : Bool) → bytes_eq place l ≡ b → has_log h l ≡ true → log_at (committed_history h (i + 1) c) l ≡ whole_log (if b then with_commit (commits_of before l) c else commits_of before l) false
   log_after t is l true same has =
       let one : place ≡ l = bytes_is place l same in
       let more : commits_of before place ++ c ∷ [] ≡ with_commit (commits_of before l) c =
       sym (by_true (takes (commits_of before place) c) (commits_of before place ++ c ∷ []) (commits_of before place) taken) ∙ ap (λ (x : List ℕ). with_commit (commits_of before x) c) one in
-      ap (log_at (committed_history h (i + 1) c)) (sym one) ∙ here_log t is ∙ (λ k. record { commits = more k; blocked = false })
+      ap (log_at (committed_history h (i + 1) c)) (sym one) ∙ here_log t is ∙ (λ k. whole_log (more k) false)
   log_after t is l false apart has =
       let qs = starts_same h (i + 1) c in
       let there = place_of l (position (is_at l) (starts h)) refl has in
@@ -162,5 +162,5 @@ module _ (h : List Entry) (before : List Event) (e : Event) (place : List ℕ) (
     logs = λ l has.
         (let had : has_log h l ≡ true = sym (ap (λ (x : List LogStart). list_any (is_at l) x) (starts_same h (i + 1) c)) ∙ has in
         let commits : (if bytes_eq place l then with_commit (commits_of before l) c else commits_of before l) ≡ commits_of (before ++ e ∷ []) l = sym (at (commits_of before l) l) ∙ sym (commits_more before e l) in
-        log_after t is l (bytes_eq place l) refl had ∙ (λ k. record { commits = commits k; blocked = false }));
+        log_after t is l (bytes_eq place l) refl had ∙ (λ k. whole_log (commits k) false));
   }

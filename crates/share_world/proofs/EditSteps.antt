@@ -13,7 +13,7 @@ use Rattle.share_catalog.proofs.Words.{distinct_length}
 use Rattle.share_book.specs.History as history
 use Rattle.share_book.specs.History.{block_on, commit_on, edit_in, entry, first_block, grown, open_on, start_in, starts, table_on}
 use Rattle.share_book.specs.Legal.{IsKeptLog, TakesLog, has_log, is_at}
-use Rattle.share_book.specs.Views.{log_at, seen_log}
+use Rattle.share_book.specs.Views.{log_at, seen_log, whole_log}
 use Rattle.share_book.specs.declared.entry.Act.TheVariants.{Begin, Load, OwnEdit}
 use Rattle.share_book.specs.declared.entry.Entry.{Entry}
 use Rattle.share_book.specs.declared.entry.LogStart.{LogStart}
@@ -181,7 +181,7 @@ at_end [] s = refl
 at_end (x ∷ xs) s = at_end xs s
 
 -- the log that is loaded is as it was given
-log_loaded : (h : List Entry) (e : Edit) (s : LogStart) (l : List ℕ) → IsIdle h → s.block ≡ None → position (is_at l) (starts h) ≡ None → is_at l s ≡ true → log_at (edited_history h (Some s) e) l ≡ record { commits = s.commits; blocked = false }
+log_loaded : (h : List Entry) (e : Edit) (s : LogStart) (l : List ℕ) → IsIdle h → s.block ≡ None → position (is_at l) (starts h) ≡ None → is_at l s ≡ true → log_at (edited_history h (Some s) e) l ≡ whole_log s.commits false
 log_loaded h e s l idle free none is =
     let n = length (starts h) in
     let qs = starts_after h e (Some s) in
@@ -193,11 +193,11 @@ log_loaded h e s l idle free none is =
     let commits : s.commits ++ [] ≡ s.commits = append-nil s.commits in
     let blocked : is_some (first_block s.block []) ≡ false = ap (λ (o : Option ℕ). is_some (first_block o [])) free in
     log_placed (edited_history h (Some s) e) l (Some n) (ap (position (is_at l)) qs ∙ position_end (is_at l) (starts h) s none is)
-    ∙ (λ k. seen_log (option_map (grown (qc k) (qb k)) (start k))) ∙ (λ k. record { commits = commits k; blocked = blocked k })
+    ∙ (λ k. seen_log (option_map (grown (qc k) (qb k)) (start k))) ∙ (λ k. whole_log (commits k) (blocked k))
 
 module _ (h : List Entry) (before : List Event) (ev : Event) (e : Edit) (s : Stands h before) (same : (log : List (List Action)) (l : List ℕ) → commits_with l log ev ≡ log) where
   was_log : (l : List ℕ) → log_of before l ≡ log_of (before ++ ev ∷ []) l
-  was_log l = λ k. record { commits = sym (commits_more before ev l ∙ same (commits_of before l) l) k; blocked = false }
+  was_log l = λ k. whole_log (sym (commits_more before ev l ∙ same (commits_of before l) l) k) false
 
   log_after : (load : Option LogStart) → ((x : LogStart) → load ≡ Some x → x ≡ start_of before x.location) → (l : List ℕ) (o : Option ℕ) → position (is_at l) (starts h) ≡ o → list_any (is_at l) (starts_with h load) ≡ true
       → log_at (edited_history h load e) l ≡ log_of (before ++ ev ∷ []) l
@@ -210,7 +210,7 @@ module _ (h : List Entry) (before : List Event) (ev : Event) (e : Edit) (s : Sta
       let free : x.block ≡ None = ap (λ (y : LogStart). y.block) loaded in
       let place : x.location ≡ l = bytes_is x.location l at in
       let commits : x.commits ≡ commits_of before l = ap (λ (y : LogStart). y.commits) loaded ∙ ap (commits_of before) place in
-      log_loaded h e x l s.idle free is at ∙ (λ k. record { commits = commits k; blocked = false }) ∙ was_log l
+      log_loaded h e x l s.idle free is at ∙ (λ k. whole_log (commits k) false) ∙ was_log l
 
   pub edited_stands : (load : Option LogStart) → edits_with (edits_of before) ev ≡ edits_of before ++ e ∷ [] → LoadFits h (bound_location e) load → ((x : LogStart) → load ≡ Some x → x ≡ start_of before x.location) → Stands (edited_history h load e) (before ++ ev ∷ [])
   edited_stands load kept fits given = record {

@@ -10,7 +10,7 @@ use Rattle.share_book.specs.History as history
 use Rattle.share_book.specs.History.{block_on, commit_on, entry, open_on, pending, starts}
 use Rattle.share_book.specs.Legal.{IsKeptLog, has_log}
 use Rattle.share_book.specs.Looks.{look_of, who_of}
-use Rattle.share_book.specs.Views.{log_at, view_by}
+use Rattle.share_book.specs.Views.{held_view, log_at}
 use Rattle.share_book.specs.declared.entry.Act.TheVariants.{Abort, Begin, Found, Load, OwnEdit}
 use Rattle.share_book.specs.declared.entry.Entry.{Entry}
 use Rattle.share_book.specs.declared.entry.LogStart.{LogStart}
@@ -33,9 +33,9 @@ pub record Stands (h : List Entry) (events : List Event) : Type 0 where
   pub edits : history.edits h ≡ edits_of events
   pub logs : (l : List ℕ) → has_log h l ≡ true → log_at h l ≡ log_of events l
 
--- what is seen at a point for what is asked
+-- what is found at a point for what is asked
 abbrev pub seen_at : List Entry → Option Ask → Option Seen
-seen_at h ask = option_and_then (λ a. look_of (view_by h (who_of a.who)) a.want) ask
+seen_at h ask = option_and_then (λ a. look_of (held_view h (who_of a.who)) a.want) ask
 
 -- a log more, if one is loaded
 abbrev pub loaded_by : Option LogStart → BookView → BookView

@@ -1,15 +1,15 @@
 -- Worlds: edits of a catalogue and commits to tables' logs, in one order and without any concurrency (Delta Lake PROTOCOL.md, "Delta Log Entries"; Delta Sharing PROTOCOL.md, "Concepts").
-use Rattle.std.specs.Prelude.{ℕ, ◌^◌, ◌&&◌, List, [], ◌∷◌, ◌++◌, Bool, false, Option, is_none, nat_le, bytes_eq, option_and_then, option_map, if◌then◌else◌}
+use Rattle.std.specs.Prelude.{ℕ, ◌^◌, ◌&&◌, List, [], ◌∷◌, ◌++◌, Bool, false, Option, is_none, nat_le, bytes_eq, option_and_then, if◌then◌else◌}
 use Rattle.std.specs.List.{fold}
 use Rattle.log_actions.specs.declared.actions.Action.{Action}
 use Rattle.log_actions.specs.CommitTexts.{printed_bytes}
 use Rattle.log_replay.specs.Support as support
 use Rattle.share_book.specs.Looks.{look_of, who_of}
-use Rattle.share_book.specs.Views.{Log, View, view_with}
+use Rattle.share_book.specs.Views.{Log, View, held, shown, view_as, whole_log}
 use Rattle.share_book.specs.declared.look.Ask.{Ask}
 use Rattle.share_book.specs.declared.look.Seen.{Seen}
 use Rattle.share_catalog.specs.Catalogue.{refusal_of}
-use Rattle.share_catalog.specs.Views.{Who, view_among}
+use Rattle.share_catalog.specs.Views.{Who}
 use Rattle.share_catalog.specs.declared.edit.Edit.{Edit}
 use Rattle.share_world.specs.declared.event.Event.{Event}
 use Rattle.share_world.specs.declared.event.Event.TheVariants as event
@@ -45,14 +45,18 @@ commits_of events location = fold (commits_with location) [] events
 
 -- the log of a location, whose further versions aren't blocked
 abbrev pub log_of : List Event → List ℕ → Log
-log_of events location = record { commits = commits_of events location; blocked = false }
+log_of events location = whole_log (commits_of events location) false
 
 -- ---- views
 
 -- the view of whom a token's digest or a name finds behind these events, none where it finds none
 abbrev pub view_of : List Event → Who → Option View
-view_of events who = option_map (view_with (edits_of events) (log_of events)) (view_among (edits_of events) who)
+view_of events who = view_as shown (edits_of events) (log_of events) who
 
--- what is seen behind these events for what is asked
-abbrev pub shown : List Event → Option Ask → Option Seen
-shown events ask = option_and_then (λ a. look_of (view_of events (who_of a.who)) a.want) ask
+-- the whole logs of its tables
+abbrev pub held_of : List Event → Who → Option View
+held_of events who = view_as held (edits_of events) (log_of events) who
+
+-- what is found in these behind the events for what is asked
+abbrev pub looked : List Event → Option Ask → Option Seen
+looked events ask = option_and_then (λ a. look_of (held_of events (who_of a.who)) a.want) ask

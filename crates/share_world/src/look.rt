@@ -3,7 +3,7 @@ ghost use Rattle.std.specs.Prelude.{◌≡◌, IfOk, IfSome};
 ghost use Rattle.share_book.specs.Bases.{FilesStand};
 ghost use Rattle.share_world.specs.Standing.{seen_at};
 ghost use Rattle.share_book.specs.Looks.{look_of, who_of};
-ghost use Rattle.share_book.specs.Views.{view_by};
+ghost use Rattle.share_book.specs.Views.{held_view};
 
 use share_book::{Ask, Book, Look, Seen};
 use std::alloc::{AllocError, Global};
@@ -23,7 +23,7 @@ fn keep(book: &mut Book, look: &Look, is_behind: bool) -> Result<(), AllocError>
 // What is found for one request. The state of its files is kept where commits were left to replay.
 fn look(alloc: Global, book: &mut Book, ask: &Ask) -> Result<Look, AllocError>
     ensures same { book.new ≡ book.old }
-    ensures seen { IfOk result (λ l. l.seen ≡ look_of (view_by book.old.past.history (who_of ask.now.who)) ask.now.want) }
+    ensures seen { IfOk result (λ l. l.seen ≡ look_of (held_view book.old.past.history (who_of ask.now.who)) ask.now.want) }
 {
     let pinned = book.pin(alloc, ask)?;
     book.touch(&pinned);

@@ -1,7 +1,7 @@
 // What events leave.
 ghost use Rattle.std.specs.Prelude.{◌≡◌, ◌++◌, ◌∷◌, [], List, IfOk, OnOk};
 ghost use Rattle.share_world.specs.Standing.{Stands};
-ghost use Rattle.share_world.specs.Worlds.{shown};
+ghost use Rattle.share_world.specs.Worlds.{looked};
 ghost use Rattle.share_world.specs.declared.event.Event.{Event as OneEvent};
 
 use crate::edits::edit_in;
@@ -53,11 +53,11 @@ impl World {
         }
     }
 
-    /// What is seen for what is asked, none where nothing is: what the views behind the events show. A state that is replayed for it is
+    /// What is found for what is asked, none where nothing is: in the whole logs that the events leave. A state that is replayed for it is
     /// kept for the next time. The error is want of memory.
     pub fn see(&mut self, alloc: Global, ask: &Option<Ask>) -> Result<Option<Seen>, AllocError>
         ensures same { self.new ≡ self.old }
-        ensures seen { (events : List OneEvent) → Stands self.old events → IfOk result (λ s. s ≡ shown events ask.now) }
+        ensures seen { (events : List OneEvent) → Stands self.old events → IfOk result (λ s. s ≡ looked events ask.now) }
     {
         seen_of(alloc, &mut self.book, ask)
     }

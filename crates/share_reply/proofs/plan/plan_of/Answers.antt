@@ -1,4 +1,5 @@
-use Rattle.std.proofs.Common.{subst, sym}
+use Rattle.std.proofs.Common.{option_map, subst, sym}
+use Rattle.share_book.specs.Shown.{show}
 use Rattle.share_request.specs.declared.asked.Request.{Request}
 use Rattle.share_reply.specs.Answer.{object}
 use Rattle.share_reply.specs.Chains.{NextIsSpelt}
@@ -11,9 +12,9 @@ use Rattle.share_reply.proofs.plan.plan_of.Goals as goal
 pub returns-in-TurnedAway-clause-spelt : goal.returns-in-TurnedAway-clause-spelt
 returns-in-TurnedAway-clause-spelt c =
     let keys = c.args.keys.now in
-    subst (λ (q : Request). NextIsSpelt keys (answer_from keys c.args.now q c.args.seen.now)) (sym c.in-TurnedAway.is) (early_spelt keys _)
+    subst (λ (q : Request). NextIsSpelt keys (answer_from keys c.args.now q (option_map show c.args.seen.now))) (sym c.in-TurnedAway.is) (early_spelt keys _)
 
 pub returns-in-ByLink-clause-spelt : goal.returns-in-ByLink-clause-spelt
 returns-in-ByLink-clause-spelt c =
     let keys = c.args.keys.now in
-    ok_all c.link_plan.result (subst (λ (q : Request). NextIsSpelt keys (answer_from keys c.args.now q c.args.seen.now)) (sym c.in-ByLink.is) (of_spelt keys (λ name. object name c.in-ByLink.by.span) (linked_object c.args.seen.now c.args.now (parts_of keys.link c.in-ByLink.by.target)) (λ name. tt)))
+    ok_all c.link_plan.result (subst (λ (q : Request). NextIsSpelt keys (answer_from keys c.args.now q (option_map show c.args.seen.now))) (sym c.in-ByLink.is) (of_spelt keys (λ name. object name c.in-ByLink.by.span) (linked_object (option_map show c.args.seen.now) c.args.now (parts_of keys.link c.in-ByLink.by.target)) (λ name. tt)))

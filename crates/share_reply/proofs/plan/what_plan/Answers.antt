@@ -1,5 +1,6 @@
 use Rattle.std.proofs.Common.{◌≡◌, ℕ, List, Result, subst, sym}
 use Rattle.std.specs.Prelude.{IfOk}
+use Rattle.share_book.specs.Shown.{show_found}
 use Rattle.share_book.specs.declared.look.Found.{Found}
 use Rattle.share_request.specs.declared.asked.What.{What}
 use Rattle.share_reply.specs.Answer.{at_version, names, of, one_share}
@@ -14,7 +15,7 @@ use Rattle.share_reply.proofs.plan.what_plan.Goals as goal
 pub returns-in-GetShare-clause-reply : goal.returns-in-GetShare-clause-reply
 returns-in-GetShare-clause-reply c =
     let keys = c.args.keys.now in
-    let P : What → Type 0 = λ what. IfOk c.share_plan.result (λ p. p ≡ reply_of keys (answer_what keys c.args.recipient.now c.args.now what c.args.found.now)) in
+    let P : What → Type 0 = λ what. IfOk c.share_plan.result (λ p. p ≡ reply_of keys (answer_what keys c.args.recipient.now c.args.now what (show_found c.args.found.now))) in
     subst P (sym c.in-GetShare.is) (c.share_plan.ensures keys)
 
 -- of what is asked, which is no page
@@ -24,29 +25,29 @@ no_page keys r now f w v result is spelt = ok_all result (subst (λ (x : What). 
 pub returns-in-ListShares-clause-spelt : goal.returns-in-ListShares-clause-spelt
 returns-in-ListShares-clause-spelt c =
     let keys = c.args.keys.now in
-    no_page keys c.args.recipient.now c.args.now c.args.found.now c.args.what.now _ _ c.in-ListShares.is (names_spelt keys _ c.args.found.now (λ seen. of_spelt keys names _ (λ n. tt)))
+    no_page keys c.args.recipient.now c.args.now (show_found c.args.found.now) c.args.what.now _ _ c.in-ListShares.is (names_spelt keys _ (show_found c.args.found.now) (λ seen. of_spelt keys names _ (λ n. tt)))
 
 pub returns-in-ListSchemas-clause-spelt : goal.returns-in-ListSchemas-clause-spelt
 returns-in-ListSchemas-clause-spelt c =
     let keys = c.args.keys.now in
-    no_page keys c.args.recipient.now c.args.now c.args.found.now c.args.what.now _ _ c.in-ListSchemas.is (names_spelt keys _ c.args.found.now (λ seen. of_spelt keys names _ (λ n. tt)))
+    no_page keys c.args.recipient.now c.args.now (show_found c.args.found.now) c.args.what.now _ _ c.in-ListSchemas.is (names_spelt keys _ (show_found c.args.found.now) (λ seen. of_spelt keys names _ (λ n. tt)))
 
 pub returns-in-ListTables-clause-spelt : goal.returns-in-ListTables-clause-spelt
 returns-in-ListTables-clause-spelt c =
     let keys = c.args.keys.now in
-    no_page keys c.args.recipient.now c.args.now c.args.found.now c.args.what.now _ _ c.in-ListTables.is (names_spelt keys _ c.args.found.now (λ seen. of_spelt keys names _ (λ n. tt)))
+    no_page keys c.args.recipient.now c.args.now (show_found c.args.found.now) c.args.what.now _ _ c.in-ListTables.is (names_spelt keys _ (show_found c.args.found.now) (λ seen. of_spelt keys names _ (λ n. tt)))
 
 pub returns-in-ListAll-clause-spelt : goal.returns-in-ListAll-clause-spelt
 returns-in-ListAll-clause-spelt c =
     let keys = c.args.keys.now in
-    no_page keys c.args.recipient.now c.args.now c.args.found.now c.args.what.now _ _ c.in-ListAll.is (names_spelt keys _ c.args.found.now (λ seen. of_spelt keys names _ (λ n. tt)))
+    no_page keys c.args.recipient.now c.args.now (show_found c.args.found.now) c.args.what.now _ _ c.in-ListAll.is (names_spelt keys _ (show_found c.args.found.now) (λ seen. of_spelt keys names _ (λ n. tt)))
 
 pub returns-in-GetShare-clause-spelt : goal.returns-in-GetShare-clause-spelt
 returns-in-GetShare-clause-spelt c =
     let keys = c.args.keys.now in
-    no_page keys c.args.recipient.now c.args.now c.args.found.now c.args.what.now _ _ c.in-GetShare.is (names_spelt keys _ c.args.found.now (λ seen. of_spelt keys one_share _ (λ n. tt)))
+    no_page keys c.args.recipient.now c.args.now (show_found c.args.found.now) c.args.what.now _ _ c.in-GetShare.is (names_spelt keys _ (show_found c.args.found.now) (λ seen. of_spelt keys one_share _ (λ n. tt)))
 
 pub returns-in-Version-clause-spelt : goal.returns-in-Version-clause-spelt
 returns-in-Version-clause-spelt c =
     let keys = c.args.keys.now in
-    no_page keys c.args.recipient.now c.args.now c.args.found.now c.args.what.now _ _ c.in-Version.is (table_spelt keys c.args.recipient.now c.in-Version.table (λ a part. of at_version (version_in part)) c.args.found.now (λ a part. of_spelt keys at_version (version_in part) (λ n. tt)))
+    no_page keys c.args.recipient.now c.args.now (show_found c.args.found.now) c.args.what.now _ _ c.in-Version.is (table_spelt keys c.args.recipient.now c.in-Version.table (λ spot a part. of at_version (version_in part)) (show_found c.args.found.now) (λ spot a part. of_spelt keys at_version (version_in part) (λ n. tt)))
