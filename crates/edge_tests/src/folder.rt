@@ -97,15 +97,15 @@ put in/records/1.json x failed
 put in/root/other x failed
 put in/outside/share-edge-std-other x failed
 put in/outside/share-edge-std-other/x x failed
-put in/root/in/more m stored
-has in/more m
+put in/root/in/more x failed
+absent in/more
 link _share_log/1.json 0.json
 link _share_log/2.json ../token
 link _share_log/3.json /etc/passwd
 has _share_log/1.json record
 has _share_log/2.json secret
 absent _share_log/3.json
-lists in away file more outside own passwords records root token twice
+lists in away file outside own passwords records root token twice
 # Pieces are those of the named object: names in another order than their bytes', and names of one length.
 put d/b1 first. stored
 put d/a2 second stored

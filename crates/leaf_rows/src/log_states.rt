@@ -24,7 +24,8 @@ struct Work;
 // More versions than a row has.
 const MOST_VERSIONS: u64 = 1_000_000;
 
-fn commit(alloc: Global, text: &[u8]) -> Result<Arc<Commit>, RowFault> {
+/// The commit of a text.
+pub(crate) fn commit(alloc: Global, text: &[u8]) -> Result<Arc<Commit>, RowFault> {
     match commit_of(alloc, text) {
         Ok(commit) => Ok(Arc::new(alloc, commit)?),
         Err(_) => Err(RowFault::Unknown("a commit")),

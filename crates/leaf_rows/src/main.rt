@@ -19,6 +19,7 @@ mod messages;
 mod names;
 mod partitions;
 mod ranges;
+mod servers;
 mod signs;
 mod tables;
 mod tokens;
@@ -46,8 +47,8 @@ macro_rules! first_knows {
 fn is_known(call: &str, given: &Given, out: &mut Answer) -> bool {
     first_knows!(
         call, given, out, asked, catalog, configs, doors, heads, lines, log_lines, log_loads,
-        log_states, memory, messages, names, partitions, ranges, signs, tables, tokens, trees,
-        wire
+        log_states, memory, messages, names, partitions, ranges, servers, signs, tables, tokens,
+        trees, wire
     );
     false
 }
