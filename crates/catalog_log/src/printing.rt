@@ -1,5 +1,5 @@
 // The record of an edit.
-ghost use Rattle.std.specs.Prelude.{◌≡◌, ◌<◌, ◌^◌, ◌++◌, ◌∷◌, [], Ok, Some, IfOk, IfSome, IsUtf8, OnOk, codes, length, option_map, string_bytes};
+ghost use Rattle.std.specs.Prelude.{◌≡◌, ◌<◌, ◌≤◌, ◌^◌, ◌++◌, ◌∷◌, [], Ok, Some, IfOk, IfSome, IsUtf8, OnOk, codes, length, option_map, string_bytes};
 ghost use Rattle.hex.specs.Hex.{IsBytes, encode_lower};
 ghost use Rattle.serde_json.specs.Data.{string};
 ghost use Rattle.json_print.specs.Fields.{object_of};
@@ -207,10 +207,11 @@ fn record_line(alloc: Global, edit: &Edit) -> Result<String, AllocError>
 
 /// The record of an edit: a compact JSON object of the edit and version 2, with the names in byte
 /// order and a line feed at its end. A binding has its first shared version always, and its
-/// restriction where there is one. It is read by `edit_of` as that edit. The error is want of memory.
+/// restriction where there is one. It has at most 16 MiB, and is read by `edit_of` as that edit. The error is want of memory.
 pub fn bytes_of_edit(alloc: Global, edit: &Edit) -> Result<Vec<u8>, AllocError>
     ensures text { IfOk result (λ v. v.items ≡ record_text edit.now) }
     ensures back { IfOk result (λ v. record_in v.items ≡ Ok edit.now) }
+    ensures short { IfOk result (λ v. length v.items ≤ 2 ^ 24) }
 {
     let mut text = record_line(alloc, edit)?;
     text.push_str("\n")?;

@@ -23,7 +23,7 @@ open_finds : (h : List Entry) (k : ℕ) (xs : List Step) → open_on 0 (h ++ fin
 open_finds h k [] = ap (open_on 0) (append-nil h)
 open_finds h k (x ∷ xs) = ap (open_on 0) (sym (append_assoc h (loading k x.load (FoundEdit x.edit)) (finds k xs))) ∙ (open_finds (h ++ loading k x.load (FoundEdit x.edit)) k xs ∙ open_found h k x.load x.edit)
 
-edits_finds : (h : List Entry) (k : ℕ) (xs : List Step) → edits (h ++ finds k xs) ≡ edits h ++ map edit_in xs
+pub edits_finds : (h : List Entry) (k : ℕ) (xs : List Step) → edits (h ++ finds k xs) ≡ edits h ++ map edit_in xs
 edits_finds h k [] = ap edits (append-nil h) ∙ sym (append-nil (edits h))
 edits_finds h k (x ∷ xs) =
     ap edits (sym (append_assoc h (loading k x.load (FoundEdit x.edit)) (finds k xs)))

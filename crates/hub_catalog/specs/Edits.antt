@@ -4,6 +4,7 @@ use Rattle.std.specs.Bool.{OnTrue}
 use Rattle.std.specs.FinMap as finmap
 use mathlib.Core.List.{IsPrefix}
 use Rattle.edge_core.specs.Objects.{Grows, Lacks, Objects, with_object}
+use Rattle.log_store.specs.Backed.{WasPut}
 use Rattle.log_store.specs.Loads.{Looked}
 use Rattle.catalog_log.specs.Printing.{record_text}
 use Rattle.catalog_log.specs.RecordNames.{record_name_of}
@@ -105,10 +106,13 @@ failed_edit _ = false
 abbrev pub OneMore : Option Objects → Option Objects → ℕ → Edit → Type 0
 OneMore old new n e = Lacks (record_name_of n) old × (new ≡ with_object (record_name_of n) (record_text e) old)
 
--- The record of that number is the text of the edit. Nothing else is new in a store that nobody else writes.
+-- The record of that number is the text of the edit, which was put, and is read as the edit. Nothing else is new in a store that nobody else
+-- writes.
 pub record Stored (old new : Option Objects) (was is : Bool) (n : ℕ) (e : Edit) : Type 0 where
   pub grows : Grows old new
   pub there : IfSome new (λ os. finmap.get os (record_name_of n) ≡ Some (record_text e))
+  pub put : WasPut old new (record_name_of n) (record_text e)
+  pub read : HasRecord new n e
   pub one : OnTrue was (OneMore old new n e)
   pub stays : OnTrue was (is ≡ true)
 

@@ -1,5 +1,5 @@
 -- What the steps of an edit do, one after another.
-use Rattle.std.specs.Prelude.{◌≡◌, ◌⊎◌, ℕ, ◌+◌, ◌≤◌, ◌<◌, Bool, true, false, List, [], ◌∷◌, Option, Some, None, Result, Ok, Err, IfSome, IsSome, length}
+use Rattle.std.specs.Prelude.{◌≡◌, ◌⊎◌, ℕ, ◌+◌, ◌^◌, ◌≤◌, ◌<◌, Bool, true, false, List, [], ◌∷◌, Option, Some, None, Result, Ok, Err, IfSome, IsSome, length}
 use Rattle.std.specs.FinMap as finmap
 use Rattle.edge_core.specs.Objects.{Grows, Lacks, Objects}
 use Rattle.log_store.specs.Loads.{Looked}
@@ -7,6 +7,7 @@ use Rattle.log_store.specs.declared.refusal.LoadRefusal.{LoadRefusal}
 use Rattle.log_store.specs.declared.refusal.LoadRefusal.TheVariants as load
 use Rattle.catalog_log.specs.Printing.{record_text}
 use Rattle.catalog_log.specs.RecordNames.{record_name_of}
+use Rattle.catalog_log.specs.Records.{record_in}
 use Rattle.share_catalog.specs.declared.edit.Edit.{Edit}
 use Rattle.share_catalog.specs.Catalogue.{refusal_of}
 use Rattle.share_book.specs.declared.entry.LogStart.{LogStart}
@@ -60,11 +61,13 @@ end_by (refusal.Blocked n) = end.CatalogBlocked n
 end_by refusal.StoreFault = end.StoreFault
 end_by refusal.NoMemory = end.NoMemory
 
--- what is made before a put: the edit with its shared copy and its log, the text of its record and the record's name
+-- what is made before a put: the edit with its shared copy and its log, the text of its record, which is read as the edit, and the record's name
 pub record IsMade (o : Own) (e : Edit) (l : Option LogStart) (n : ℕ) : Type 0 where
   pub new : o.new ≡ Some (record { edit = e; shared = e; load = l })
   pub text : o.bytes.items ≡ record_text e
   pub name : o.name ≡ record_name_of n
+  pub back : record_in o.bytes.items ≡ Ok e
+  pub short : length o.bytes.items ≤ 2 ^ 24
 
 -- the record was put, and the edit published after its log; another was there, and nothing was done; or the put failed or memory
 -- was wanting before it

@@ -1,9 +1,10 @@
 -- The states of a supported log, and the commit of an admitted offer.
 use Rattle.std.proofs.Common.{◌≡◌, ℕ, ◌+◌, ◌<◌, ◌≤◌, ◌^◌, List, [], ◌∷◌, ◌++◌, length, take, Bool, true, false, cond, nat_lt, Option, Some, None, Ok, is_some, option_map, sym, refl, ap, ◌∙◌, subst, arith, true≢false}
-use Rattle.std.specs.Prelude.{◌||◌, IfSome, drop}
+use Rattle.std.specs.Prelude.{◌||◌, ◌&&◌, not, IfSome, drop}
+use Rattle.std.specs.List.{list_all, list_any}
 use Rattle.std.specs.Option.{option_or}
 use Rattle.std.specs.Result.{result_ok}
-use Rattle.std.proofs.lemmas.Bool.{or_parts}
+use Rattle.std.proofs.lemmas.Bool.{and_parts, not-true, or_parts}
 use Rattle.std.proofs.lemmas.List.{length-drop, length-take, take_all}
 use Rattle.share_book.specs.Bases.{CanReplay, Makes, MakesHead}
 use Rattle.share_book.specs.Legal.{IsKeptLog, There}
@@ -13,12 +14,16 @@ use Rattle.share_book.specs.declared.replay.Replay.{Replay}
 use Rattle.share_book.specs.declared.table.LogState.{LogState}
 use Rattle.share_book.proofs.States.{supported_up_to}
 use Rattle.log_actions.specs.declared.actions.Action.{Action}
+use Rattle.log_actions.specs.declared.actions.Action.TheVariants as action
+use Rattle.log_actions.specs.declared.actions.AddFile.{AddFile}
 use Rattle.log_actions.specs.CommitTexts.{commit_text}
-use Rattle.log_replay.specs.Reconciliation.{actions_in, last_meta, last_protocol}
+use Rattle.log_actions.specs.Printing.{has_vector}
+use Rattle.log_replay.specs.Reconciliation.{actions_in, last_meta, last_protocol, live_files}
 use Rattle.log_replay.specs.Standing.{IsSupported}
 use Rattle.log_replay.specs.State.{IsHead, State, state_of}
 use Rattle.log_replay.specs.Support.{refusal_of}
 use Rattle.commit_check.specs.Admission.{absent, admitted, appends_only, bad_offer, bad_place, begins_badly, conflict_of, first_bad, is_bad_whole, is_long, read_ahead, unless_conflict, unwritten, whole_place, winners_conflict}
+use Rattle.commit_check.specs.Lawful.{begins_with_info, is_append_only, is_lawful, is_lawful_action}
 use Rattle.commit_check.specs.Offers.{commit_with, read_state}
 use Rattle.commit_check.specs.Winners.{next_version, winners}
 use Rattle.commit_check.specs.declared.conflict.Conflict.{Conflict}
@@ -145,3 +150,25 @@ admitted_fits log now o c is =
       supported = subst (λ (x : List Action). refusal_of (log ++ x ∷ []) ≡ None) (sym own.1) (not_some (refusal_of (log ++ all ∷ [])) parts.0);
       short = subst (λ (x : List Action). length (commit_text x) ≤ 2 ^ 24) (sym own.1) (not_long (length (commit_text all)) rest.1);
     }
+
+or_from : (x y : Bool) → x ≡ false → y ≡ false → (x || y) ≡ false
+or_from x y ex ey = rw (ex, ey) refl
+
+none_drawn : (files : List AddFile) (only : Bool) (c : List Action) → list_all (is_lawful_action files only) c ≡ true → list_any has_vector c ≡ false
+none_drawn files only [] all = refl
+none_drawn files only (action.Add f ∷ c) all =
+    let parts = and_parts (not f.vector) (list_all (is_lawful_action files only) c) all in
+    or_from f.vector (list_any has_vector c) (not-true f.vector parts.0) (none_drawn files only c parts.1)
+none_drawn files only (action.Remove f ∷ c) all =
+    let parts = and_parts (is_lawful_action files only (action.Remove f)) (list_all (is_lawful_action files only) c) all in
+    let own = and_parts (not f.vector) _ parts.0 in
+    or_from f.vector (list_any has_vector c) (not-true f.vector own.0) (none_drawn files only c parts.1)
+none_drawn files only (action.Protocol x ∷ c) all = none_drawn files only c all
+none_drawn files only (action.MetaData x ∷ c) all = none_drawn files only c all
+none_drawn files only (action.Cdc x ∷ c) all = none_drawn files only c all
+none_drawn files only (action.Txn x ∷ c) all = none_drawn files only c all
+none_drawn files only (action.CommitInfo x ∷ c) all = none_drawn files only c all
+
+-- a commit that a server adds has no deletion vector
+pub plain_own : (log : List (List Action)) (c : List Action) → is_lawful log c ≡ true → list_any has_vector c ≡ false
+plain_own log c is = none_drawn (live_files (actions_in log)) (is_append_only (last_meta (actions_in log))) c (and_parts (begins_with_info c) _ is).1

@@ -258,6 +258,10 @@ fits_there now o p s j c g a = there_still p s j (λ t. IsFit t.commits c) g (fi
     fits None w = w
     fits (Some t) w = admitted_fits t.commits now o c w
 
+-- what fits fits the log that is held
+pub fits_held : (p : P) (j : ℕ) (h : LogHead) (c : List Action) → (x : HoldsHead p j h) → There (table_on j p.seen) (λ t. IsFit t.commits c) → IsFit x.log.commits c
+fits_held p j h c x f = there_at (table_on j p.seen) x.log (λ t. IsFit t.commits c) x.holds.table f
+
 pub short_of : (p : P) (j : ℕ) (h : LogHead) (c : List Action) (len : ℕ) → HoldsHead p j h → There (table_on j p.seen) (λ t. IsFit t.commits c) → len ≡ min (length (commit_text c)) (2 ^ 64 - 1) → len ≡ length (commit_text c)
 short_of p j h c len x f e =
     let fit : IsFit x.log.commits c = there_at (table_on j p.seen) x.log (λ t. IsFit t.commits c) x.holds.table f in

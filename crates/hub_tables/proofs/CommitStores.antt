@@ -1,11 +1,14 @@
 -- What a commit leaves in the store.
-use Rattle.std.proofs.Common.{◌≡◌, ◌⊎◌, ℕ, List, [], ◌∷◌, ◌++◌, Bool, true, Option, Some, None, Result, Ok, Err, sym, ap, ◌∙◌, subst, inl, inr}
+use Rattle.std.proofs.Common.{◌≡◌, ◌⊎◌, ℕ, List, [], ◌∷◌, ◌++◌, Bool, true, Option, Some, None, Result, Ok, Err, IfSome, option_map, sym, ap, ◌∙◌, subst, inl, inr}
 use Rattle.std.specs.Bool.{OnTrue}
+use Rattle.std.specs.FinMap as finmap
 use Rattle.edge_core.specs.Objects.{Fails, Grows, Lacks, Objects, Stores}
-use Rattle.edge_core.proofs.Growth.{Grows-on}
+use Rattle.edge_core.proofs.Growth.{Grows-itself, Grows-on}
 use Rattle.log_actions.specs.declared.actions.Action.{Action}
 use Rattle.log_actions.specs.CommitTexts.{commit_text}
 use Rattle.log_commit.specs.Names.{commit_name}
+use Rattle.log_commit.specs.Texts.{commit_in}
+use Rattle.log_store.specs.Backed.{HasCommit, WasPut}
 use Rattle.log_store.specs.Loads.{Looked}
 use Rattle.log_store.proofs.Growing.{looked_more}
 use Rattle.commit_check.specs.Admission.{admitted}
@@ -36,7 +39,7 @@ use Rattle.hub_tables.proofs.TablePasses.{with_none}
 pub placed_at : (old new : Option Objects) (was is : Bool) (name name' bytes bytes' text : List ℕ) → name ≡ name' → bytes ≡ bytes' → bytes' ≡ text → Stores old new was name bytes → OnTrue was (is ≡ true) → Places old new was is name' text
 placed_at old new was is name name' bytes bytes' text qn qb qt s t =
     let s' : Stores old new was name' text = subst (λ (x : List ℕ). Stores old new was name' x) (qb ∙ qt) (subst (λ (x : List ℕ). Stores old new was x bytes) qn s) in
-    record { grows = s'.grows; there = s'.there; one = on_both was (Lacks name' old) _ s'.absent s'.only; stays = t }
+    record { grows = s'.grows; there = s'.there; put = record { before = old; after = new; from = Grows-itself old; absent = s'.absent; there = s'.there; to = Grows-itself new }; one = on_both was (Lacks name' old) _ s'.absent s'.only; stays = t }
 
 pub perhaps_at : (old new : Option Objects) (was is : Bool) (name name' bytes bytes' text : List ℕ) → name ≡ name' → bytes ≡ bytes' → bytes' ≡ text → Fails old new was name bytes → OnTrue was (is ≡ true) → AtMost old new was is (IsOneMore old new name' text)
 perhaps_at old new was is name name' bytes bytes' text qn qb qt s t =
@@ -45,11 +48,15 @@ perhaps_at old new was is name name' bytes bytes' text qn qb qt s t =
 
 -- ---- one after another
 
+put_after : (old mid new : Option Objects) (name text : List ℕ) → Grows old mid → WasPut mid new name text → WasPut old new name text
+put_after old mid new name text g p = record { before = p.before; after = p.after; from = Grows-on old mid p.before g p.from; absent = p.absent; there = p.there; to = p.to }
+
 -- a look that stores nothing, and then a call that stores one object
 places_after : (old mid new : Option Objects) (a b c : Bool) (name text : List ℕ) → Looked old mid a b → Places mid new b c name text → Places old new a c name text
 places_after old mid new a b c name text l s = record {
   grows = Grows-on old mid new l.grows s.grows;
   there = s.there;
+  put = put_after old mid new name text l.grows s.put;
   one = on_after a b (mid ≡ old) (IsOneMore mid new name text) (IsOneMore old new name text) (λ v w. subst (λ (o : Option Objects). IsOneMore o new name text) v w) l.stays l.same s.one;
   stays = stays_more a b c l.stays s.stays;
 }
@@ -75,7 +82,7 @@ pub ended_left : (r : Option (Result ℕ CommitRefusal)) (x : CommitRefusal) (no
 ended_left r x now o j old new was is q e l = subst (λ (y : Option (Result ℕ CommitRefusal)). RoundLeft y now o j old new was is q) (sym e) (looked_left x now o j old new was is q l)
 
 pub left_after : (r : Result ℕ CommitRefusal) (now : ℕ) (o : Offer) (j : ℕ) (old mid new : Option Objects) (a b c : Bool) (q : P) → Looked old mid a b → CommitLeft r now o j mid new b c q → CommitLeft r now o j old new a c q
-left_after (Ok v) now o j old mid new a b c q l w = (w.0, w.1, places_after old mid new a b c (commit_name o.location v) (commit_text w.0) l w.2)
+left_after (Ok v) now o j old mid new a b c q l w = (w.0, w.1, places_after old mid new a b c (commit_name o.location v) (commit_text w.0) l w.2, w.3)
 left_after (Err refusal.NotLoaded) now o j old mid new a b c q l w = looked_more old mid new a b c l w
 left_after (Err (refusal.Blocked n)) now o j old mid new a b c q l w = looked_more old mid new a b c l w
 left_after (Err refusal.Contended) now o j old mid new a b c q l w = looked_more old mid new a b c l w
@@ -100,13 +107,20 @@ left_grows (Err refusal.NoMemory) now o j old new was is q w = w.grows
 
 -- ---- the caller's own commit
 
-pub own_left : (now : ℕ) (o : Offer) (j : ℕ) (h : LogHead) (version : ℕ) (old new : Option Objects) (was is : Bool) (s q : P) (c : List Action) → version ≡ h.support.versions → q.number ≡ s.number → StopsOn s q j [] (Own c ∷ []) → Places old new was is (commit_name o.location h.support.versions) (commit_text c)
+-- a text that is read as its commit, under a version's name
+has_commit : (location : List ℕ) (new : Option Objects) (version : ℕ) (c : List Action) → commit_in (commit_text c) ≡ Ok c → IfSome new (λ os. finmap.get os (commit_name location version) ≡ Some (commit_text c)) → HasCommit location new version c
+has_commit location None version c back there = tt
+has_commit location (Some os) version c back there = ap (option_map commit_in) there ∙ ap (λ r. Some r) back
+
+pub own_left : (now : ℕ) (o : Offer) (j : ℕ) (h : LogHead) (version : ℕ) (old new : Option Objects) (was is : Bool) (s q : P) (c : List Action) → version ≡ h.support.versions → q.number ≡ s.number → StopsOn s q j [] (Own c ∷ []) × (commit_in (commit_text c) ≡ Ok c) → Places old new was is (commit_name o.location h.support.versions) (commit_text c)
     → CommitLeft (Ok version) now o j old new was is q
-own_left now o j h version old new was is s q c v n st w = (
-  c,
-  (st.before, st.last ∙ ap (λ (k : ℕ). st.before ++ entry k j (Own c) ∷ []) (sym n)),
-  subst (λ (m : ℕ). Places old new was is (commit_name o.location m) (commit_text c)) (sym v) w,
-)
+own_left now o j h version old new was is s q c v n (st, back) w =
+    let placed : Places old new was is (commit_name o.location version) (commit_text c) = subst (λ (m : ℕ). Places old new was is (commit_name o.location m) (commit_text c)) (sym v) w in (
+      c,
+      (st.before, st.last ∙ ap (λ (k : ℕ). st.before ++ entry k j (Own c) ∷ []) (sym n)),
+      placed,
+      has_commit o.location new version c back placed.there,
+    )
 
 pub fault_left : (now : ℕ) (o : Offer) (j : ℕ) (h : LogHead) (old new : Option Objects) (was is : Bool) (s q : P) (c : List Action) → (x : HoldsHead s j h) → There (table_on j s.seen) (λ t. admitted t.commits now o ≡ Ok c) → StopsOn s q j [] (Abort ∷ [])
     → AtMost old new was is (IsOneMore old new (commit_name o.location h.support.versions) (commit_text c)) → CommitLeft (Err refusal.StoreFault) now o j old new was is q

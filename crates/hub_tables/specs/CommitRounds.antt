@@ -1,9 +1,10 @@
 -- What the steps of a commit do, one after another.
-use Rattle.std.specs.Prelude.{◌≡◌, ℕ, ◌+◌, ◌^◌, ◌≤◌, ◌<◌, Bool, true, false, List, [], ◌∷◌, ◌++◌, Option, Some, None, Result, Err, IfSome, IsSome, length}
+use Rattle.std.specs.Prelude.{◌≡◌, ℕ, ◌+◌, ◌^◌, ◌≤◌, ◌<◌, Bool, true, false, List, [], ◌∷◌, ◌++◌, Option, Some, None, Result, Ok, Err, IfSome, IsSome, length}
 use Rattle.std.specs.FinMap as finmap
 use Rattle.edge_core.specs.Objects.{Objects}
 use Rattle.log_actions.specs.declared.actions.Action.{Action}
 use Rattle.log_actions.specs.CommitTexts.{commit_text, printed_bytes}
+use Rattle.log_commit.specs.Texts.{commit_in}
 use Rattle.log_replay.specs.Support.{refusal_of}
 use Rattle.log_store.specs.Loads.{Looked}
 use Rattle.commit_check.specs.Lawful.{is_lawful}
@@ -41,9 +42,9 @@ pub record IsFit (log : List (List Action)) (c : List Action) : Type 0 where
 
 -- ---- the put
 
--- The commit was put and published; another object has its name, and nothing was done; or the caller ended what it began.
+-- The commit was put and published, and its text is read as it; another object has its name, and nothing was done; or the caller ended what it began.
 abbrev pub PlacesOn : PlaceEnd → ℕ → List Action → P → P → Type 0
-PlacesOn place.Done j c p q = StopsOn p q j [] (Own c ∷ [])
+PlacesOn place.Done j c p q = StopsOn p q j [] (Own c ∷ []) × (commit_in (commit_text c) ≡ Ok c)
 PlacesOn place.Exists j c p q = q ≡ p
 PlacesOn place.Limit j c p q = StopsOn p q j [] (Abort ∷ []) × There (table_on j p.seen) (λ t. 2 ^ 26 < printed_bytes (t.commits ++ c ∷ []))
 PlacesOn place.StoreFault j c p q = StopsOn p q j [] (Abort ∷ [])

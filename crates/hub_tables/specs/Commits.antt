@@ -4,6 +4,7 @@ use Rattle.edge_core.specs.Objects.{Lacks, Objects}
 use Rattle.log_actions.specs.declared.actions.Action.{Action}
 use Rattle.log_actions.specs.CommitTexts.{commit_text, printed_bytes}
 use Rattle.log_commit.specs.Names.{commit_name}
+use Rattle.log_store.specs.Backed.{HasCommit}
 use Rattle.log_store.specs.Loads.{Looked}
 use Rattle.commit_check.specs.Admission.{admitted}
 use Rattle.commit_check.specs.declared.offer.Offer.{Offer}
@@ -72,10 +73,10 @@ EndsOwn q j c = (before : List Entry) × (q.seen ≡ before ++ entry q.number j 
 abbrev pub HasNext : ℕ → Offer → Option Objects → Option Objects → List (List Action) → Type 0
 HasNext now o old new log = (c : List Action) × (admitted log now o ≡ Ok c) × IsOneMore old new (commit_name o.location (length log)) (commit_text c)
 
--- What is stored: after Ok the printed text of the commit that was published, under the name of its version; after a fault perhaps that of the
--- admitted one, under the next version's; else nothing.
+-- What is stored: after Ok the printed text of the commit that was published, under the name of its version, which is read as this commit; after
+-- a fault perhaps that of the admitted one, under the next version's; else nothing.
 abbrev pub CommitLeft : Result ℕ CommitRefusal → ℕ → Offer → ℕ → Option Objects → Option Objects → Bool → Bool → P → Type 0
-CommitLeft (Ok v) now o j old new was is q = (c : List Action) × EndsOwn q j c × Places old new was is (commit_name o.location v) (commit_text c)
+CommitLeft (Ok v) now o j old new was is q = (c : List Action) × EndsOwn q j c × Places old new was is (commit_name o.location v) (commit_text c) × HasCommit o.location new v c
 CommitLeft (Err refusal.StoreFault) now o j old new was is q = AtMost old new was is (There (table_on j q.seen) (λ t. HasNext now o old new t.commits))
 CommitLeft _ now o j old new was is q = Looked old new was is
 

@@ -1,8 +1,11 @@
 // Commits of offers to tables' logs.
-ghost use Rattle.std.specs.Prelude.{◌≡◌, ◌≤◌, ◌∷◌, [], false, IfOk, None, Some, length};
+ghost use Rattle.std.specs.Prelude.{◌≡◌, ◌≤◌, ◌∷◌, ◌^◌, [], Ok, false, IfOk, None, Some, length};
+ghost use Rattle.std.specs.List.{list_any};
 ghost use Rattle.edge_core.specs.Faults.{Cause};
 ghost use Rattle.log_actions.specs.CommitTexts.{commit_text};
+ghost use Rattle.log_actions.specs.Printing.{has_vector};
 ghost use Rattle.log_commit.specs.Names.{commit_name};
+ghost use Rattle.log_commit.specs.Texts.{commit_in};
 ghost use Rattle.log_store.specs.Loads.{Looked};
 ghost use Rattle.commit_check.specs.Admission.{Answers, admitted};
 ghost use Rattle.share_book.specs.History.{table_on};
@@ -91,6 +94,7 @@ fn prepare(
     requires short { length location.now ≤ 256 }
     ensures same { IfOk result (λ o. (o.held.value ≡ commit) × (o.shared ≡ commit)) }
     ensures stored { IfOk result (λ o. (o.name ≡ commit_name location.now version) × (o.bytes.items ≡ commit_text commit)) }
+    ensures back { IfOk result (λ o. list_any has_vector commit ≡ false → length (commit_text commit) ≤ 2 ^ 24 → commit_in (commit_text commit) ≡ Ok commit) }
 {
     if version >= 1 << 63 {
         return Err(AllocError);

@@ -1,8 +1,9 @@
 -- Objects that grow over calls that store nothing.
-use Rattle.std.proofs.Common.{◌≡◌, Option, refl, ◌∙◌, subst, Bool, true, false}
+use Rattle.std.proofs.Common.{◌≡◌, ℕ, List, Option, refl, ◌∙◌, subst, Bool, true, false}
 use Rattle.std.specs.Bool.{OnTrue}
-use Rattle.edge_core.specs.Objects.{Objects, Looks}
+use Rattle.edge_core.specs.Objects.{Grows, Objects, Looks}
 use Rattle.edge_core.proofs.Growth.{Grows-itself, Grows-on}
+use Rattle.log_store.specs.Backed.{WasPut}
 use Rattle.log_store.specs.Loads.{Looked}
 
 same_still : (b : Bool) (o : Option Objects) → OnTrue b (o ≡ o)
@@ -33,3 +34,7 @@ looked_once a b p q h stays = record { grows = h.grows; same = h.same; stays = s
 -- one call more
 pub looks_more : (a b c : Option Objects) (p q r : Bool) → Looked a b p q → Looks b c q → OnTrue q (r ≡ true) → Looked a c p r
 looks_more a b c p q r h k stays = looked_more a b c p q r h (looked_once b c q r k stays)
+
+-- what was put within a call was put within a longer one
+pub put_wider : (a b c d : Option Objects) (name bytes : List ℕ) → Grows a b → Grows c d → WasPut b c name bytes → WasPut a d name bytes
+put_wider a b c d name bytes g h p = record { before = p.before; after = p.after; from = Grows-on a b p.before g p.from; absent = p.absent; there = p.there; to = Grows-on p.after c d p.to h }

@@ -55,7 +55,7 @@ cause_is : (location : List ℕ) (os : Objects) (version : ℕ) (kept : List (Li
     → cause_at location os version ≡ cause_found kept (text_at location os version)
 cause_is location os version kept bytes is there = rw (there, is) refl
 
-more_at : (location : List ℕ) (os : Objects) (version : ℕ) (kept next : List (List Action)) (own : List Action) (bytes : List ℕ) → text_at location os version ≡ Some bytes
+pub more_at : (location : List ℕ) (os : Objects) (version : ℕ) (kept next : List (List Action)) (own : List Action) (bytes : List ℕ) → text_at location os version ≡ Some bytes
     → IsReading location os version kept → Adds kept next (text_at location os version) own → IsReading location os (version + 1) next
 more_at location os version kept next own bytes there so adds = record {
   commits = adds.after ∙ ap (λ cs. cs ++ own ∷ []) so.commits ∙ sym (commits_more location os version own (given_at (text_at location os version) own adds.read));

@@ -3,3 +3,4 @@ pub mod Fetching
 pub mod Keeping
 pub mod VersionLemmas
 pub mod Loading
+pub mod Backing

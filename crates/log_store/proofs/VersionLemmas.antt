@@ -122,7 +122,7 @@ leading_has first (w ∷ vs) v low lt =
       | false ↦ λ e lt. absurd (omega (arith, low, lt))
     ] refl lt
 
-max_keeps : (a : ℕ) (vs : List ℕ) → a ≤ fold (λ end v. max end (v + 1)) a vs
+pub max_keeps : (a : ℕ) (vs : List ℕ) → a ≤ fold (λ end v. max end (v + 1)) a vs
 max_keeps a [] = omega arith
 max_keeps a (v ∷ vs) = let h = max_keeps (max a (v + 1)) vs in omega (arith, h)
 

@@ -2,3 +2,4 @@ pub mod Log
 pub mod Reading
 pub mod Refusals
 pub mod Loads
+pub mod Backed

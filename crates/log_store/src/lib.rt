@@ -2,6 +2,7 @@
 #![tactic(auto)]
 
 mod kept;
+mod law;
 mod loaded;
 mod log;
 mod probing;
@@ -10,6 +11,7 @@ mod refusal;
 mod versions;
 
 pub use kept::{Kept, MOST_LOG_BYTES};
+pub use law::backed_logs_are_loaded;
 pub use loaded::{Block, BlockCause, Commits, Loaded};
 pub use log::load;
 pub use probing::{Probed, probe};

@@ -21,7 +21,7 @@ use Rattle.share_catalog.specs.declared.table_name.TableName.{TableName}
 use Rattle.share_catalog.proofs.ViewLemmas.{tables_are_shown}
 use Rattle.share_book.specs.Looks.{found_in, look_of, table_found}
 use Rattle.share_book.specs.Parts.{feed_by, feed_of, files_of, found_of, from_first, head_found, is_latest, pinned_found, resolved_at, state_at, unrestricted, version_found, with_files}
-use Rattle.share_book.specs.Shown.{IsFrom, LooksAreShown, NothingBeforeFirst, ShownPartsAreFound, show, show_found, show_part}
+use Rattle.share_book.specs.Shown.{IsFrom, LooksAreShown, NothingFoundBeforeFirst, ShownPartsAreFound, show, show_found, show_part}
 use Rattle.share_book.specs.Views.{Log, View, bare, held, seen_log, shown, shown_log, shown_result, view_with}
 use Rattle.share_book.specs.declared.look.Found.TheVariants as found
 use Rattle.share_book.specs.declared.look.Part.{Part}
@@ -212,7 +212,7 @@ since_whole : (first : ℕ) (only : Option (List ℕ)) (p : PartFound) → IsFro
 since_whole first None p from = from
 since_whole first (Some text) p from = tt
 
-pub nothing_before_first : NothingBeforeFirst
+pub nothing_before_first : NothingFoundBeforeFirst
 nothing_before_first spot log part.Place = tt
 nothing_before_first spot log (part.Head b) = since_head spot _ (resolved_at log b)
 nothing_before_first spot log (part.Files b) = since_files log spot.first (head_found spot log b) (since_head spot _ (resolved_at log b))

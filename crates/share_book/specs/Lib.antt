@@ -16,3 +16,4 @@ pub mod Books
 pub mod Bases
 pub mod Making
 pub mod Pinning
+pub mod Placed

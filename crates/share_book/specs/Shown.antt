@@ -42,5 +42,5 @@ IsFrom first (part_found.Feed feed) = first ≤ feed.from
 IsFrom first found = ⊤
 
 -- No version is found before the first that is shared.
-abbrev pub NothingBeforeFirst : Type 0
-NothingBeforeFirst = (spot : Spot) (log : Log) (p : Part) → IsFrom spot.first (found_of spot log p)
+abbrev pub NothingFoundBeforeFirst : Type 0
+NothingFoundBeforeFirst = (spot : Spot) (log : Log) (p : Part) → IsFrom spot.first (found_of spot log p)

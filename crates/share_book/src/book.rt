@@ -1,5 +1,5 @@
 // What the turn is taken for.
-ghost use Rattle.std.specs.Prelude.{◌≡◌, ℕ, ◌<◌, ◌≤◌, ◌+◌, ◌-◌, ◌++◌, ◌∷◌, [], length, slice_get, slice_index, None, Some, IfOk, IfSome, OnOk, OnErr, IsSome, MatchBool, true, drop, map, position};
+ghost use Rattle.std.specs.Prelude.{◌≡◌, ℕ, ◌<◌, ◌≤◌, ◌+◌, ◌-◌, ◌++◌, ◌∷◌, [], length, slice_get, slice_index, None, Some, IfOk, IfSome, OnOk, OnErr, IsSome, MatchBool, true, false, drop, map, position};
 ghost use Rattle.std.specs.List.{list_any};
 ghost use Rattle.share_catalog.specs.Catalogue.{bound_location, refusal_of};
 ghost use Rattle.share_catalog.specs.CatalogState.{unless};
@@ -22,9 +22,10 @@ ghost use Rattle.share_book.specs.declared.entry.Act.TheVariants as act;
 
 use crate::entry::{Act, Entry, SharedCommit, SharedEdit};
 use crate::log_part::{SeenLog, part_found};
-use crate::look::{Ask, Found, Look, Part, PartFound, Pinned, Seen, SharedSnapshot, Want};
+use crate::look::{Ask, Found, Look, Part, PartFound, Pinned, Seen, Want};
 use crate::past::Past;
 use crate::replay::Replay;
+use crate::snapshot::SharedSnapshot;
 use crate::snapshots::MOST;
 use crate::spots::{names_of, recipient_of, spot_of};
 use crate::table::{LogState, ReadyLog, Table};
@@ -43,7 +44,7 @@ use turn_cell::Kept;
 #[derive(Drop)]
 pub struct Book {
     past: Past,
-    catalog: Catalog,
+    pub(crate) catalog: Catalog,
     tables: Vec<Table>,
 }
 
@@ -105,11 +106,12 @@ fn is_table_at(table: &Table, location: &str) -> bool
 
 // What is found where no recipient is.
 fn nobody(at: u64) -> Pinned
-    ensures { result ≡ record { look = record { at = at; seen = None }; replay = None } }
+    ensures { result ≡ record { look = record { at = at; seen = None }; replay = None; is_later = false } }
 {
     Pinned {
         look: Look { at, seen: None },
         replay: None,
+        is_later: false,
     }
 }
 
@@ -448,6 +450,7 @@ impl Book {
                 seen: Some(seen),
             },
             replay,
+            is_later: ask.is_later(),
         })
     }
 

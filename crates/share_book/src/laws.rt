@@ -1,7 +1,7 @@
 // Laws of histories. Each function does nothing when it is called.
 ghost use Rattle.share_book.specs.Laws.{EditionsRise, ForeignEntriesLeaveViews, FrontsAreLegal, LogsGrow, LogsHaveStates, OthersLeaveCatalogue, OthersLeaveLogs, TokensShowViews, VersionsHaveStates, ViewsAreShown};
 ghost use Rattle.share_book.specs.Looks.{GlancesBecomeLooks};
-ghost use Rattle.share_book.specs.Shown.{LooksAreShown, NothingBeforeFirst, ShownPartsAreFound};
+ghost use Rattle.share_book.specs.Shown.{LooksAreShown, NothingFoundBeforeFirst, ShownPartsAreFound};
 
 /// A law: as a history goes on, its logs only grow, no edition falls, and each beginning of a legal one is legal. It does nothing
 /// when it is called.
@@ -44,5 +44,5 @@ pub fn glances_become_looks()
 pub fn what_is_shown_is_seen()
     ensures parts { ShownPartsAreFound }
     ensures looks { LooksAreShown }
-    ensures first { NothingBeforeFirst }
+    ensures first { NothingFoundBeforeFirst }
 {}

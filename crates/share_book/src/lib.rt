@@ -4,11 +4,15 @@
 mod book;
 mod complete;
 mod entry;
+mod known;
 mod laws;
 mod log_part;
 mod look;
 mod past;
+mod places;
 mod replay;
+mod shown;
+mod snapshot;
 mod snapshots;
 mod spots;
 mod table;
@@ -20,8 +24,10 @@ pub use laws::{
     versions_have_states, what_is_shown_is_seen,
 };
 pub use look::{
-    Ask, FeedPart, Found, Look, Marks, Names, Part, PartFound, Pinned, Seen, SharedSnapshot, Spot,
-    TableRefusal, Want, Who,
+    Ask, FeedPart, Found, Look, Marks, Names, Part, PartFound, Pinned, Seen, Spot, TableRefusal,
+    Want, Who,
 };
 pub use replay::Replay;
+pub use shown::ShownFiles;
+pub use snapshot::SharedSnapshot;
 pub use table::{LogState, ReadyLog, ready};

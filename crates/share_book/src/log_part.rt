@@ -10,8 +10,9 @@ ghost use Rattle.share_book.specs.declared.look.PartFound.TheVariants as found_i
 ghost use Rattle.share_book.specs.Views.{Log, seen_log, whole_log};
 
 use crate::entry::SharedCommit;
-use crate::look::{FeedPart, Marks, Part, PartFound, SharedSnapshot, Spot, TableRefusal};
+use crate::look::{FeedPart, Marks, Part, PartFound, Spot, TableRefusal};
 use crate::replay::Replay;
+use crate::snapshot::SharedSnapshot;
 use crate::snapshots::Snapshots;
 use crate::table::{Table, shared};
 use json_tree::Version;

@@ -1,14 +1,13 @@
 // What is asked of a book for one request, and what is found.
 use crate::entry::SharedCommit;
 use crate::replay::Replay;
+use crate::snapshot::SharedSnapshot;
 use edge_core::Name;
 use json_tree::{Edition, Millis, Text, Version};
-use log_replay::{Bound, Mark, Snapshot};
+use log_replay::{Bound, Mark};
 use log_store::Commits;
 use share_catalog::{Binding, CatalogName, TableName};
-use std::alloc::AllocError;
 use std::marker::Model;
-use std::sync::Arc;
 
 /// By what a recipient is found.
 #[derive(Drop)]
@@ -52,6 +51,13 @@ pub struct Ask {
     pub who: Who,
     /// For what.
     pub want: Want,
+}
+
+impl Ask {
+    /// Whether files of a version that was told before are asked, as each page but the first asks them.
+    pub fn is_later(&self) -> bool {
+        matches!(&self.want, Want::Table(_, Part::PinnedFiles(_)))
+    }
 }
 
 /// The names that a recipient sees.
@@ -233,53 +239,6 @@ impl Marks {
     }
 }
 
-/// The state of a table at a version, which several hold. Contracts see the state.
-#[derive(Drop)]
-pub struct SharedSnapshot {
-    held: Arc<Snapshot>,
-}
-
-impl Model for SharedSnapshot {
-    ghost use Rattle.log_replay.specs.State.{State};
-
-    ghost Value = { State };
-
-    ghost view = { λ s. s.held.value };
-}
-
-impl SharedSnapshot {
-    ghost use Rattle.std.specs.Prelude.{◌≡◌, IfOk};
-
-    /// The same snapshot, seen as its state alone.
-    pub fn of(held: Arc<Snapshot>) -> SharedSnapshot
-        ensures { result ≡ held.value }
-    {
-        SharedSnapshot { held }
-    }
-
-    /// The snapshot.
-    pub fn get(&self) -> &Snapshot
-        ensures { result.now ≡ self.now }
-    {
-        &self.held
-    }
-
-    /// Its version.
-    pub fn version(&self) -> u64
-        ensures { result ≡ self.now.version }
-    {
-        self.held.version()
-    }
-
-    /// The same snapshot again, for another holder. The error is want of memory.
-    pub fn share(&self) -> Result<SharedSnapshot, AllocError>
-        ensures { IfOk result (λ s. s ≡ self.now) }
-    {
-        let held = Arc::try_clone(&self.held)?;
-        Ok(SharedSnapshot { held })
-    }
-}
-
 /// What changed in some versions of a table.
 #[derive(Drop)]
 pub struct FeedPart {
@@ -351,13 +310,29 @@ pub struct Pinned {
     pub look: Look,
     /// What makes the state of that version, none where no files are asked or no version is found.
     pub replay: Option<Replay>,
+    /// Whether more pages of the files are to be expected, so that a list of those that are shown is of use.
+    pub is_later: bool,
+}
+
+/// The restriction of which the state that a look found is to have a list of the files that are shown, where one is of use.
+pub(crate) fn listed_by(look: &Look, is_later: bool) -> Option<&str> {
+    if !is_later {
+        return None;
+    }
+    match &look.seen {
+        Some(seen) => match &seen.found {
+            Found::Table(spot, _) => spot.only(),
+            Found::Names(_) | Found::NoTable => None,
+        },
+        None => None,
+    }
 }
 
 impl Pinned {
-    /// Whether commits are left to replay.
+    /// Whether commits are left to replay, or files to list.
     pub fn is_behind(&self) -> bool {
         match &self.replay {
-            Some(replay) => !replay.commits.items().is_empty(),
+            Some(replay) => !replay.is_made(listed_by(&self.look, self.is_later)),
             None => false,
         }
     }

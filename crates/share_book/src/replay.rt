@@ -8,7 +8,7 @@ ghost use Rattle.log_replay.specs.Standing.{IsSupported};
 ghost use Rattle.log_replay.specs.State.{state_of};
 ghost use Rattle.share_book.specs.Bases.{CanReplay, Makes};
 
-use crate::look::SharedSnapshot;
+use crate::snapshot::SharedSnapshot;
 use log_actions::Commit;
 use log_replay::{NoState, Snapshot, advance, replay};
 use log_store::Commits;
@@ -82,6 +82,14 @@ fn state_after<L>(
 struct Work;
 
 impl Replay {
+    /// Whether nothing is left to do: the state is at hand, with a list of what the restriction shows.
+    pub(crate) fn is_made(&self, only: Option<&str>) -> bool {
+        match &self.base {
+            Some(state) => self.commits.items().is_empty() && state.shown(only).is_some(),
+            None => false,
+        }
+    }
+
     /// The state of a supported log of one commit or more, of which this is the base with the commits after it. The error is want of
     /// memory.
     pub fn made(&self, alloc: Global) -> Result<SharedSnapshot, AllocError>

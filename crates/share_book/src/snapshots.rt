@@ -4,7 +4,7 @@ ghost use Rattle.log_replay.specs.State.{State};
 ghost use Rattle.share_book.specs.Bases.{IsAtMost};
 ghost use Rattle.share_book.specs.Pinning.{later};
 
-use crate::look::SharedSnapshot;
+use crate::snapshot::SharedSnapshot;
 use lru::LruCache;
 use std::alloc::{AllocError, Global};
 use std::marker::Model;

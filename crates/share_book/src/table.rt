@@ -9,7 +9,7 @@ ghost use Rattle.share_book.specs.Bases.{AllStatesIn, IsStateIn};
 ghost use Rattle.share_book.specs.Tables.{IsState, with_block, with_commit};
 
 use crate::entry::LogStart;
-use crate::look::SharedSnapshot;
+use crate::snapshot::SharedSnapshot;
 use crate::snapshots::Snapshots;
 use edge_core::Name;
 use log_actions::Commit;

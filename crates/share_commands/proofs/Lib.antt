@@ -7,3 +7,4 @@ mod Hosting
 pub mod Calling
 mod Acting
 mod Promise
+pub mod Added

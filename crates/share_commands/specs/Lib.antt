@@ -9,3 +9,4 @@ pub mod Run
 pub mod Steps
 pub mod Expected
 pub mod Headline
+pub mod Standing

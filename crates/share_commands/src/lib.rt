@@ -11,6 +11,6 @@ mod stdio;
 mod words;
 
 pub use commands::run;
-pub use law::headline;
+pub use law::{headline, what_runs_add_stands};
 pub use query_command::{Edge, End, tell_memory};
 pub use words::{HELP, MOST_WORKERS, VERSION};

@@ -13,38 +13,39 @@ use text_forms::number_in;
 
 /// What `--help` prints: each command with its input, its output, its statuses and an example.
 pub const HELP: &str = "\
-usage: share COMMAND
+usage: share_main COMMAND
 
 query LOCATION
     in: a query body or nothing; out: the protocol, metaData and file lines of the Delta table
     in the folder LOCATION; status 0, 2 to 6
-    echo '{\"version\":3}' | share query orders
+    echo '{\"version\":1}' | share_main query orders
 stdio
     in: the requests of one connection; out: the responses of the server that
     _share_log/config.json configures; status 0, 2, 3, 5, 6
-    printf 'GET /delta-sharing/shares HTTP/1.1\\r\\nHost: localhost\\r\\n\\r\\n' | share stdio
+    printf 'GET /delta-sharing/shares HTTP/1.1\\r\\nHost: localhost\\r\\n\\r\\n' | share_main stdio
 serve PORT WORKERS
     serves the connections that come to 127.0.0.1:PORT, 1 to 65535, by so many workers, 1 to 64,
     until it is stopped; status 2, 3, 5, 6
-    share serve 8080 8
+    share_main serve 8080 8
 rehearse NUMBER
     out: what a client and a server do together in memory, five lines; NUMBER, up to 4294967295,
     varies what is committed beside the reads; status 0, 2, 5, 6
-    share rehearse 7
+    share_main rehearse 7
 client tables PROFILE
     out: share, schema and name of each table that the server of the profile in the file PROFILE
     shares with the recipient; status 0, 2, 3, 5 to 7, as for the next three
-    share client tables analyst.share
+    share_main client tables analyst.share
 client read PROFILE SHARE SCHEMA TABLE
     in: a query body or nothing; out: the metaData line and the file lines of that table
-    share client read analyst.share retail shop orders </dev/null
+    share_main client read analyst.share retail shop orders </dev/null
 client changes PROFILE SHARE SCHEMA TABLE FROM TO
     out: the lines of its changes from a version to another
-    share client changes analyst.share retail shop orders 0 2
+    share_main client changes analyst.share retail shop orders 0 2
 client fetch PROFILE URL [PIECE]
     out: the bytes of the file of a link, which stands in a file line as its url; of more than
     256 MiB by ranges of PIECE bytes, 1 to 134217728
-    share client fetch analyst.share \"$URL\" >part.parquet
+    URL=$(share_main client read analyst.share retail shop orders </dev/null | grep -om1 'http[^\"]*')
+    share_main client fetch analyst.share \"$URL\" >part.parquet
 --help
     out: this text; status 0, 5, 6
 --version

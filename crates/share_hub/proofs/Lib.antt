@@ -1,3 +1,13 @@
 pub mod Keeping
 pub mod Below
 pub mod Opened
+pub mod Standing
+pub mod CatalogStanding
+pub mod CatalogOpening
+pub mod CatalogRecording
+pub mod TableStanding
+pub mod TableStores
+pub mod Committing
+pub mod NodeSteps
+pub mod NodeCalls
+pub mod LoadsKept

@@ -58,8 +58,9 @@ impl Hub {
     /// seen: a plain function of what is held of the recipient's tables at that point and of what is asked. It adds no entry.
     ///
     /// The files of a version are made without the turn, of the latest state of their table that is kept, up to that version, and the
-    /// commits after it. Where commits were left, the state is then kept, and what is found is looked up again, each in one further
-    /// turn. `steps` goes up by one for each action that is replayed. The error is want of memory.
+    /// commits after it; so is the list of those that a restriction shows, for each page but the first. Where commits were left, or files
+    /// to list, the state is then kept with its list, and what is found is looked up again, each in one further turn. `steps` goes up by
+    /// one for each action that is replayed. The error is want of memory.
     pub fn look<R: Wait, L>(
         &self,
         rt: &R,

@@ -5,3 +5,4 @@ pub mod Attending
 pub mod Working
 pub mod Ordered
 pub mod Stored
+pub mod Adding

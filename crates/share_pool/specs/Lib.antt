@@ -4,3 +4,4 @@ pub mod Visits
 pub mod Desks
 pub mod Laws
 pub mod OneHistory
+pub mod Standing

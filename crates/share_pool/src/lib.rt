@@ -8,5 +8,5 @@ mod pool;
 mod refresh;
 
 pub use desk::{Desk, ServeEnd, serve_desk};
-pub use law::{begins_up_to_date, works_in_order};
+pub use law::{begins_up_to_date, what_workers_add_stands, works_in_order};
 pub use pool::serve_all;

@@ -37,15 +37,16 @@ pub shown_meta : (only : Option (List ℕ)) (state : State) → (shown_state onl
 shown_meta None state = refl
 shown_meta (Some text) state = refl
 
--- all files of a table that is shared whole are shown
-pub files_whole : (only : Option (List ℕ)) (state : State) → only ≡ None → state.files ≡ (shown_state only state).files
-files_whole only state none = ap (λ (o : Option (List ℕ)). (shown_state o state).files) (sym none)
+each_passes : {X : Type 0} (test : X → Bool) (xs : List X) → ((x : X) → test x ≡ true) → filter test xs ≡ xs
+each_passes test [] pass = refl
+each_passes test (x ∷ xs) pass = rw (pass x) (ap (λ ys. x ∷ ys) (each_passes test xs pass))
 
--- and else those that the text shows
-pub files_shown : (only : Option (List ℕ)) (text : List ℕ) (state : State) (s : Shown) (meta : MetaData) → Some text ≡ only → meta ≡ state.meta → IsShown (Some text) meta s → filter (shown_in s) state.files ≡ (shown_state only state).files
-files_shown only text state s meta same is_meta is_shown =
+-- which files are shown, all where nothing is restricted
+pub files_shown : (only : Option (List ℕ)) (state : State) (s : Shown) (meta : MetaData) → meta ≡ state.meta → IsShown only meta s → filter (shown_in s) state.files ≡ (shown_state only state).files
+files_shown None state s meta is_meta is_shown = each_passes (shown_in s) state.files is_shown
+files_shown (Some text) state s meta is_meta is_shown =
     let here = subst (λ (m : MetaData). IsShown (Some text) m s) is_meta is_shown in
-    (λ i. filter (λ (f : AddFile). here f i) state.files) ∙ ap (λ (o : Option (List ℕ)). (shown_state o state).files) same
+    (λ i. filter (λ (f : AddFile). here f i) state.files)
 
 -- what was cut of the files that are shown, by a filter of the hint
 pub cut_shown : {E : Type 0} (r : Result (Option FilesCut) E) (hint only : Option (List ℕ)) (state : State) (f : Filter) (meta : MetaData) (most : Option ℕ) (at place : ℕ) (files : List AddFile)

@@ -5,8 +5,8 @@ ghost use Rattle.share_reply.specs.Cuts.{is_full};
 ghost use Rattle.share_reply.specs.Pages.{given, next_place};
 
 use log_actions::AddFile;
-use log_replay::Snapshot;
 use pred_tree::Filter;
+use share_book::ShownFiles;
 use std::alloc::{AllocError, Global};
 
 // The files of a page, and the place at which the next one begins.
@@ -29,18 +29,18 @@ pub(crate) fn is_full(count: usize, most: Option<u64>) -> bool
 // The first files from a place on that are listed. It ends at the first of them that is behind the page.
 pub(crate) fn files_cut<'a>(
     alloc: Global,
-    snapshot: &'a Snapshot,
+    shown: &ShownFiles<'a>,
     listing: &Filter,
     most: Option<u64>,
     place: u64,
 ) -> Result<FilesCut<'a>, AllocError>
-    ensures files { IfOk result (λ c. map (λ f. f.now) c.files.items ≡ given (passes listing.now) most place snapshot.now.files) }
-    ensures next { IfOk result (λ c. c.next ≡ next_place (passes listing.now) most place snapshot.now.files) }
+    ensures files { IfOk result (λ c. map (λ f. f.now) c.files.items ≡ given (passes listing.now) most place shown.now) }
+    ensures next { IfOk result (λ c. c.next ≡ next_place (passes listing.now) most place shown.now) }
 {
     let mut files = Vec::new(alloc);
     let mut next = place;
-    for at in place..snapshot.len() {
-        let file = snapshot.file(at);
+    for at in place..shown.len() {
+        let file = shown.file(at);
         if listing.lists(file) {
             if is_full(files.len(), most) {
                 return Ok(FilesCut {

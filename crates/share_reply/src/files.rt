@@ -25,11 +25,10 @@ use crate::shown::shown_cut;
 use crate::stop::Stop;
 use case_table::Refusal;
 use json_tree::{Millis, Place, Text, Version, copy_text_or_none};
-use log_replay::Snapshot;
 use page_token::{Asked, Cursor, FilesCursor, cursor_of};
 use pred_tree::{Filter, Shown, pred_of};
 use query_body::QueryBody;
-use share_book::{PartFound, Spot, TableRefusal};
+use share_book::{PartFound, SharedSnapshot, ShownFiles, Spot, TableRefusal};
 use share_lines::EndLine;
 use std::alloc::{AllocError, Global};
 
@@ -241,40 +240,44 @@ fn page_end(
     }))
 }
 
-// The files of a page of a table that is shared whole.
-fn whole_cut<'a>(
+// The files of a page, none where its place is behind all that are shown.
+fn listed_cut<'a>(
     alloc: Global,
-    snapshot: &'a Snapshot,
+    shown: &ShownFiles<'a>,
     listing: &Filter,
     most: Option<u64>,
     place: u64,
 ) -> Result<Option<FilesCut<'a>>, AllocError>
-    ensures { IfOk result (IsCutOf (passes listing.now) most place snapshot.now.files) }
+    ensures { IfOk result (IsCutOf (passes listing.now) most place shown.now) }
 {
-    if snapshot.len() < place {
+    if shown.len() < place {
         return Ok(None);
     }
-    Ok(Some(files_cut(alloc, snapshot, listing, most, place)?))
+    Ok(Some(files_cut(alloc, shown, listing, most, place)?))
 }
 
-// The files of a page, of those that are shown and that its predicate lists; none where its place is behind all that are shown.
+// The files of a page, of those that are shown and that its predicate lists; none where its place is behind all that are shown. It
+// walks over those before the place only where the shown ones aren't listed.
 fn page_cut<'a>(
     alloc: Global,
     query: &QueryBody,
     begin: &FilesBegin,
     spot: &Spot,
-    snapshot: &'a Snapshot,
+    state: &'a SharedSnapshot,
 ) -> Result<Option<FilesCut<'a>>, AllocError>
-    ensures { IfOk result (IsCutOf (spec.lists begin.now.hint (shown_state spot.now.only snapshot.now)) query.now.max begin.now.place (shown_state spot.now.only snapshot.now).files) }
+    ensures { IfOk result (IsCutOf (spec.lists begin.now.hint (shown_state spot.now.only state.now)) query.now.max begin.now.place (shown_state spot.now.only state.now).files) }
 {
+    let snapshot = state.get();
     let meta = snapshot.meta();
     let filter = Filter::of_hint(alloc, &begin.hint, meta)?;
     let place = begin.place.get();
-    let Some(only) = spot.only() else {
-        return whole_cut(alloc, snapshot, &filter, query.max, place);
-    };
-    let shown = Shown::of(alloc, Some(only), meta)?;
-    shown_cut(alloc, snapshot, &shown, &filter, query.max, place)
+    match state.shown(spot.only()) {
+        Some(files) => listed_cut(alloc, &files, &filter, query.max, place),
+        None => {
+            let shown = Shown::of(alloc, spot.only(), meta)?;
+            shown_cut(alloc, snapshot, &shown, &filter, query.max, place)
+        }
+    }
 }
 
 // The page of a state. A token's place may be behind all of its files.
@@ -286,15 +289,16 @@ fn page_of_state<'a>(
     query: &QueryBody,
     begin: &FilesBegin,
     spot: &Spot,
-    snapshot: &'a Snapshot,
+    state: &'a SharedSnapshot,
 ) -> Result<Paged<'a>, Stop>
-    ensures { GivesPage keys.now result (spec.page_of_state keys.now access.entry now query.now (files_start begin.now) (shown_state spot.now.only snapshot.now)) }
+    ensures { GivesPage keys.now result (spec.page_of_state keys.now access.entry now query.now (files_start begin.now) (shown_state spot.now.only state.now)) }
 {
-    let found = page_cut(alloc, query, begin, spot, snapshot)?;
+    let found = page_cut(alloc, query, begin, spot, state)?;
     let Some(cut) = found else {
         return Err(refuse(alloc, Refusal::TokenAhead));
     };
     let expires = expiry(keys, now)?;
+    let snapshot = state.get();
     let meta = snapshot.meta();
     let signing = Signing {
         keys,
@@ -325,7 +329,7 @@ fn files_from<'a>(
     match found {
         PartFound::Files(version, state) => {
             let begin = begin_by(alloc, query, later, *version)?;
-            page_of_state(alloc, keys, access, now, query, &begin, spot, state.get())
+            page_of_state(alloc, keys, access, now, query, &begin, spot, state)
         }
         PartFound::Refused(why) => Err(Stop::Refused(refusal_for(alloc, *why)?)),
         PartFound::Nothing | PartFound::Version(_) | PartFound::Feed(_) => {

@@ -94,6 +94,15 @@ pub enum What {
     },
 }
 
+/// Who asks, and by which route.
+#[derive(Clone, Copy)]
+pub struct Caller {
+    /// The SHA-256 digest of the bearer token.
+    pub digest: [u8; 32],
+    /// The route, which says whose token is wanted.
+    pub route: Route,
+}
+
 /// A request by bearer token.
 #[derive(Drop)]
 pub struct ByToken {

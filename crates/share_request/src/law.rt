@@ -1,4 +1,5 @@
 // Laws of requests. The functions do nothing when they are called.
+ghost use Rattle.share_request.specs.Callers.{HeadsTellCallers};
 ghost use Rattle.share_request.specs.Laws.{LinksAreRead, OneSpelling, RequestsAreInForm, SpellingKeepsNames, UnknownFieldsPass, UnknownParametersPass};
 
 /// A law: what is answered is in form. What is asked by token is asked by the route that is told, which is no link's; a page of a
@@ -6,6 +7,11 @@ ghost use Rattle.share_request.specs.Laws.{LinksAreRead, OneSpelling, RequestsAr
 /// version and a moment; changes have a start or a page token; and of a file HEAD asks for no part.
 pub fn requests_are_in_form()
     ensures { RequestsAreInForm }
+{}
+
+/// A law: who asks by a request, and by which route, is told by its head: it is the same whatever the body says.
+pub fn heads_tell_callers()
+    ensures { HeadsTellCallers }
 {}
 
 /// A law: a request with a parameter that isn't known is the request without it, and a body is read by the fields that are known

@@ -5,6 +5,7 @@
 mod asked;
 mod bearer;
 mod body;
+mod caller;
 mod fault;
 mod law;
 mod parameter;
@@ -12,8 +13,11 @@ mod path;
 mod request;
 mod target;
 
-pub use asked::{Bound, ByLink, ByToken, ListPage, Request, What};
+pub use asked::{Bound, ByLink, ByToken, Caller, ListPage, Request, What};
 pub use bearer::bearer_of;
+pub use caller::caller_of;
 pub use fault::{Parameter, RequestFault, TurnedAway};
-pub use law::{links_have_one_spelling, requests_are_in_form, unknown_is_passed_over};
+pub use law::{
+    heads_tell_callers, links_have_one_spelling, requests_are_in_form, unknown_is_passed_over,
+};
 pub use request::request_of;

@@ -1,5 +1,5 @@
 // The routes that paths name, and the names in them.
-ghost use Rattle.std.specs.Prelude.{◌≡◌, IfOk, bytes_eq, codes};
+ghost use Rattle.std.specs.Prelude.{◌≡◌, IfOk, bytes_eq, codes, take};
 ghost use Rattle.share_request.specs.Paths.{name_at, segment_text, segments_in, table_at, table_route};
 ghost use Rattle.share_request.specs.Paths as spec;
 ghost use Rattle.share_request.specs.Stops.{Gives};
@@ -20,17 +20,20 @@ fn segment_text(alloc: Global, segment: &str) -> Result<Text, AllocError>
     Ok(Text::of(text.into_owned(alloc)?))
 }
 
-// The texts between the slashes.
+// The texts between the slashes, of which the first eight are read: no route has more than seven.
 pub(crate) fn segments_of(alloc: Global, path: &str) -> Result<Vec<Text>, AllocError>
-    ensures { IfOk result (λ v. v.items ≡ segments_in path.now) }
+    ensures { IfOk result (λ v. v.items ≡ take 8 (segments_in path.now)) }
 {
     let mut segments = Vec::new(alloc);
     let mut rest = path;
-    while let Some((segment, later)) = cut('/', rest) {
+    while segments.len() < 8 {
+        let Some((segment, later)) = cut('/', rest) else {
+            segments.push(segment_text(alloc, rest)?)?;
+            return Ok(segments);
+        };
         segments.push(segment_text(alloc, segment)?)?;
         rest = later;
     }
-    segments.push(segment_text(alloc, rest)?)?;
     Ok(segments)
 }
 

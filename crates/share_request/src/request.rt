@@ -215,7 +215,7 @@ fn is_head(head: &Head) -> bool
     head.method.as_str() == "HEAD"
 }
 
-fn has_method(head: &Head, method: Method) -> bool
+pub(crate) fn has_method(head: &Head, method: Method) -> bool
     ensures { result ≡ spec.has_method method head.now.method }
 {
     match method {

@@ -25,6 +25,8 @@ pub mod Same
 pub mod Sent
 pub mod Shown
 pub mod Statuses
+pub mod StrangerLemmas
 pub mod Told
 pub mod WholeBytes
 pub mod Worlds
+pub mod Added

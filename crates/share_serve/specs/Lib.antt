@@ -8,6 +8,8 @@ pub mod Responses
 pub mod Sends
 pub mod Sessions
 pub mod Sides
+pub mod Strangers
 pub mod Turned
 pub mod Turns
 pub mod WholeSessions
+pub mod Standing

@@ -77,13 +77,13 @@ fn where_known<'a>(known: bool, asked: &'a Result<What, RequestFault>) -> By<'a>
     }
 }
 
-fn is_provider(server: &Server, digest: &[u8; 32]) -> bool
+pub(crate) fn is_provider(server: &Server, digest: &[u8; 32]) -> bool
     ensures { result ≡ list_any (λ d. bytes_eq d digest.now) server.now.providers }
 {
     server.providers.digests().iter().any(|d| d == digest)
 }
 
-fn is_administrator(server: &Server, digest: &[u8; 32]) -> bool
+pub(crate) fn is_administrator(server: &Server, digest: &[u8; 32]) -> bool
     ensures { result ≡ bytes_eq server.now.admin digest.now }
 {
     server.admin == *digest

@@ -2,10 +2,12 @@
 ghost use Rattle.share_serve.specs.Entitled.{ChangesAreGiven, FilesAreGiven, LinksAreGiven, MetadataIsGiven, NamesAreGiven, ObjectsAreGiven, PartsAreGiven, TurnsAreGiven, TurnsGiveTheDefined, VersionsAreGiven};
 ghost use Rattle.share_serve.specs.Laws.{AcknowledgementsArePuts, EndsTheSame, EqualViewsWriteTheSame, ReadsItsRequests, WritesItsResponses};
 ghost use Rattle.share_serve.specs.RefusalCauses.{ChangesHaveCauses, FaultsAreTold, FilesHaveCauses, LinksHaveCauses, NamesHaveCauses, StrangersAreRefused, VersionsHaveCauses};
+ghost use Rattle.share_serve.specs.Standing.{WhatIsAddedStands};
 ghost use Rattle.share_serve.specs.WholeSessions.{WholeRequestsAreAnswered};
 
 use file_ranges::law::part_has_asked;
 use http_message::law::one_reading;
+use share_hub::{commits_stand, edits_stand, refreshes_stand};
 
 /// A law: what requests leave written is their responses in order, and the points at which they are answered are beginnings of one
 /// history, each of the next, none before what the pass had seen.
@@ -23,6 +25,16 @@ pub fn reads_its_requests()
 pub fn acknowledgements_are_puts()
     ensures { AcknowledgementsArePuts }
 {}
+
+/// A law: what a session adds to the history, its own commits and edits and those that it found, stands in the history and in the store
+/// at its end, whatever was answered, however it ends, and whoever else adds to either.
+pub fn what_is_added_stands()
+    ensures { WhatIsAddedStands }
+{
+    commits_stand();
+    refreshes_stand();
+    edits_stand();
+}
 
 /// A law: whole sessions of the same bytes, moments and responses write the same, to their ends.
 pub fn ends_the_same()

@@ -1,5 +1,6 @@
 // The loop of a session.
-ghost use Rattle.std.specs.Prelude.{◌≡◌, ◌≤◌, ◌<◌, ◌+◌, ℕ, [], None, MatchOption, IfOk, option_map, true, false};
+ghost use Rattle.std.specs.Prelude.{◌≡◌, ◌≤◌, ◌<◌, ◌+◌, ℕ, [], None, MatchOption, IfOk, OnErr, option_map, true, false};
+ghost use Rattle.std.specs.Bool.{OnFalse, OnTrue};
 ghost use Rattle.hub_calls.specs.Calls.{Adds, IsIdle};
 ghost use Rattle.share_book.specs.Shown.{show};
 ghost use Rattle.share_reply.specs.Replies.{seen_for, view_for};
@@ -8,18 +9,20 @@ ghost use Rattle.share_serve.specs.Callers as by;
 ghost use Rattle.share_serve.specs.Sends.{CutOnly, DeliveryCause, HasGoneOut};
 ghost use Rattle.share_serve.specs.Sessions.{HasCause, IsSession};
 ghost use Rattle.share_serve.specs.Sides.{held, side, state_at};
+ghost use Rattle.share_serve.specs.Strangers.{Hears, HearsFor, IsStrangers, is_known};
 ghost use Rattle.share_serve.specs.Turned.{IsGiven, IsTurned, RefusalEnds, Steps as Stepped, TurnCause, message, turned_of};
-ghost use Rattle.share_serve.specs.Turns.{FollowsLink, Grew, Hold, closes_after, is_head};
+ghost use Rattle.share_serve.specs.Turns.{FollowsLink, Grew, Hold, LacksResponse, closes_after, is_head};
 ghost use Rattle.share_request.specs.Requests.{request_in};
 ghost use Rattle.share_request.specs.declared.asked.Request.{Request as Asked};
 ghost use Rattle.share_serve.specs.declared.server.Server.{Server as ServerView};
 
-use crate::caller::{By, Call, by_request};
+use crate::caller::{By, Call, by_request, is_administrator, is_provider};
 use crate::plan::{reply, send_whole};
 use crate::response::{Delivery, refusal_response};
 use crate::send::{Delivered, Sent, send_response};
 use crate::server::Server;
 use crate::session::Session;
+use case_table::Route;
 use edge_core::{Clock, Gate, Sink, Source, Store};
 use http_message::head::Head;
 use http_message::refusal::Flaw;
@@ -27,7 +30,7 @@ use http_wire::{Message, Wire};
 use share_book::Seen;
 use share_hub::{Hub, HubPass};
 use share_reply::ask_of;
-use share_request::{Request, request_of};
+use share_request::{Caller, Request, caller_of, request_of};
 use std::alloc::{AllocError, Global};
 use std::sync::{Arc, Wait};
 use step_count::Steps;
@@ -219,6 +222,69 @@ impl<'a, R: Wait, G: Gate> Session<'a, R, G> {
         }
     }
 
+    // Whether the token is one that the route wants. By a route that has no body to read nobody is sought.
+    fn may_know(&self, pass: &mut HubPass, caller: &Caller) -> bool
+        requires cell { (pass.old.cell ≡ self.now.hub.now) × (pass.old.holds ≡ false) }
+        ensures same { IsIdle pass.old pass.new }
+        ensures added { Adds pass.old pass.new [] }
+        ensures heard { HearsFor caller.now.route pass.old pass.new }
+        ensures unknown { OnFalse result (is_known self.now.server.now pass.new.seen caller.now ≡ false) }
+    {
+        match caller.route {
+            Route::Commit | Route::Refresh => is_provider(self.server, &caller.digest),
+            Route::Edit => is_administrator(self.server, &caller.digest),
+            Route::Query => self.hub.knows(self.rt, pass, &caller.digest),
+            _ => true,
+        }
+    }
+
+    // Whether a request that has a body is a stranger's, by its head: then it is refused whatever the body says.
+    fn is_stranger(&self, pass: &mut HubPass, head: &Head, body: &[u8]) -> Result<bool, AllocError>
+        requires cell { (pass.old.cell ≡ self.now.hub.now) × (pass.old.holds ≡ false) }
+        ensures same { IsIdle pass.old pass.new }
+        ensures added { Adds pass.old pass.new [] }
+        ensures heard { Hears head.now pass.old pass.new }
+        ensures stranger { IfOk result (λ s. OnTrue s (IsStrangers self.now.server.now pass.new.seen head.now)) }
+    {
+        if body.is_empty() {
+            return Ok(false);
+        }
+        match caller_of(self.alloc, head)? {
+            Some(caller) => Ok(!self.may_know(pass, &caller)),
+            None => Ok(false),
+        }
+    }
+
+    // Answers the request that a head and a body make. A stranger's body isn't read as JSON.
+    fn serve_read<W: Store, K: Sink, L>(
+        &self,
+        pass: &mut HubPass,
+        head: &Head,
+        body: &[u8],
+        store: &mut W,
+        sink: &mut K,
+        steps: &mut Steps<L>,
+        served: u64,
+        delivery: Delivery,
+    ) -> Result<Delivered, AllocError>
+        requires cell { (pass.old.cell ≡ self.now.hub.now) × (pass.old.holds ≡ false) }
+        requires dated { delivery.moment ≤ 253_402_300_799_999 }
+        ensures grew { Grew (held W.objects W.alone W.faults W.stored pass.old store.old) (held W.objects W.alone W.faults W.stored pass.new store.new) }
+        ensures later { K.faults sink.old ≤ K.faults sink.new }
+        ensures given { IfOk result (λ d. IsGiven d self.now.server.now (request_in head.now body.now) (by.by_request self.now.server.now (request_in head.now body.now)) delivery (held W.objects W.alone W.faults W.stored pass.old store.old) (held W.objects W.alone W.faults W.stored pass.new store.new) (K.holds sink.old) (K.holds sink.new)) }
+        ensures cause { IfOk result (λ d. DeliveryCause d (W.objects store.old) (W.faults store.old) (W.faults store.new) (K.faults sink.old) (K.faults sink.new)) }
+        ensures out { IfOk result (λ d. HasGoneOut d (K.kept sink.new)) }
+        ensures cut { IfOk result (λ d. CutOnly d (FollowsLink self.now.server.now (request_in head.now body.now) delivery.moment pass.new.seen)) }
+        ensures lacks { OnErr result (LacksResponse self.now.server.now (request_in head.now body.now) delivery.moment (held W.objects W.alone W.faults W.stored pass.old store.old) (held W.objects W.alone W.faults W.stored pass.new store.new) × (K.holds sink.new ≡ K.holds sink.old)) }
+    {
+        let is_stranger = self.is_stranger(pass, head, body)?;
+        if is_stranger {
+            return Ok(self.serve_call(pass, store, sink, served, delivery, Call::Unauthenticated));
+        }
+        let request = shared_request(self.alloc, head, body)?;
+        Ok(self.serve_known(pass, store, sink, steps, served, delivery, &request))
+    }
+
     // Answers the request of that number.
     fn serve_request<W: Store, C: Clock, K: Sink, L>(
         &self,
@@ -245,11 +311,11 @@ impl<'a, R: Wait, G: Gate> Session<'a, R, G> {
             closes: closes_after(served, closes),
             to_head: is_head(head),
         };
-        let Ok(request) = shared_request(self.alloc, head, body) else {
-            return Turned::NoMemory;
-        };
-        let delivered = self.serve_known(pass, store, sink, steps, served, delivery, &request);
-        turned_by(delivered, delivery.closes)
+        let answer = self.serve_read(pass, head, body, store, sink, steps, served, delivery);
+        match answer {
+            Ok(delivered) => turned_by(delivered, delivery.closes),
+            Err(_) => Turned::NoMemory,
+        }
     }
 
     // Reads the next message, and answers it: the session goes on, or this is its end.

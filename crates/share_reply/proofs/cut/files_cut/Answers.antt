@@ -12,7 +12,7 @@ returns-then-is_full-clause-files c =
     let count = length-map items (λ f. f.now) ∙ sym c.loop-at.files.ok.0 in
     let full = ap (λ n. is_full n c.args.most) (count ∙ sym c.len.ensures) ∙ sym c.is_full.ensures ∙ c.if-is_full.true in
     let within = subst (IsWithin c.args.most) (sym count) c.loop-at.invariant.within in
-    (walk_is_full (passes c.args.listing.now) c.args.place c.loop-at.at c.args.snapshot.now.files _ c.loop-at.next c.args.most c.file-file.result.now c.loop-at.invariant.walked c.loop-at.auto.at c.file-file.ensures (sym c.lists.ensures ∙ c.if-lists.true) full within).0
+    (walk_is_full (passes c.args.listing.now) c.args.place c.loop-at.at c.args.shown.now _ c.loop-at.next c.args.most c.file-file.result.now c.loop-at.invariant.walked c.loop-at.auto.at c.file-file.ensures (sym c.lists.ensures ∙ c.if-lists.true) full within).0
 
 pub returns-then-is_full-clause-next : goal.returns-then-is_full-clause-next
 returns-then-is_full-clause-next c =
@@ -20,12 +20,12 @@ returns-then-is_full-clause-next c =
     let count = length-map items (λ f. f.now) ∙ sym c.loop-at.files.ok.0 in
     let full = ap (λ n. is_full n c.args.most) (count ∙ sym c.len.ensures) ∙ sym c.is_full.ensures ∙ c.if-is_full.true in
     let within = subst (IsWithin c.args.most) (sym count) c.loop-at.invariant.within in
-    (walk_is_full (passes c.args.listing.now) c.args.place c.loop-at.at c.args.snapshot.now.files _ c.loop-at.next c.args.most c.file-file.result.now c.loop-at.invariant.walked c.loop-at.auto.at c.file-file.ensures (sym c.lists.ensures ∙ c.if-lists.true) full within).1
+    (walk_is_full (passes c.args.listing.now) c.args.place c.loop-at.at c.args.shown.now _ c.loop-at.next c.args.most c.file-file.result.now c.loop-at.invariant.walked c.loop-at.auto.at c.file-file.ensures (sym c.lists.ensures ∙ c.if-lists.true) full within).1
 
 pub loop-at-preserved : goal.loop-at-preserved
 loop-at-preserved c =
     let test = passes c.args.listing.now in
-    let xs = c.args.snapshot.now.files in
+    let xs = c.args.shown.now in
     let now = c.file-file.result.now in
     elim c.if-lists.branch [
       | then-lists+else-is_full+in_ok-push w ↦

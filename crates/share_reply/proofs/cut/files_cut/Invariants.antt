@@ -5,7 +5,7 @@ use Rattle.share_reply.proofs.cut.files_cut.Given as goal
 
 abbrev pub invariant-loop-at : goal.invariant-loop-at
 invariant-loop-at l = record {
-  end : l.at-end ≡ length l.snapshot.files;
-  walked : Walked (passes l.listing) l.place l.at l.snapshot.files (map (λ f. f.now) l.files.items) l.next;
+  end : l.at-end ≡ length l.shown;
+  walked : Walked (passes l.listing) l.place l.at l.shown (map (λ f. f.now) l.files.items) l.next;
   within : IsWithin l.most (vec_len l.files);
 }

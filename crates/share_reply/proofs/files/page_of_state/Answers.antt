@@ -1,6 +1,7 @@
 use Rattle.std.proofs.Common.{◌≡◌, Err, true, ap, sym, ◌∙◌, arith, length, subst}
 use Rattle.std.specs.Prelude.{nat_le}
 use Rattle.std.proofs.lemmas.Bool.Decides.{nat_tests}
+use Rattle.log_replay.specs.State.{State}
 use Rattle.share_book.specs.Views.{shown_state}
 use Rattle.share_reply.specs.Starts.{files_start}
 use Rattle.share_reply.specs.Answer.{ends_with}
@@ -18,7 +19,7 @@ pub returns-in_default : goal.returns-in_default
 returns-in_default c =
     let keys = c.args.keys.now in
     let start = files_start c.args.begin.now in
-    let state = shown_state c.args.spot.now.only c.args.snapshot.now in
+    let state = shown_state c.args.spot.now.only c.args.state.now in
     let few = subst (IsCutOf (lists start.hint state) c.args.query.now.max start.place state.files) c.in_default.is c.in_ok-found.ensures in
     subst (λ s. GivesPage keys (Err s) (page_of_state keys c.args.access c.args.now c.args.query.now start state)) (sym c.refuse.ensures) (state_ahead keys c.args.access c.args.now c.args.query.now start state few)
 
@@ -27,11 +28,11 @@ returns c =
     let keys = c.args.keys.now in
     let query = c.args.query.now in
     let start = files_start c.args.begin.now in
-    let state = shown_state c.args.spot.now.only c.args.snapshot.now in
+    let state = shown_state c.args.spot.now.only c.args.state.now in
     let cut = c.in-Some.cut in
     let is = subst (IsCutOf (lists start.hint state) query.max start.place state.files) c.in-Some.is c.in_ok-found.ensures in
     let within : nat_le start.place (length state.files) ≡ true = grind (arith, nat_tests, is.within) in
-    let meta : c.meta-meta.result.now ≡ state.meta = c.meta-meta.ensures ∙ sym (shown_meta c.args.spot.now.only c.args.snapshot.now) in (
+    let meta : c.meta-meta.result.now ≡ state.meta = c.meta-meta.ensures ∙ ap (λ (s : State). s.meta) c.get-snapshot.ensures ∙ sym (shown_meta c.args.spot.now.only c.args.state.now) in (
       state_paged keys c.args.access c.args.now query start state _ within
           (ap (λ lines. paged_with c.get.result lines) c.of.ensures
           ∙ files_paged keys c.args.access c.args.now query start state c.in_ok-expires.expires c.get.result c.meta-meta.result.now cut.files cut.next c.in_ok-end.end

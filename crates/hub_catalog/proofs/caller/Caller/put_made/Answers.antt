@@ -11,7 +11,7 @@ use Rattle.hub_catalog.proofs.Making.{made_edit, takes_made}
 use Rattle.hub_catalog.proofs.caller.Caller.put_made.Goals as goal
 
 pub returns-in-Some-clause-store : goal.returns-in-Some-clause-store
-returns-in-Some-clause-store g c = stored_at _ _ _ _ c.args.next.now.number _ _ c.args.own.now.bytes.items c.args.next.now.edit.now c.requires.made.1.name c.deref.ensures.value c.requires.made.1.text c.in-Stored.ensures.object c.in-Stored.ensures.stays
+returns-in-Some-clause-store g c = stored_at _ _ _ _ c.args.next.now.number _ _ c.args.own.now.bytes.items c.args.next.now.edit.now c.requires.made.1.name c.deref.ensures.value c.requires.made.1.text c.requires.made.1.back c.requires.made.1.short c.in-Stored.ensures.object c.in-Stored.ensures.stays
 
 pub returns-in-Failed-clause-store : goal.returns-in-Failed-clause-store
 returns-in-Failed-clause-store g c =

@@ -21,7 +21,7 @@ place-requires-clause-fits g c = fits_there c.args.attempt.now.moment c.args.att
 pub returns-in-Done-clause-round : goal.returns-in-Done-clause-round
 returns-in-Done-clause-round g c =
     done_round c.args.version c.args.attempt.now.moment c.args.attempt.now.offer.now (g.W.Store.objects c.args.store.now) (g.W.Store.objects c.place.new.store) c.args.pass.now c.admit_next.new.pass c.place.new.pass c.args.attempt.now.log c.args.head.now c.args.head.now c.in-Ok.commit
-    c.requires.begun c.admit_next.ensures.same.number c.admit_next.ensures.goes c.requires.version c.in-Ok.ensures.told c.in-Done.ensures.placed
+    c.requires.begun c.admit_next.ensures.same.number c.admit_next.ensures.goes c.requires.version c.in-Ok.ensures.told c.in-Done.ensures.placed.0
 
 pub returns-in-Done-clause-store : goal.returns-in-Done-clause-store
 returns-in-Done-clause-store g c =

@@ -1,17 +1,25 @@
-use Rattle.std.proofs.Common.{◌≤◌, ◌-◌, ◌^◌, ◌∙◌, ℕ, List, length, true, ap, sym, subst, arith}
+use Rattle.std.proofs.Common.{◌≤◌, ◌-◌, ◌^◌, ◌∙◌, ◌∷◌, [], ℕ, List, length, true, ap, sym, subst, arith}
 use Rattle.log_actions.specs.declared.actions.Action.{Action}
 use Rattle.log_actions.specs.CommitTexts.{commit_text}
 use Rattle.log_commit.specs.Names.{commit_name}
 use Rattle.log_store.proofs.Growing.{looked_once}
 use Rattle.share_book.specs.Books.{OwnIsLawful}
 use Rattle.share_book.specs.Legal.{TakesCommit}
+use Rattle.share_book.specs.declared.entry.Act.TheVariants.{Own}
 use Rattle.hub_tables.specs.CommitRounds.{HasName}
-use Rattle.hub_tables.proofs.CommitSteps.{short_of, takes_own}
+use Rattle.hub_tables.specs.TableCalls.{StopsOn}
+use Rattle.hub_tables.proofs.Admissions.{plain_own}
+use Rattle.hub_tables.proofs.CommitSteps.{fits_held, short_of, takes_own}
 use Rattle.hub_tables.proofs.CommitStores.{perhaps_at, placed_at}
 use Rattle.hub_tables.proofs.caller.Caller.place.Goals as goal
 
 pub returns-in-Stored-clause-store : goal.returns-in-Stored-clause-store
 returns-in-Stored-clause-store g c = placed_at _ _ _ _ _ _ _ _ _ (c.in-Ok.ensures.stored.0 ∙ ap (λ (n : ℕ). commit_name c.args.stored.now.location.now n) c.versions.ensures) c.deref.ensures.value c.in-Ok.ensures.stored.1 c.in-Stored.ensures.object c.in-Stored.ensures.stays
+
+pub returns-in-Stored-clause-placed : goal.returns-in-Stored-clause-placed
+returns-in-Stored-clause-placed g c =
+    let fit = fits_held c.args.pass.now c.args.stored.now.log c.args.head.now c.args.commit c.requires.begun c.requires.fits in
+    (subst (λ (a : List Action). StopsOn c.args.pass.now c.own_commit.new.pass c.args.stored.now.log [] (Own a ∷ [])) c.in-Ok.ensures.same.0 c.own_commit.ensures.ended, c.in-Ok.ensures.back (plain_own c.requires.begun.log.commits c.args.commit fit.lawful) fit.short)
 
 pub returns-in-Failed-clause-store : goal.returns-in-Failed-clause-store
 returns-in-Failed-clause-store g c = perhaps_at _ _ _ _ _ _ _ _ _ (c.in-Ok.ensures.stored.0 ∙ ap (λ (n : ℕ). commit_name c.args.stored.now.location.now n) c.versions.ensures) c.deref.ensures.value c.in-Ok.ensures.stored.1 c.in-Failed.ensures.object c.in-Failed.ensures.stays
