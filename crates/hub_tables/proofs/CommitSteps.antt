@@ -74,8 +74,8 @@ ends_before (Ok v) now o old mid new b log m ends g w = w
 ends_before (Err refusal.NotLoaded) now o old mid new b log m ends g w = w
 ends_before (Err (refusal.Blocked n)) now o old mid new b log m ends g w = w
 ends_before (Err refusal.Contended) now o old mid new b log m ends g w = w
-ends_before (Err (refusal.Conflict c)) now o old mid new b log m ends g w = (w.0, Grows-absent old mid (commit_name o.location (length log)) g w.1, w.2, w.3)
-ends_before (Err refusal.Limit) now o old mid new b log m ends g w = (w.0, Grows-absent old mid (commit_name o.location (length log)) g w.1, w.2, w.3)
+ends_before (Err (refusal.Conflict c)) now o old mid new b log m ends g w = (w.0, w.1, Grows-absent old mid (commit_name o.location (length log)) g w.2, w.3, w.4)
+ends_before (Err refusal.Limit) now o old mid new b log m ends g w = (w.0, w.1, Grows-absent old mid (commit_name o.location (length log)) g w.2, w.3, w.4)
 ends_before (Err refusal.StoreFault) now o old mid new b log m ends g w = w
 ends_before (Err refusal.NoMemory) now o old mid new b log m ends g w = w
 
@@ -85,8 +85,8 @@ more_ends (Err refusal.NotLoaded) now o old new b log m t i ends l e free one w 
 more_ends (Err (refusal.Blocked n)) now o old new b log m t i ends l e free one (inl w) = let clash : None ≡ Some n = sym free ∙ w.0 in absurd (cc clash)
 more_ends (Err (refusal.Blocked n)) now o old new b log m t i ends l e free one (inr w) = inr (w.0, w.1, (let z : m ≡ 0 = one in omega arith), w.3)
 more_ends (Err refusal.Contended) now o old new b log m t i ends l e free one w = absurd one
-more_ends (Err (refusal.Conflict c)) now o old new b log m t i ends l e free one w = (w.0, w.1, (let z : m ≡ 0 = one in omega arith), w.3)
-more_ends (Err refusal.Limit) now o old new b log m t i ends l e free one w = (w.0, w.1, (let z : m ≡ 0 = one in omega arith), w.3)
+more_ends (Err (refusal.Conflict c)) now o old new b log m t i ends l e free one w = (w.0, w.1, w.2, (let z : m ≡ 0 = one in omega arith), w.4)
+more_ends (Err refusal.Limit) now o old new b log m t i ends l e free one w = (w.0, w.1, w.2, (let z : m ≡ 0 = one in omega arith), w.4)
 more_ends (Err refusal.StoreFault) now o old new b log m t i ends l e free one w = ((let z : m ≡ 0 = one in omega arith), w.1)
 more_ends (Err refusal.NoMemory) now o old new b log m t i ends l e free one w = ((let z : m ≤ 1 = one in omega arith), w.1)
 
@@ -217,7 +217,7 @@ limit_round now o old new p s q j h h' c x n g a l w st =
     let lacks : LacksNext o old x.log.commits = there_at (table_on j p.seen) x.log (λ t. LacksNext o old t.commits) x.holds.table l in
     let past : 2 ^ 26 < printed_bytes (x.log.commits ++ c ∷ []) = there_at (table_on j s.seen) x.log (λ t. 2 ^ 26 < printed_bytes (t.commits ++ c ∷ [])) y.holds.table w in
     let few : 0 < 64 = omega arith in
-    rounds_goes (Some (Err refusal.Limit)) now o old new p s q j h h' n g (round_at (Err refusal.Limit) now o old new s q j h h' (Abort ∷ []) y st ((c, ok, past), lacks, few, refl) refl)
+    rounds_goes (Some (Err refusal.Limit)) now o old new p s q j h h' n g (round_at (Err refusal.Limit) now o old new s q j h h' (Abort ∷ []) y st (y.free, (c, ok, past), lacks, few, refl) refl)
 
 pub fault_round : (now : ℕ) (o : Offer) (old new : Option Objects) (p s q : P) (j : ℕ) (h h' : LogHead) → HoldsHead p j h → s.number ≡ p.number → GoesOn p s j [] → StopsOn s q j [] (Abort ∷ []) → CommitRounds (Some (Err refusal.StoreFault)) now o j h h' old new p q
 fault_round now o old new p s q j h h' x n g st =
@@ -238,7 +238,7 @@ conflict_round r now o old new p s q j h h' c e x n g a l st =
     let lacks : LacksNext o old x.log.commits = there_at (table_on j p.seen) x.log (λ t. LacksNext o old t.commits) x.holds.table l in
     let few : 0 < 64 = omega arith in
     subst (λ (y : Option (Result ℕ CommitRefusal)). CommitRounds y now o j h h' old new p q) (sym e)
-    (rounds_goes (Some (Err (refusal.Conflict c))) now o old new p s q j h h' n g (round_at (Err (refusal.Conflict c)) now o old new s q j h h' (Abort ∷ []) (held_still p s j h x g) st (no, lacks, few, refl) refl))
+    (rounds_goes (Some (Err (refusal.Conflict c))) now o old new p s q j h h' n g (round_at (Err (refusal.Conflict c)) now o old new s q j h h' (Abort ∷ []) (held_still p s j h x g) st (x.free, no, lacks, few, refl) refl))
 
 -- the offer isn't admitted, or memory was wanting
 pub refused_round : (y : NotAdmitted) (x : CommitRefusal) (r : Option (Result ℕ CommitRefusal)) (now : ℕ) (o : Offer) (old new : Option Objects) (p s q : P) (j : ℕ) (h h' : LogHead) → r ≡ Some (Err x) → x ≡ refused_for y → HoldsHead p j h → s.number ≡ p.number → GoesOn p s j []

@@ -66,12 +66,12 @@ is_log_held p j t h = is_log_with j p.seen t h.log h.table
 
 -- ---- what entries do to a log
 
-pub table_found : (k j : ℕ) (h : List Entry) (c : List Action) → table_on j (h ++ entry k j (Found c) ∷ []) ≡ option_map (with_commits (c ∷ [])) (table_on j h)
-table_found k j h c =
-    let e : Entry = entry k j (Found c) in
-    let qc : filter_map (commit_on j) (h ++ e ∷ []) ≡ filter_map (commit_on j) h ++ c ∷ [] = loud (commit_on j) h e c (here e (Some c)) in
-    let qb : filter_map (block_on j) (h ++ e ∷ []) ≡ filter_map (block_on j) h = quiet (block_on j) h e (nothing j e) in
-    let qs : starts (h ++ e ∷ []) ≡ starts h = quiet start_in h e refl in
+-- a further commit
+pub table_grown : (j : ℕ) (h : List Entry) (e : Entry) (c : List Action) → start_in e ≡ None → commit_on j e ≡ Some c → block_on j e ≡ None → table_on j (h ++ e ∷ []) ≡ option_map (with_commits (c ∷ [])) (table_on j h)
+table_grown j h e c s is b =
+    let qc = loud (commit_on j) h e c is in
+    let qb = quiet (block_on j) h e b in
+    let qs = quiet start_in h e s in
     (λ i. option_map (grown (qc i) (qb i)) (slice_get (qs i) (j - 1))) ∙ more (filter_map (commit_on j) h) (filter_map (block_on j) h) (slice_get (starts h) (j - 1))
   where
     more : (cs : List (List Action)) (bs : List ℕ) (o : Option LogStart) → option_map (grown (cs ++ c ∷ []) bs) o ≡ option_map (with_commits (c ∷ [])) (option_map (grown cs bs) o)
@@ -166,7 +166,7 @@ publishes_commit published.Open p t q k j c h h' m o s a b legal i w =
     record {
       added = adds p t q h' (x ∷ []) a b e;
       holder = ap (open_on j) (b.seen ∙ e) ∙ (open_same j t.seen x (nothing j x) ∙ (z.holder ∙ ap (λ (n : ℕ). Some n) (sym (b.same.1 ∙ a.same.1))));
-      table = ap (table_on j) (b.seen ∙ e) ∙ (table_found p.number j t.seen c ∙ ap (option_map (with_commits (c ∷ []))) z.table);
+      table = ap (table_on j) (b.seen ∙ e) ∙ (table_grown j t.seen x c refl (here x (Some c)) (nothing j x) ∙ ap (option_map (with_commits (c ∷ []))) z.table);
     }
 publishes_commit published.NoMemory p t q k j c h h' m o s a b legal i w =
     let x : Entry = entry p.number j (Found c) in
@@ -176,7 +176,7 @@ publishes_commit published.NoMemory p t q k j c h h' m o s a b legal i w =
       added = adds p t q h' (x ∷ entry p.number j Abort ∷ []) a b e;
       before = t.seen ++ x ∷ [];
       last = b.seen ∙ (e ∙ sym (append_assoc t.seen (x ∷ []) (entry p.number j Abort ∷ [])));
-      table = table_found p.number j t.seen c ∙ ap (option_map (with_commits (c ∷ []))) z.table;
+      table = table_grown j t.seen x c refl (here x (Some c)) (nothing j x) ∙ ap (option_map (with_commits (c ∷ []))) z.table;
     }
 
 pub takes_same : (j : ℕ) (h h' : List Entry) (c : List Action) → table_on j h' ≡ table_on j h → TakesCommit h j c → TakesCommit h' j c

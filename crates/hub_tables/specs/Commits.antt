@@ -28,15 +28,16 @@ abbrev pub PassesLimit : ℕ → Offer → List (List Action) → Type 0
 PassesLimit now o log = (c : List Action) × (admitted log now o ≡ Ok c) × (2 ^ 26 < printed_bytes (log ++ c ∷ []))
 
 -- What an answer says by the log as it stood before the acts that ended the call, so many of whose commits were found: the version
--- is the log's next; a conflict is the first of the offer after that log. `block` is that of the log at the Begin.
+-- is the log's next; a conflict is the first of the offer after that log. `block` is that of the log at the Begin; of one that was blocked neither
+-- conflict nor limit is told.
 abbrev pub CommitEnds : Result ℕ CommitRefusal → ℕ → Offer → Option Objects → Option Objects → (block : Option ℕ) → (log : List (List Action)) → (found : ℕ) → List Act → Type 0
 CommitEnds (Ok v) now o old new block log found ends = (v ≡ length log) × ((c : List Action) × (admitted log now o ≡ Ok c) × (ends ≡ Own c ∷ [])) × (found < 64)
 CommitEnds (Err refusal.NotLoaded) now o old new block log found ends = ⊥
 CommitEnds (Err (refusal.Blocked n)) now o old new block log found ends =
     ((block ≡ Some n) × (found ≡ 0) × (ends ≡ Abort ∷ [])) ⊎ ((n ≡ length log) × IsUnkept o.location new log × (found < 64) × (ends ≡ Blocked n ∷ Abort ∷ []))
 CommitEnds (Err refusal.Contended) now o old new block log found ends = (found ≡ 64) × (ends ≡ Abort ∷ [])
-CommitEnds (Err (refusal.Conflict c)) now o old new block log found ends = (admitted log now o ≡ Err c) × LacksNext o old log × (found < 64) × (ends ≡ Abort ∷ [])
-CommitEnds (Err refusal.Limit) now o old new block log found ends = PassesLimit now o log × LacksNext o old log × (found < 64) × (ends ≡ Abort ∷ [])
+CommitEnds (Err (refusal.Conflict c)) now o old new block log found ends = (block ≡ None) × (admitted log now o ≡ Err c) × LacksNext o old log × (found < 64) × (ends ≡ Abort ∷ [])
+CommitEnds (Err refusal.Limit) now o old new block log found ends = (block ≡ None) × PassesLimit now o log × LacksNext o old log × (found < 64) × (ends ≡ Abort ∷ [])
 CommitEnds (Err refusal.StoreFault) now o old new block log found ends = (found < 64) × (ends ≡ Abort ∷ [])
 CommitEnds (Err refusal.NoMemory) now o old new block log found ends = (found ≤ 64) × (ends ≡ Abort ∷ [])
 

@@ -95,7 +95,7 @@ module _ (location : List ℕ) where
 abbrev Answered : Result ℕ CommitRefusal → Objects → Option Objects → TableLog → Type 0
 Answered r old new t = (r ≡ Ok (length t.commits)) ⊎ ((r ≡ Err refusal.NoMemory) × (new ≡ Some old))
 
-same_store : (x : CommitRefusal) (now : ℕ) (o : Offer) (old : Objects) (new : Option Objects) (is : Bool) (q : P) → failed_commit (Err x) ≡ false → CommitLeaves (Err x) now o (Some old) new true is q → new ≡ Some old
+pub same_store : (x : CommitRefusal) (now : ℕ) (o : Offer) (old : Objects) (new : Option Objects) (is : Bool) (q : P) → failed_commit (Err x) ≡ false → CommitLeaves (Err x) now o (Some old) new true is q → new ≡ Some old
 same_store x now o old new is q f (inl l) = l.1.same
 same_store refusal.NotLoaded now o old new is q f (inr (j, at, l)) = l.same
 same_store (refusal.Blocked n) now o old new is q f (inr (j, at, l)) = l.same
@@ -123,14 +123,14 @@ module _ (now : ℕ) (o : Offer) (old : Objects) (new : Option Objects) (is : Bo
       let none = none_found o.location old new t.commits found (same_store refusal.Contended now o old new is q refl l) clear.absent a in
       absurd (omega (arith, told.0, ap (λ (cs : List (List Action)). length cs) none))
   answered (Err (refusal.Conflict k)) faults later told small l cause stays =
-      absurd (let e : Ok c ≡ Err k = sym clear.admitted ∙ ap (λ (cs : List (List Action)). admitted cs now o) (sym (kept (refusal.Conflict k) refl l)) ∙ told.0 in cc)
+      absurd (let e : Ok c ≡ Err k = sym clear.admitted ∙ ap (λ (cs : List (List Action)). admitted cs now o) (sym (kept (refusal.Conflict k) refl l)) ∙ told.1 in cc)
   answered (Err refusal.Limit) faults later told small l cause stays =
       let same = kept refusal.Limit refl l in
-      let d : List Action = told.0.0 in
-      let e : Ok d ≡ Ok c = sym told.0.1 ∙ ap (λ (cs : List (List Action)). admitted cs now o) same ∙ clear.admitted in
+      let d : List Action = told.1.0 in
+      let e : Ok d ≡ Ok c = sym told.1.1 ∙ ap (λ (cs : List (List Action)). admitted cs now o) same ∙ clear.admitted in
       let one : d ≡ c = cc in
       let bytes : printed_bytes ((t.commits ++ found) ++ d ∷ []) ≡ printed_bytes (t.commits ++ c ∷ []) = (λ i. printed_bytes (same i ++ one i ∷ [])) in
-      absurd (omega (arith, told.0.2, bytes, clear.fits))
+      absurd (omega (arith, told.1.2, bytes, clear.fits))
   answered (Err refusal.StoreFault) faults later told small l cause stays = absurd (omega (arith, cause.rose, stays.0, stays.1))
   answered (Err refusal.NoMemory) faults later told small l cause stays = inr (refl, same_store refusal.NoMemory now o old new is q refl l)
 

@@ -10,4 +10,5 @@ pub mod TableStores
 pub mod Committing
 pub mod NodeSteps
 pub mod NodeCalls
+pub mod CatalogNodes
 pub mod LoadsKept

@@ -17,15 +17,15 @@ use Rattle.share_book.specs.TableView.{TableLog}
 use Rattle.share_book.proofs.Bookkeeping.{nothing, there_from}
 use Rattle.share_book.proofs.Pushes.{here}
 use Rattle.share_book.proofs.Words.{loud, quiet}
-use Rattle.share_nodes.specs.Steps.{Node, Step, World, after, fresh, node_at, world_from, world_of}
+use Rattle.share_nodes.specs.Steps.{Step, World, world_from, world_of}
 use Rattle.share_nodes.specs.Steps as steps_of_nodes
 use Rattle.share_nodes.proofs.Worlds.{from_append}
 use Rattle.hub_tables.specs.Commits.{CommitEnds, HasNext}
 use Rattle.hub_tables.specs.TableCalls.{acts_on, with_commits}
 use Rattle.hub_tables.specs.declared.commit.CommitRefusal.{CommitRefusal}
 use Rattle.hub_tables.specs.declared.commit.CommitRefusal.TheVariants as refusal
-use Rattle.share_hub.specs.NodeCalls.{CallsAreSteps, FaultsAreSteps, IsAt, IsPlacedLate, Steps, Went, acknowledged_by, call_steps, ending, place, reads}
-use Rattle.share_hub.proofs.NodeSteps.{HasPlaced, HasRead, place_on, placed_store, read_on}
+use Rattle.share_hub.specs.NodeCalls.{CallsAreSteps, FaultsAreSteps, IsAt, IsPlacedLate, Went, acknowledged_by, call_steps, own_of, puts, reads}
+use Rattle.share_hub.proofs.NodeSteps.{call_world, placed_at, placed_late, read_at}
 
 -- ---- the log as a call left it
 
@@ -72,69 +72,29 @@ module _ (k j : ℕ) where
 abbrev W : Type 0
 W = World (List Action)
 
--- what the call found is taken over
-taken_over : (w : W) (k : ℕ) (log found : List (List Action)) → IsAt w k log → w.store ≡ log ++ found → HasRead w (world_from w (reads k (length found))) k (length found)
-taken_over w k log found a all = read_on (length found) w k a.up a.idle (let p = a.published in let l = ap (λ (x : List (List Action)). length x) all in let n = length-append log found in omega arith)
-
-read_at : (w later : W) (k : ℕ) (log found : List (List Action)) (t : TableLog) → IsAt w k log → w.store ≡ log ++ found → HasRead w later k (length found) → t.commits ≡ log ++ found → Went w later k t []
-read_at w later k log found t a all r is =
-    let store : later.store ≡ t.commits = r.store ∙ all ∙ sym is in
-    record {
-      at = record {
-        up = r.up;
-        idle = r.idle;
-        published = (let p = a.published in let q = r.published in let n = length-append log found in let m = ap (λ (x : List (List Action)). length x) is in omega arith);
-        front = ([], append-nil t.commits ∙ sym store);
-      };
-      all = store;
-      acknowledged = r.acknowledged ∙ sym (append-nil (node_at w k).acknowledged);
-    }
-
-placed_at : (w mid later : W) (k v : ℕ) (log found : List (List Action)) (c : List Action) (t : TableLog) → w.store ≡ log ++ found → HasRead w mid k (length found) → HasPlaced mid later k c → v ≡ length (log ++ found) → t.commits ≡ (log ++ found) ++ c ∷ []
-    → Went w later k t (v ∷ [])
-placed_at w mid later k v log found c t all r p at is =
-    let before : mid.store ≡ log ++ found = r.store ∙ all in
-    let store : later.store ≡ t.commits = p.store ∙ ap (λ (l : List (List Action)). l ++ c ∷ []) before ∙ sym is in
-    let long : length mid.store ≡ length (log ++ found) = ap (λ (x : List (List Action)). length x) before in
-    record {
-      at = record {
-        up = p.up;
-        idle = p.idle;
-        published = (let q = p.published in let n = length-append (log ++ found) (c ∷ []) in let m = ap (λ (x : List (List Action)). length x) is in omega arith);
-        front = ([], append-nil t.commits ∙ sym store);
-      };
-      all = store;
-      acknowledged = p.acknowledged ∙ (λ i. r.acknowledged i ++ (long ∙ sym at) i ∷ []);
-    }
-
--- the steps of a call with such an end
-call_world : (w : W) (k n : ℕ) (ends : List Act) (last : Steps) → ending k ends ≡ last → world_from w (call_steps k n ends) ≡ world_from (world_from w (reads k n)) last
-call_world w k n ends last e = from_append w (reads k n) (ending k ends) ∙ ap (world_from (world_from w (reads k n))) e
-
 module _ (now : ℕ) (o : Offer) (old new : Option Objects) (k j n : ℕ) (h : List Entry) (w : W) (found : List (List Action)) (ends : List Act) where
   abbrev Gone : Result ℕ CommitRefusal → List Entry → Type 0
-  Gone r seen = There (table_on j seen) (λ t. Went w (world_from w (call_steps k (length found) ends)) k t (acknowledged_by r))
+  Gone r seen = There (table_on j seen) (λ t. Went w (world_from w (call_steps k (length found) ends)) k t.commits (acknowledged_by r))
 
-  only_read : (x : CommitRefusal) (t : TableLog) → IsAt w k t.commits → w.store ≡ t.commits ++ found → table_on j h ≡ Some (with_commits found t) → ending k ends ≡ [] → AddsOwn n j ends [] → Gone (Err x) (h ++ acts_on n j ends)
+  -- the steps of a call that ended with these of its own
+  with_own : (own : List (List Action)) (t : TableLog) (more : List ℕ) → IsAt w k t.commits → w.store ≡ t.commits ++ found → own_of ends ≡ own → (log : List (List Action)) → Went w (world_from (world_from w (reads k (length found))) (puts k own)) k log more
+      → Went w (world_from w (call_steps k (length found) ends)) k log more
+  with_own own t more a all is log went = subst (λ (u : W). Went w u k log more) (sym (ap (λ (cs : List (List Action)). world_from w (reads k (length found) ++ puts k cs)) is ∙ call_world w k t.commits found a all own)) went
+
+  only_read : (x : CommitRefusal) (t : TableLog) → IsAt w k t.commits → w.store ≡ t.commits ++ found → table_on j h ≡ Some (with_commits found t) → own_of ends ≡ [] → AddsOwn n j ends [] → Gone (Err x) (h ++ acts_on n j ends)
   only_read x t a all e quits none =
       let z = ends_at h (acts_on n j ends) j (with_commits found t) [] (slice_get (starts h) (j - 1)) refl e none.0 none.1 in
-      there_from (table_on j (h ++ acts_on n j ends)) z.log (λ y. Went w (world_from w (call_steps k (length found) ends)) k y []) z.is
-      (subst (λ (u : W). Went w u k z.log []) (sym (call_world w k (length found) ends [] quits))
-      (read_at w (world_from w (reads k (length found))) k t.commits found z.log a all (taken_over w k t.commits found a all) (z.has ∙ append-nil (t.commits ++ found))))
+      there_from (table_on j (h ++ acts_on n j ends)) z.log (λ y. Went w (world_from w (call_steps k (length found) ends)) k y.commits []) z.is
+      (with_own [] t [] a all quits z.log.commits (read_at w k t.commits found a all z.log.commits (z.has ∙ append-nil (t.commits ++ found))))
 
   aborted : (x : CommitRefusal) (t : TableLog) → IsAt w k t.commits → w.store ≡ t.commits ++ found → table_on j h ≡ Some (with_commits found t) → ends ≡ Abort ∷ [] → Gone (Err x) (h ++ acts_on n j ends)
-  aborted x t a all e is = only_read x t a all e (ap (ending k) is) (aborts n j ends is)
+  aborted x t a all e is = only_read x t a all e (ap own_of is) (aborts n j ends is)
 
   own : (v : ℕ) (t : TableLog) (c : List Action) → IsAt w k t.commits → w.store ≡ t.commits ++ found → table_on j h ≡ Some (with_commits found t) → ends ≡ Own c ∷ [] → v ≡ length (t.commits ++ found) → Gone (Ok v) (h ++ acts_on n j ends)
   own v t c a all e is at =
       let z = ends_at h (acts_on n j ends) j (with_commits found t) (c ∷ []) (slice_get (starts h) (j - 1)) refl e (owns n j c ends is).0 (owns n j c ends is).1 in
-      let mid : W = world_from w (reads k (length found)) in
-      let r = taken_over w k t.commits found a all in
-      let full : (node_at mid k).published ≡ length mid.store =
-      (let p = r.published in let q = a.published in let s = ap (λ (x : List (List Action)). length x) (r.store ∙ all) in let m = length-append t.commits found in omega arith) in
-      there_from (table_on j (h ++ acts_on n j ends)) z.log (λ y. Went w (world_from w (call_steps k (length found) ends)) k y (v ∷ [])) z.is
-      (subst (λ (u : W). Went w u k z.log (v ∷ [])) (sym (call_world w k (length found) ends (ending k (Own c ∷ [])) (ap (ending k) is)))
-      (placed_at w mid (world_from mid (ending k (Own c ∷ []))) k v t.commits found c z.log all r (place_on mid k c r.up r.idle full) at z.has))
+      there_from (table_on j (h ++ acts_on n j ends)) z.log (λ y. Went w (world_from w (call_steps k (length found) ends)) k y.commits (v ∷ [])) z.is
+      (with_own (c ∷ []) t (v ∷ []) a all (ap own_of is) z.log.commits (placed_at w k t.commits found a all v c z.log.commits at z.has))
 
   went : (r : Result ℕ CommitRefusal) (b : Option TableLog) → table_on j h ≡ option_map (with_commits found) b → There b (λ t. IsAt w k t.commits × (w.store ≡ t.commits ++ found))
       → There b (λ t. CommitEnds r now o old new t.block (t.commits ++ found) (length found) ends) → Gone r (h ++ acts_on n j ends)
@@ -142,35 +102,24 @@ module _ (now : ℕ) (o : Offer) (old new : Option Objects) (k j n : ℕ) (h : L
   went (Ok v) (Some t) e a told = own v t told.1.0 a.0 a.1 e told.1.2 told.0
   went (Err refusal.NotLoaded) (Some t) e a told = absurd told
   went (Err (refusal.Blocked m)) (Some t) e a (inl told) = aborted (refusal.Blocked m) t a.0 a.1 e told.2
-  went (Err (refusal.Blocked m)) (Some t) e a (inr told) = only_read (refusal.Blocked m) t a.0 a.1 e (ap (ending k) told.3) (blocks n j m ends told.3)
+  went (Err (refusal.Blocked m)) (Some t) e a (inr told) = only_read (refusal.Blocked m) t a.0 a.1 e (ap own_of told.3) (blocks n j m ends told.3)
   went (Err refusal.Contended) (Some t) e a told = aborted refusal.Contended t a.0 a.1 e told.1
-  went (Err (refusal.Conflict c)) (Some t) e a told = aborted (refusal.Conflict c) t a.0 a.1 e told.3
-  went (Err refusal.Limit) (Some t) e a told = aborted refusal.Limit t a.0 a.1 e told.3
+  went (Err (refusal.Conflict c)) (Some t) e a told = aborted (refusal.Conflict c) t a.0 a.1 e told.4
+  went (Err refusal.Limit) (Some t) e a told = aborted refusal.Limit t a.0 a.1 e told.4
   went (Err refusal.StoreFault) (Some t) e a told = aborted refusal.StoreFault t a.0 a.1 e told.1
   went (Err refusal.NoMemory) (Some t) e a told = aborted refusal.NoMemory t a.0 a.1 e told.1
 
 pub calls_steps : CallsAreSteps
 calls_steps r now o old new p q j ran steps k a =
-    subst (λ (h : List Entry). There (table_on j h) (λ t. Went (world_of steps) (world_of (steps ++ call_steps k (length ran.found) ran.ends)) k t (acknowledged_by r))) (sym ran.ran.last)
-    (subst (λ (u : W). There (table_on j (ran.ran.before ++ acts_on p.number j ran.ends)) (λ t. Went (world_of steps) u k t (acknowledged_by r))) (sym (from_append steps_of_nodes.nothing steps (call_steps k (length ran.found) ran.ends)))
+    subst (λ (h : List Entry). There (table_on j h) (λ t. Went (world_of steps) (world_of (steps ++ call_steps k (length ran.found) ran.ends)) k t.commits (acknowledged_by r))) (sym ran.ran.last)
+    (subst (λ (u : W). There (table_on j (ran.ran.before ++ acts_on p.number j ran.ends)) (λ t. Went (world_of steps) u k t.commits (acknowledged_by r))) (sym (from_append steps_of_nodes.nothing steps (call_steps k (length ran.found) ran.ends)))
     (went now o old new k j p.number ran.ran.before (world_of steps) ran.found ran.ends r (table_on j ran.ran.from) ran.ran.table a ran.told))
 
 -- ---- a fault
 
-late_at : (o : Offer) (old new : Option Objects) (now k : ℕ) (w : W) (steps : Steps) (b : Option TableLog) → There b (λ t. Went w (world_of steps) k t []) → There b (λ t. HasNext now o old new t.commits) → There b (IsPlacedLate o old new steps)
+late_at : (o : Offer) (old new : Option Objects) (now k : ℕ) (w : W) (steps : List (Step (List Action))) (b : Option TableLog) → There b (λ t. Went w (world_of steps) k t.commits []) → There b (λ t. HasNext now o old new t.commits) → There b (IsPlacedLate o old new steps)
 late_at o old new now k w steps None g m = absurd m
-late_at o old new now k w steps (Some t) g m = (m.0, m.2, λ i new_node. stored i new_node)
-  where
-    stored : (i : ℕ) → node_at (world_of steps) i ≡ fresh → (world_of (steps ++ (reads i (length t.commits) ++ place i m.0 ∷ []))).store ≡ t.commits ++ m.0 ∷ []
-    stored i is =
-        let u : W = world_of steps in
-        let long : length u.store ≡ length t.commits = ap (λ (x : List (List Action)). length x) g.all in
-        let none : (node_at u i).published ≡ 0 = ap (λ (x : Node). x.published) is in
-        let r = read_on (length t.commits) u i (ap (λ (x : Node). x.up) is) (ap (λ (x : Node). x.pending) is) (omega (arith, long, none)) in
-        let mid : W = world_from u (reads i (length t.commits)) in
-        let full : (node_at mid i).published ≡ length mid.store = (let p = r.published in let s = ap (λ (x : List (List Action)). length x) r.store in omega arith) in
-        ap (λ (x : W). x.store) (from_append steps_of_nodes.nothing steps (reads i (length t.commits) ++ place i m.0 ∷ []) ∙ from_append u (reads i (length t.commits)) (place i m.0 ∷ []))
-        ∙ placed_store mid i m.0 r.up r.idle full ∙ ap (λ (l : List (List Action)). l ++ m.0 ∷ []) (r.store ∙ g.all)
+late_at o old new now k w steps (Some t) g m = (m.0, m.2, placed_late steps t.commits m.0 g.all)
 
 same_log : (i j : ℕ) (a : Option ℕ) → a ≡ Some i → a ≡ Some j → i ≡ j
 same_log i j a x y = let e : Some i ≡ Some j = sym x ∙ y in cc

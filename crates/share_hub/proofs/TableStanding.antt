@@ -16,13 +16,12 @@ use Rattle.share_book.specs.declared.entry.Entry.{Entry}
 use Rattle.share_book.specs.declared.entry.Act.{Act}
 use Rattle.share_book.specs.declared.entry.Act.TheVariants.{Begin, Own, Found, Blocked, Abort}
 use Rattle.share_book.specs.declared.entry.LogStart.{LogStart}
-use Rattle.share_book.specs.History.{block_on, commit_on, entry, first_block, grown, start_in, starts, table_on}
+use Rattle.share_book.specs.History.{block_on, commit_on, entry, grown, start_in, starts, table_on}
 use Rattle.share_book.specs.Legal.{There, is_at, log_at}
 use Rattle.share_book.specs.TableView.{TableLog}
 use Rattle.share_book.proofs.Bookkeeping.{nothing, there_from}
 use Rattle.share_book.proofs.Growth.{get_stays}
 use Rattle.share_book.proofs.Pushes.{here}
-use Rattle.share_book.proofs.Words.{loud, quiet}
 use Rattle.hub_calls.specs.Calls.{Adds, P}
 use Rattle.hub_tables.specs.Commits.{CommitEnds, CommitLeaves}
 use Rattle.hub_tables.specs.FoundCommits.{AreFound, RanOn}
@@ -32,6 +31,7 @@ use Rattle.hub_tables.specs.declared.commit.CommitRefusal.{CommitRefusal}
 use Rattle.hub_tables.specs.declared.commit.CommitRefusal.TheVariants as refusal
 use Rattle.hub_tables.specs.declared.refresh.Refreshed.{Refreshed}
 use Rattle.hub_tables.specs.declared.refresh.RefreshRefusal.TheVariants as refused
+use Rattle.hub_tables.proofs.TablePasses.{table_grown}
 use Rattle.share_hub.specs.Backing.{ActStands, AddsStanding, CommitStands}
 use Rattle.share_hub.specs.TableLaws.{CommitsStand, RefreshesStand}
 
@@ -136,16 +136,7 @@ module _ (objects : Option Objects) (h : List Entry) (j : ℕ) where
 
 -- a caller's own commit stands on the log
 pub table_owned : (k j : ℕ) (h : List Entry) (c : List Action) → table_on j (h ++ entry k j (Own c) ∷ []) ≡ option_map (with_commits (c ∷ [])) (table_on j h)
-table_owned k j h c =
-    let e : Entry = entry k j (Own c) in
-    let qc : filter_map (commit_on j) (h ++ e ∷ []) ≡ filter_map (commit_on j) h ++ c ∷ [] = loud (commit_on j) h e c (here e (Some c)) in
-    let qb : filter_map (block_on j) (h ++ e ∷ []) ≡ filter_map (block_on j) h = quiet (block_on j) h e (nothing j e) in
-    let qs : starts (h ++ e ∷ []) ≡ starts h = quiet start_in h e refl in
-    (λ i. option_map (grown (qc i) (qb i)) (slice_get (qs i) (j - 1))) ∙ more (filter_map (commit_on j) h) (filter_map (block_on j) h) (slice_get (starts h) (j - 1))
-  where
-    more : (cs : List (List Action)) (bs : List ℕ) (o : Option LogStart) → option_map (grown (cs ++ c ∷ []) bs) o ≡ option_map (with_commits (c ∷ [])) (option_map (grown cs bs) o)
-    more cs bs None = refl
-    more cs bs (Some s) = ap (λ (x : List (List Action)). Some (record { location = s.location; commits = x; block = first_block s.block bs })) (sym (append_assoc s.commits cs (c ∷ [])))
+table_owned k j h c = let e : Entry = entry k j (Own c) in table_grown j h e c refl (here e (Some c)) (nothing j e)
 
 -- the last entry is one act
 same_own : (h a b : List Entry) (k m j n : ℕ) (c d : List Action) → h ≡ a ++ entry k j (Own c) ∷ [] → h ≡ b ++ entry m n (Own d) ∷ [] → c ≡ d
@@ -185,8 +176,8 @@ module _ (now : ℕ) (o : Offer) (old new : Option Objects) (was is : Bool) (p q
   ended (Err (refusal.Blocked n)) (Some t) last e at (inl w) l = aborted new q.seen j ends w.2
   ended (Err (refusal.Blocked n)) (Some t) last e at (inr w) l = blocked new q.seen j n ends w.3
   ended (Err refusal.Contended) (Some t) last e at w l = aborted new q.seen j ends w.1
-  ended (Err (refusal.Conflict c)) (Some t) last e at w l = aborted new q.seen j ends w.3
-  ended (Err refusal.Limit) (Some t) last e at w l = aborted new q.seen j ends w.3
+  ended (Err (refusal.Conflict c)) (Some t) last e at w l = aborted new q.seen j ends w.4
+  ended (Err refusal.Limit) (Some t) last e at w l = aborted new q.seen j ends w.4
   ended (Err refusal.StoreFault) (Some t) last e at w l = aborted new q.seen j ends w.1
   ended (Err refusal.NoMemory) (Some t) last e at w l = aborted new q.seen j ends w.1
 

@@ -1,5 +1,5 @@
 -- What holds of the hub's calls on the catalogue, and which edits are recorded.
-use Rattle.std.specs.Prelude.{◌≡◌, ◌⊎◌, ℕ, ◌^◌, ◌≤◌, ◌<◌, Bool, true, List, [], ◌∷◌, ◌++◌, Option, Some, None, Result, Ok, Err, IfOk, IfSome, All, length, slice_get}
+use Rattle.std.specs.Prelude.{◌≡◌, ◌⊎◌, ℕ, ◌+◌, ◌^◌, ◌≤◌, ◌<◌, Bool, true, List, Option, Some, None, Result, Ok, Err, IfOk, IfSome, All, length, slice_get}
 use mathlib.Core.List.{IsPrefix}
 use Rattle.std.specs.Global.{Vec}
 use Rattle.turn_cell.specs.Passes.{CellId}
@@ -11,18 +11,17 @@ use Rattle.catalog_log.specs.RecordNames.{record_name_of}
 use Rattle.share_catalog.specs.declared.edit.Edit.{Edit}
 use Rattle.share_catalog.specs.Catalogue.{refusal_of}
 use Rattle.share_book.specs.declared.entry.Entry.{Entry}
-use Rattle.share_book.specs.declared.entry.Act.TheVariants.{Begin}
-use Rattle.share_book.specs.History.{edits, entry, table_on}
+use Rattle.share_book.specs.History.{edits, table_on}
 use Rattle.share_book.specs.Legal.{IsKeptLog}
 use Rattle.hub_calls.specs.Calls.{P}
-use Rattle.hub_catalog.specs.Edits.{Edits, Leaves, failed_edit}
+use Rattle.hub_catalog.specs.Edits.{Edits, Leaves, OneMore, failed_edit}
 use Rattle.hub_catalog.specs.Opens.{OpensAs}
 use Rattle.hub_catalog.specs.Refreshes.{Refreshes}
 use Rattle.hub_catalog.specs.declared.edit.EditEnd.{EditEnd}
 use Rattle.hub_catalog.specs.declared.edit.EditEnd.TheVariants as end
 use Rattle.hub_catalog.specs.declared.found.CatalogRefusal.{CatalogRefusal}
 use Rattle.hub_catalog.specs.declared.refresh_catalog.RefreshedCatalog.{RefreshedCatalog}
-use Rattle.share_hub.specs.Backing.{AddsStanding, AreRecorded, IsUnfailed}
+use Rattle.share_hub.specs.Backing.{AddsStanding, AreRecorded, IsBegunOn, IsUnfailed}
 
 -- ---- what was added stands
 
@@ -55,10 +54,9 @@ pub record StoppedServersLoseNothing : Type 0 where
 
 -- ---- which edits are recorded
 
--- the call's Begin stands right after this history
-pub record IsBegunAfter (p q : P) (from : List Entry) : Type 0 where
-  pub after : IsPrefix p.seen from
-  pub begun : IsPrefix (from ++ entry p.number 0 Begin ∷ []) q.seen
+-- the call's Begin on the catalogue stands right after this history
+abbrev pub IsBegunAfter : P → P → List Entry → Type 0
+IsBegunAfter p q from = IsBegunOn 0 p q from
 
 -- Nothing is in the way of the edit after these: the catalogue takes it, and no object is there as the next record.
 pub record IsClearEdit (e : Edit) (old : Objects) (es : List Edit) : Type 0 where
@@ -73,7 +71,16 @@ EditsAreRecorded =
     → ((from : List Entry) → IsBegunAfter p q from → IsClearEdit e old (edits from)) → IfOk r (λ n. n < 2 ^ 64) → Edits r e (Some old) new p q → Leaves r e (Some old) new true is q → Cause faults later (failed_edit r) → IsUnfailed faults later
     → ((from : List Entry) × IsBegunAfter p q from × (r ≡ Ok (length (edits from)))) ⊎ ((r ≡ Err end.NoMemory) × (new ≡ Some old))
 
--- ---- what is put once
+-- ---- what is put
+
+-- one object more, the edit's record, under the number of the catalogue's last edit or the one after it
+abbrev pub IsNextRecord : Edit → Objects → Option Objects → P → Type 0
+IsNextRecord e old new q = (n : ℕ) × OneMore (Some old) new n e × ((n + 1 ≡ length (edits q.seen)) ⊎ (n ≡ length (edits q.seen)))
+
+-- A store that nobody else writes has after an edit's call what it had, or that and one object more, the edit's record under the next number.
+abbrev pub EditsPutOne : Type 0
+EditsPutOne =
+    (r : Result ℕ EditEnd) (e : Edit) (old : Objects) (new : Option Objects) (is : Bool) (p q : P) → Edits r e (Some old) new p q → Leaves r e (Some old) new true is q → (new ≡ Some old) ⊎ IsNextRecord e old new q
 
 -- Of two puts of one name in a store that tells its objects none lies before the other, whatever the bytes, and by whatever servers.
 abbrev pub NamesArePutOnce : Type 0
