@@ -9,8 +9,15 @@ use Rattle.log_actions.specs.declared.actions.RemoveFile.{RemoveFile}
 use Rattle.change_feed.specs.declared.change.ChangeKind.{ChangeKind}
 use Rattle.change_feed.specs.declared.change.ChangeKind.TheVariants as kind
 
--- a file of the feed, with the version that it came with and that version's time
+-- an action by which a change comes
+pub data FileAction : Type 0 where
+  added : AddFile → FileAction
+  rows : CdcFile → FileAction
+  removed : RemoveFile → FileAction
+
+-- a file of the feed, with the action and the version that it came with, and that version's time
 pub record ChangedFile : Type 0 where
+  pub action : FileAction
   pub kind : ChangeKind
   pub path : List ℕ
   pub values : List (List ℕ × Option (List ℕ))
@@ -20,14 +27,14 @@ pub record ChangedFile : Type 0 where
   pub time : ℤ
 
 abbrev pub row_file : ℕ → ℤ → CdcFile → ChangedFile
-row_file version time f = record { kind = kind.Cdf; path = f.path; values = f.values; size = f.size; stats = None; version = version; time = time }
+row_file version time f = record { action = rows f; kind = kind.Cdf; path = f.path; values = f.values; size = f.size; stats = None; version = version; time = time }
 
 abbrev pub added_file : ℕ → ℤ → AddFile → ChangedFile
-added_file version time f = record { kind = kind.Add; path = f.path; values = f.values; size = f.size; stats = f.stats; version = version; time = time }
+added_file version time f = record { action = added f; kind = kind.Add; path = f.path; values = f.values; size = f.size; stats = f.stats; version = version; time = time }
 
 -- what a remove doesn't say of its file counts as no values, and as 0 bytes
 abbrev pub removed_file : ℕ → ℤ → RemoveFile → ChangedFile
-removed_file version time f = record { kind = kind.Remove; path = f.path; values = unwrap_or f.values []; size = unwrap_or f.size 0; stats = None; version = version; time = time }
+removed_file version time f = record { action = removed f; kind = kind.Remove; path = f.path; values = unwrap_or f.values []; size = unwrap_or f.size 0; stats = None; version = version; time = time }
 
 -- a file of changed rows ("Add CDC File")
 abbrev pub row_change : ℕ → ℤ → Action → Option ChangedFile

@@ -1,5 +1,5 @@
 //! The real outside of a program: its standard streams, a folder whose files are a store's
-//! objects, the system's clock, and connections of TCP that others open or it opens.
+//! objects, the system's clock and random bytes, and connections of TCP that others open or it opens.
 //!
 //! What these read, write and hold is told to nobody, so contracts say no more of them than the
 //! traits ask: how much moves at most, and that a call which fails raises the count of faults. What
@@ -10,6 +10,7 @@ mod file_store;
 mod files;
 mod places;
 mod puts;
+mod random;
 mod std_clock;
 mod streams;
 mod tcp;
@@ -18,6 +19,7 @@ mod tcp_way;
 mod timeouts;
 
 pub use file_store::FileStore;
+pub use random::random_mark;
 pub use std_clock::StdClock;
 pub use streams::{StdSink, StdSource};
 pub use tcp::{TcpSink, TcpSource};

@@ -8,6 +8,8 @@ mod calls;
 #[cfg(test)]
 mod folder;
 #[cfg(test)]
+mod fresh;
+#[cfg(test)]
 mod streams;
 #[cfg(test)]
 mod tcp;

@@ -49,6 +49,7 @@ fn content_type(word: &str) -> Option<ContentType> {
     match word {
         "Json" => Some(ContentType::Json),
         "JsonLines" => Some(ContentType::JsonLines),
+        "DeltaLines" => Some(ContentType::DeltaLines),
         "Bytes" => Some(ContentType::Bytes),
         _ => None,
     }

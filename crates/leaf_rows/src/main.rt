@@ -6,6 +6,7 @@ mod answer;
 mod asked;
 mod catalog;
 mod configs;
+mod deltas;
 mod doors;
 mod given;
 mod heads;
@@ -46,9 +47,9 @@ macro_rules! first_knows {
 
 fn is_known(call: &str, given: &Given, out: &mut Answer) -> bool {
     first_knows!(
-        call, given, out, asked, catalog, configs, doors, heads, lines, log_lines, log_loads,
-        log_states, memory, messages, names, partitions, ranges, servers, signs, tables, tokens,
-        trees, wire
+        call, given, out, asked, catalog, configs, deltas, doors, heads, lines, log_lines,
+        log_loads, log_states, memory, messages, names, partitions, ranges, servers, signs, tables,
+        tokens, trees, wire
     );
     false
 }

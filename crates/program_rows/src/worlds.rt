@@ -146,7 +146,7 @@ fn push_heads(text: &mut String, replies: &[Reply]) -> Result<(), AllocError> {
 // The lines of a body, none where it has others.
 fn lines_of(body: &Body) -> Option<&[u8]> {
     match body {
-        Body::Lines(lines) => Some(lines.get()),
+        Body::Lines(_, lines) => Some(lines.get()),
         Body::Empty => Some(b"nothing\n"),
         _ => None,
     }

@@ -8,7 +8,7 @@ use Rattle.std.proofs.lemmas.List.Folds.{list_all-append}
 use Rattle.response_text.specs.Contents.{content_type_name}
 use Rattle.response_text.specs.Dates.{date_at, day_at, weekday_name, month_name, two_digits, four_digits, time_text}
 use Rattle.file_ranges.specs.Ranges.{Range, range_text}
-use Rattle.response_text.specs.Heads.{Head, Fields, field_line, fields, is_one_line, status_line, size_fields, status_fields, unit_fields, type_fields, form_fields, close_fields}
+use Rattle.response_text.specs.Heads.{Head, Fields, field_line, fields, is_one_line, status_line, size_fields, status_fields, unit_fields, type_fields, form_fields, close_fields, format_fields}
 use Rattle.response_text.specs.Statuses.{allowed_names, code, reason}
 use Rattle.response_text.specs.declared.head.ContentType.{ContentType}
 use Rattle.response_text.specs.declared.head.ContentType.TheVariants as content
@@ -175,11 +175,13 @@ status_clean status.ServiceUnavailable = refl
 name_clean : (form : ContentType) → IsClean (content_type_name form)
 name_clean content.Json = refl
 name_clean content.JsonLines = refl
+name_clean content.DeltaLines = refl
 name_clean content.Bytes = refl
 
 unit_clean : (form : ContentType) → AreClean (unit_fields form)
 unit_clean content.Json = refl
 unit_clean content.JsonLines = refl
+unit_clean content.DeltaLines = refl
 unit_clean content.Bytes = one_clean (codes "Accept-Ranges") (codes "bytes") [] refl refl refl
 
 cond_clean : (b : Bool) (x y : Fields) → AreClean x → AreClean y → AreClean (cond b x y)
@@ -189,8 +191,16 @@ cond_clean false x y p q = q
 type_clean : (form : ContentType) (length : ℕ) → AreClean (type_fields form length)
 type_clean form length = cond_clean (length == 0) [] ((codes "Content-Type", content_type_name form) ∷ []) refl (one_clean (codes "Content-Type") (content_type_name form) [] refl (name_clean form) refl)
 
+format_clean : (form : ContentType) → AreClean (format_fields form)
+format_clean content.Json = refl
+format_clean content.JsonLines = refl
+format_clean content.DeltaLines = one_clean (codes "delta-sharing-capabilities") (codes "responseformat=delta") [] refl refl refl
+format_clean content.Bytes = refl
+
 form_clean : (form : ContentType) (length : ℕ) → AreClean (form_fields form length)
-form_clean form length = both_clean (unit_fields form) (type_fields form length) (unit_clean form) (type_clean form length)
+form_clean form length =
+    both_clean (unit_fields form) (type_fields form length ++ format_fields form) (unit_clean form)
+    (both_clean (type_fields form length) (format_fields form) (type_clean form length) (format_clean form))
 
 close_clean : (closes : Bool) → AreClean (close_fields closes)
 close_clean closes = cond_clean closes ((codes "Connection", codes "close") ∷ []) [] refl refl

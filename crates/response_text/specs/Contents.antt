@@ -6,4 +6,5 @@ use Rattle.response_text.specs.declared.head.ContentType.TheVariants as content
 abbrev pub content_type_name : ContentType → List ℕ
 content_type_name content.Json = codes "application/json; charset=utf-8"
 content_type_name content.JsonLines = codes "application/x-ndjson; charset=utf-8"
+content_type_name content.DeltaLines = codes "application/x-ndjson; charset=utf-8"
 content_type_name content.Bytes = codes "application/octet-stream"

@@ -67,6 +67,7 @@ status_fields _ = []
 abbrev pub unit_fields : ContentType → Fields
 unit_fields content.Json = []
 unit_fields content.JsonLines = []
+unit_fields content.DeltaLines = []
 unit_fields content.Bytes = (codes "Accept-Ranges", codes "bytes") ∷ []
 
 -- an empty body has no type (RFC 9110, section 8.3)
@@ -74,9 +75,16 @@ abbrev pub type_fields : ContentType → ℕ → Fields
 type_fields form length =
     if length == 0 then [] else (codes "Content-Type", content_type_name form) ∷ []
 
+-- the format of lines, where it is the one of actions (Delta Sharing PROTOCOL.md, "Delta Sharing Capabilities Header")
+abbrev pub format_fields : ContentType → Fields
+format_fields content.Json = []
+format_fields content.JsonLines = []
+format_fields content.DeltaLines = (codes "delta-sharing-capabilities", codes "responseformat=delta") ∷ []
+format_fields content.Bytes = []
+
 -- what is told of the body but its length
 abbrev pub form_fields : ContentType → ℕ → Fields
-form_fields form length = unit_fields form ++ type_fields form length
+form_fields form length = unit_fields form ++ (type_fields form length ++ format_fields form)
 
 -- RFC 9112, section 9.6
 abbrev pub close_fields : Bool → Fields

@@ -11,6 +11,8 @@ pub enum ContentType {
     Json,
     /// JSON texts, one a line.
     JsonLines,
+    /// The same with the actions of a table's log (Delta Sharing PROTOCOL.md, "Delta Sharing Capabilities Header").
+    DeltaLines,
     /// Bytes of a file.
     Bytes,
 }
@@ -23,7 +25,9 @@ impl ContentType {
     {
         match self {
             ContentType::Json => "application/json; charset=utf-8",
-            ContentType::JsonLines => "application/x-ndjson; charset=utf-8",
+            ContentType::JsonLines | ContentType::DeltaLines => {
+                "application/x-ndjson; charset=utf-8"
+            }
             ContentType::Bytes => "application/octet-stream",
         }
     }

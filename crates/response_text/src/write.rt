@@ -1,6 +1,6 @@
 // A head, written.
 ghost use Rattle.std.specs.Prelude.{◌≡◌, ◌≤◌, ◌+◌, [], ◌∷◌, ◌++◌, codes, vec_len, IfOk, OnOk};
-ghost use Rattle.response_text.specs.Heads.{head_of, head_text, fields, fields_text, version_fields, size_fields, status_fields, unit_fields, type_fields, form_fields, close_fields};
+ghost use Rattle.response_text.specs.Heads.{head_of, head_text, fields, fields_text, version_fields, size_fields, status_fields, unit_fields, type_fields, format_fields, form_fields, close_fields};
 ghost use Rattle.file_ranges.specs.Ranges.{range_text as text_of_range};
 
 use crate::date::date_at;
@@ -12,7 +12,7 @@ use file_ranges::part::ByteRange;
 use std::alloc::{AllocError, Global};
 
 // The most bytes that a head has.
-const ROOM: usize = 320;
+const ROOM: usize = 370;
 
 fn push_version(text: &mut Vec<u8>, version: Option<u64>) -> Result<(), AllocError>
     ensures text { OnOk result (text.new.items ≡ text.old.items ++ fields_text (version_fields version)) }
@@ -71,7 +71,7 @@ fn push_unit(text: &mut Vec<u8>, form: ContentType) -> Result<(), AllocError>
 {
     match form {
         ContentType::Bytes => push_field(text, "Accept-Ranges", b"bytes"),
-        ContentType::Json | ContentType::JsonLines => Ok(()),
+        ContentType::Json | ContentType::JsonLines | ContentType::DeltaLines => Ok(()),
     }
 }
 
@@ -85,13 +85,29 @@ fn push_type(text: &mut Vec<u8>, form: ContentType, length: u128) -> Result<(), 
     push_field(text, "Content-Type", form.name().as_bytes())
 }
 
+// The format of lines, where it is the one of actions.
+fn push_format(text: &mut Vec<u8>, form: ContentType) -> Result<(), AllocError>
+    ensures text { OnOk result (text.new.items ≡ text.old.items ++ fields_text (format_fields form)) }
+    ensures size { OnOk result (vec_len text.new ≤ vec_len text.old + 50) }
+{
+    match form {
+        ContentType::DeltaLines => push_field(
+            text,
+            "delta-sharing-capabilities",
+            b"responseformat=delta",
+        ),
+        ContentType::Json | ContentType::JsonLines | ContentType::Bytes => Ok(()),
+    }
+}
+
 // What is told of the body but its length.
 fn push_form(text: &mut Vec<u8>, form: ContentType, length: u128) -> Result<(), AllocError>
     ensures text { OnOk result (text.new.items ≡ text.old.items ++ fields_text (form_fields form length)) }
-    ensures size { OnOk result (vec_len text.new ≤ vec_len text.old + 73) }
+    ensures size { OnOk result (vec_len text.new ≤ vec_len text.old + 123) }
 {
     push_unit(text, form)?;
-    push_type(text, form, length)
+    push_type(text, form, length)?;
+    push_format(text, form)
 }
 
 fn push_close(text: &mut Vec<u8>, closes: bool) -> Result<(), AllocError>
@@ -107,7 +123,7 @@ fn push_close(text: &mut Vec<u8>, closes: bool) -> Result<(), AllocError>
 // All fields.
 fn push_fields(alloc: Global, text: &mut Vec<u8>, head: &ResponseHead) -> Result<(), AllocError>
     ensures text { OnOk result (text.new.items ≡ text.old.items ++ fields_text (fields (head_of head.now))) }
-    ensures size { OnOk result (vec_len text.new ≤ vec_len text.old + 271) }
+    ensures size { OnOk result (vec_len text.new ≤ vec_len text.old + 321) }
 {
     push_field(text, "Date", &date_at(head.moment))?;
     push_status_field(alloc, text, head.status)?;
@@ -121,11 +137,11 @@ fn push_fields(alloc: Global, text: &mut Vec<u8>, head: &ResponseHead) -> Result
 ///
 /// The fields are, in this order: Date; Delta-Table-Version where the status has a version; Content-Range with 206, and with 416
 /// where it has a size; WWW-Authenticate with 401; Allow with 405; Accept-Ranges where the body is bytes; Content-Type where the
-/// body isn't empty; Content-Length; `Connection: close` where the connection is closed. The text has at most 320 bytes, and room
-/// for as many is made at once. The error is want of memory.
+/// body isn't empty; delta-sharing-capabilities where the body is lines of actions; Content-Length; `Connection: close` where the
+/// connection is closed. The text has at most 370 bytes, and room for as many is made at once. The error is want of memory.
 pub fn head_text(alloc: Global, head: &ResponseHead) -> Result<Vec<u8>, AllocError>
     ensures text { IfOk result (λ text. text.items ≡ head_text (head_of head.now)) }
-    ensures size { IfOk result (λ text. vec_len text ≤ 320) }
+    ensures size { IfOk result (λ text. vec_len text ≤ 370) }
 {
     let mut text = Vec::with_capacity(alloc, ROOM)?;
     push_status(&mut text, &head.status)?;

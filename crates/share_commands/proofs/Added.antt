@@ -1,12 +1,11 @@
 -- What runs added stands.
-use Rattle.std.proofs.Common.{◌≡◌, ℕ, ◌<◌, Bool, List, Option, Some, sym, subst, ◌∙◌}
+use Rattle.std.proofs.Common.{◌≡◌, ℕ, Bool, List, Option, Some, sym, subst, ◌∙◌}
 use Rattle.std.specs.Prelude.{slice_index_or}
 use Rattle.std.specs.Option.{IsSomeAnd}
 use Rattle.edge_core.specs.Lines.{ClosedLine}
 use Rattle.edge_core.specs.Objects.{Objects}
 use Rattle.hub_calls.specs.Calls.{P}
 use Rattle.hub_catalog.specs.Opens.{first_history}
-use Rattle.share_commands.specs.Serve.{WorksAt}
 use Rattle.share_commands.specs.Standing.{ServeStands, StdioStands}
 use Rattle.share_hub.specs.Backing.{AddsStanding}
 use Rattle.share_pool.specs.Desks.{post_of}

@@ -30,6 +30,7 @@ use Rattle.share_pool.proofs.Ordered.{in_order}
 use Rattle.share_pool.proofs.Refreshes.{refreshed_grew}
 use Rattle.share_reply.specs.Asking.{ask_by}
 use Rattle.share_reply.specs.Bodies.{reply_of}
+use Rattle.share_reply.specs.Formats.{format_of}
 use Rattle.share_reply.specs.Chains as chain
 use Rattle.share_reply.specs.Replies.{answered, answered_at, view_asked, view_for}
 use Rattle.share_reply.specs.declared.keys.ReplyKeys.{ReplyKeys}
@@ -37,7 +38,7 @@ use Rattle.share_reply.specs.declared.plan.Plan.{Plan}
 use Rattle.share_reply.specs.declared.plan.Plan.TheVariants as plan
 use Rattle.share_request.specs.declared.asked.Request.{Request}
 use Rattle.share_request.specs.declared.asked.Request.TheVariants as request
-use Rattle.share_serve.specs.Callers.{By, by_request, server_of}
+use Rattle.share_serve.specs.Callers.{by_request, server_of}
 use Rattle.share_serve.specs.Callers as by
 use Rattle.share_serve.specs.Laws.{request_of}
 use Rattle.share_serve.specs.Sessions.{Ends, IsSession, RefusesInPart, RespondsInPart}
@@ -66,8 +67,8 @@ own_is keys (request.ByLink link) history = by_parts (parts_of keys.link link.ta
 answer_is : (keys : ReplyKeys) (point seen : List Entry) (moment : ℕ) (r : Request) → point ≡ seen → answered_at keys seen moment r ≡ answered keys (own_view keys r point) moment r
 answer_is keys point seen moment r at = ap (λ view. answered keys view moment r) (own_is keys r seen ∙ ap (own_view keys r) (sym at))
 
-reply_is : (keys : ReplyKeys) (point seen : List Entry) (moment : ℕ) (r : Request) → point ≡ seen → reply_of keys (answered_at keys seen moment r) ≡ reply_by keys (own_view keys r point) moment r
-reply_is keys point seen moment r at = ap (reply_of keys) (answer_is keys point seen moment r at)
+reply_is : (keys : ReplyKeys) (point seen : List Entry) (moment : ℕ) (r : Request) → point ≡ seen → reply_of keys (format_of r) (answered_at keys seen moment r) ≡ reply_by keys (own_view keys r point) moment r
+reply_is keys point seen moment r at = ap (reply_of keys (format_of r)) (answer_is keys point seen moment r at)
 
 pub writes_replies : WritesReplies
 writes_replies server t text old new w = (by_view, spells_next, w.point)
@@ -151,7 +152,7 @@ alike (plan.Refused x) r r' s t s' t' (is, same) (is', same') = inl (some_same r
 alike (plan.Only x) r r' s t s' t' (is, same) (is', same') = inl (some_same r r' (sym is ∙ is'))
 alike (plan.Json x) r r' s t s' t' (is, same) (is', same') = inl (some_same r r' (sym is ∙ is'))
 alike (plan.Version x) r r' s t s' t' (is, same) (is', same') = inl (some_same r r' (sym is ∙ is'))
-alike (plan.Lines x lines) r r' s t s' t' (is, same) (is', same') = inl (some_same r r' (sym is ∙ is'))
+alike (plan.Lines x f lines) r r' s t s' t' (is, same) (is', same') = inl (some_same r r' (sym is ∙ is'))
 
 pub equal_views : EqualViewsAnswerAlike
 equal_views server t t' before after before' after' is here there same_request same_moment same_view =

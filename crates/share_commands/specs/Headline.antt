@@ -22,6 +22,7 @@ use Rattle.share_pool.specs.Visits.{Visit}
 use Rattle.share_pool.specs.declared.desk.Desk.{Desk}
 use Rattle.share_pool.specs.declared.desk.ServeEnd.{ServeEnd}
 use Rattle.share_reply.specs.Bodies.{reply_of}
+use Rattle.share_reply.specs.Formats.{format_of}
 use Rattle.share_reply.specs.Chains as chain
 use Rattle.share_reply.specs.Replies.{answered}
 use Rattle.share_reply.specs.declared.keys.ReplyKeys.{ReplyKeys}
@@ -49,7 +50,7 @@ own_view keys (request.ByLink by) history = option_and_then (λ parts. view_by h
 
 -- The one function. What it says is a matter of its own; here it matters what it is a function of.
 abbrev pub reply_by : ReplyKeys → Option View → ℕ → Request → Plan
-reply_by keys view moment request = reply_of keys (answered keys view moment request)
+reply_by keys view moment request = reply_of keys (format_of request) (answered keys view moment request)
 
 abbrev pub is_recipients : Server → Turn → Type 0
 is_recipients server t = by_request server (request_of t) ≡ by.view

@@ -4,6 +4,7 @@ use Rattle.std.specs.Prelude.{if◌then◌else◌, option_to_list}
 use Rattle.share_book.specs.declared.look.Seen.{Seen}
 use Rattle.share_reply.specs.Asking.{ask_of}
 use Rattle.share_reply.specs.Bodies.{reply_of}
+use Rattle.share_reply.specs.Formats.{format_of}
 use Rattle.share_reply.specs.Replies.{answer_from, seen_for}
 use Rattle.share_reply.specs.declared.keys.ReplyKeys.{ReplyKeys}
 use Rattle.share_request.specs.declared.asked.Request.{Request}
@@ -36,7 +37,7 @@ reply_seen keys events request now r seen is =
     let view = shown_for keys events request in
     let whose : is_chosen_by r found ≡ is_chosen r asked = whose_shown r found ∙ ap (is_chosen_by r) view ∙ chosen_by keys events request now r in
     ap (λ (s : Option Seen). option_to_list (chosen_reply keys r request now s)) is
-    ∙ (λ i. option_to_list (if whose i then Some (sent (reply_of keys (answer_from keys now request (view i)))) else None))
+    ∙ (λ i. option_to_list (if whose i then Some (sent (reply_of keys (format_of request) (answer_from keys now request (view i)))) else None))
     ∙ chosen_one keys (is_chosen r asked) asked
 
 -- a value that stands under a test

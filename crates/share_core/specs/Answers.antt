@@ -3,9 +3,9 @@ use Rattle.std.specs.Prelude.{◌≡◌, ℕ, List, Option, Some, None, Bool, tr
 use Rattle.case_table.specs.Refusals.{refusal_row}
 use Rattle.case_table.specs.declared.refuse.Refusal.TheVariants as refusal
 use Rattle.share_lines.specs.Errors.{error_body}
-use Rattle.share_lines.specs.Printing.{body_text}
 use Rattle.share_reply.specs.Answer.{Answer}
 use Rattle.share_reply.specs.Bodies.{reply_of}
+use Rattle.share_reply.specs.Formats.{body_of, format_of}
 use Rattle.share_reply.specs.Refusing.{Refused, plain}
 use Rattle.share_reply.specs.Replies.{answered}
 use Rattle.share_reply.specs.declared.keys.ReplyKeys.{ReplyKeys}
@@ -26,15 +26,15 @@ sent (plan.Refused r) = refusal_reply r
 sent (plan.Only allowed) = record (refusal_reply (plain refusal.MethodNotAllowed)) { allow = Some allowed }
 sent (plan.Json text) = record { status = 200; version = None; allow = None; body = body.Json text }
 sent (plan.Version v) = record { status = 200; version = Some v; allow = None; body = body.Empty }
-sent (plan.Lines v lines) = record { status = 200; version = Some v; allow = None; body = body.Lines (body_text lines) }
+sent (plan.Lines v format texts) = record { status = 200; version = Some v; allow = None; body = body.Lines format (body_of texts) }
 sent (plan.File name span) = record { status = 200; version = None; allow = None; body = body.File name span }
 
 abbrev pub answer_of : ReplyKeys → Asked → Answer
 answer_of keys a = answered keys a.view a.moment a.request
 
--- the reply to a request: a function of the keys, its view, its moment and what it asks
+-- the reply to a request: a function of the keys, its view, its moment and what it asks, in the format that it asks for
 abbrev pub reply_to : ReplyKeys → Asked → Reply
-reply_to keys a = sent (reply_of keys (answer_of keys a))
+reply_to keys a = sent (reply_of keys (format_of a.request) (answer_of keys a))
 
 -- the replies to all requests, in order
 abbrev pub replies_of : ReplyKeys → List Event → List Reply

@@ -4,6 +4,7 @@ use Rattle.share_lines.specs.Bodies.{lines_in}
 use Rattle.share_lines.specs.declared.faults.LinesFault.{LinesFault}
 use Rattle.share_lines.specs.declared.kinds.Line.{Line}
 use Rattle.share_lines.specs.declared.kinds.Line.TheVariants as line
+use Rattle.share_request.specs.declared.asked.ResponseFormat.TheVariants as format
 use Rattle.share_core.specs.declared.reply.Body.{Body}
 use Rattle.share_core.specs.declared.reply.Body.TheVariants as body
 use Rattle.share_core.specs.declared.reply.Reply.{Reply}
@@ -21,8 +22,9 @@ abbrev pub content_read : Result (List Line) LinesFault → Option (List Line)
 content_read (Ok lines) = Some (filter is_content lines)
 content_read (Err fault) = None
 
+-- lines of actions are no page that is joined
 abbrev pub content_in : Body → Option (List Line)
-content_in (body.Lines text) = content_read (lines_in text)
+content_in (body.Lines format.Parquet text) = content_read (lines_in text)
 content_in _ = None
 
 -- the files or changes of a page of status 200, none where a reply isn't one

@@ -3,6 +3,7 @@ use Rattle.std.specs.Prelude.{ℕ, List, Bool, true, false, Option, Some, None, 
 use Rattle.share_book.specs.Shown.{show}
 use Rattle.share_book.specs.declared.look.Seen.{Seen}
 use Rattle.share_reply.specs.Bodies.{reply_of}
+use Rattle.share_reply.specs.Formats.{format_of}
 use Rattle.share_reply.specs.Replies.{answer_from}
 use Rattle.share_reply.specs.declared.keys.ReplyKeys.{ReplyKeys}
 use Rattle.share_request.specs.declared.asked.Request.{Request}
@@ -21,4 +22,4 @@ is_chosen_by (Some recipient) seen = is_seen_by recipient seen
 
 -- the reply by what was found, as it is shown, where that is the recipient's
 abbrev pub chosen_reply : ReplyKeys → Option (List ℕ) → Request → ℕ → Option Seen → Option Reply
-chosen_reply keys recipient request now seen = if is_chosen_by recipient seen then Some (sent (reply_of keys (answer_from keys now request (option_map show seen)))) else None
+chosen_reply keys recipient request now seen = if is_chosen_by recipient seen then Some (sent (reply_of keys (format_of request) (answer_from keys now request (option_map show seen)))) else None

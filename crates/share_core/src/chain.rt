@@ -5,6 +5,7 @@ ghost use Rattle.share_core.specs.Chains as chains;
 
 use crate::reply::{Body, Reply};
 use share_lines::{Line, Lines, LinesFault, lines_of};
+use share_request::ResponseFormat;
 use std::alloc::{AllocError, Global};
 use std::collections::VecDeque;
 
@@ -34,12 +35,13 @@ fn lines_in_text(alloc: Global, text: &[u8]) -> Result<Option<Lines>, AllocError
     }
 }
 
-// The lines of a body, none where it isn't lines.
+// The lines of a body, none where it isn't lines in the parquet format.
 fn lines_in_body(alloc: Global, body: &Body) -> Result<Option<Lines>, AllocError>
     ensures { IfOk result (λ o. option_map (filter chains.is_content) o ≡ chains.content_in body.now) }
 {
     match body {
-        Body::Lines(text) => lines_in_text(alloc, text.get()),
+        Body::Lines(ResponseFormat::Parquet, text) => lines_in_text(alloc, text.get()),
+        Body::Lines(ResponseFormat::Delta, _) => Ok(None),
         Body::Empty => Ok(None),
         Body::Json(_) => Ok(None),
         Body::File(..) => Ok(None),
@@ -79,8 +81,8 @@ fn push_content(content: &mut Vec<Line>, mut lines: VecDeque<Line>) -> Result<()
     Ok(())
 }
 
-/// The files or the changes of a chain's pages, joined: none exactly where a reply isn't a page of status 200. The error is want of
-/// memory.
+/// The files or the changes of a chain's pages, joined: none exactly where a reply isn't a page of status 200 in the parquet format. The
+/// error is want of memory.
 pub fn join_pages(alloc: Global, replies: &[Reply]) -> Result<Option<Lines>, AllocError>
     ensures { IfOk result (λ o. o ≡ chains.joined replies.now) }
 {

@@ -8,7 +8,8 @@ pub fn worlds_answer_alike()
     ensures { WorldsAnswerAlike }
 {}
 
-/// A law: the replies to the pages of a chain, joined, are the files or the changes of its pages, one after another.
+/// A law: the replies to the pages of a chain in the parquet format, joined, are the lines of the files or the changes of its pages, one
+/// after another.
 pub fn pages_join()
     ensures { PagesJoin }
 {}

@@ -1,7 +1,7 @@
 // Replies as values.
 ghost use Rattle.std.specs.Prelude.{◌≡◌, IfOk};
 ghost use Rattle.share_core.specs.Answers.{refusal_reply, sent};
-ghost use Rattle.share_lines.specs.Printing.{body_text};
+ghost use Rattle.share_reply.specs.Formats.{body_of};
 ghost use Rattle.share_reply.specs.declared.plan.Plan.TheVariants as plan_is;
 
 use case_table::{Method, Refusal};
@@ -10,6 +10,7 @@ use file_ranges::span::Span;
 use json_tree::Text;
 use share_lines::error_text;
 use share_reply::{LinePlan, Plan, Refused};
+use share_request::ResponseFormat;
 use std::alloc::{AllocError, Global};
 use std::marker::Model;
 
@@ -52,8 +53,8 @@ pub enum Body {
     Empty,
     /// A JSON text.
     Json(Text),
-    /// Lines of JSON, each with its line feed.
-    Lines(Bytes),
+    /// Lines of JSON in that format, each with its line feed.
+    Lines(ResponseFormat, Bytes),
     /// The object of that name in the store, or the part of it that is asked for. No view shows its size, by which a part is given
     /// with status 206, or refused with 416.
     File(Name, Option<Span>),
@@ -107,7 +108,7 @@ fn given(version: Option<u64>, body: Body) -> Reply
 
 // The text of all lines of a plan.
 fn text_of(alloc: Global, lines: &LinePlan<'_>) -> Result<Bytes, AllocError>
-    ensures { IfOk result (λ t. t ≡ body_text lines.now) }
+    ensures { IfOk result (λ t. t ≡ body_of lines.now) }
 {
     let mut text = Vec::new(alloc);
     for n in 0..lines.count() {
@@ -116,11 +117,16 @@ fn text_of(alloc: Global, lines: &LinePlan<'_>) -> Result<Bytes, AllocError>
     Ok(Bytes::of(text))
 }
 
-fn lines_reply(alloc: Global, version: u64, lines: &LinePlan<'_>) -> Result<Reply, AllocError>
-    ensures { IfOk result (λ r. r ≡ sent (plan_is.Lines version lines.now)) }
+fn lines_reply(
+    alloc: Global,
+    version: u64,
+    format: ResponseFormat,
+    lines: &LinePlan<'_>,
+) -> Result<Reply, AllocError>
+    ensures { IfOk result (λ r. r ≡ sent (plan_is.Lines version format lines.now)) }
 {
     let text = text_of(alloc, lines)?;
-    Ok(given(Some(version), Body::Lines(text)))
+    Ok(given(Some(version), Body::Lines(format, text)))
 }
 
 /// The reply that a plan comes to. The error is want of memory.
@@ -132,7 +138,7 @@ pub(crate) fn reply_by(alloc: Global, plan: Plan<'_>) -> Result<Reply, AllocErro
         Plan::Only(allowed) => only_reply(alloc, allowed),
         Plan::Json(text) => Ok(given(None, Body::Json(text))),
         Plan::Version(version) => Ok(given(Some(version), Body::Empty)),
-        Plan::Lines(version, lines) => lines_reply(alloc, version, &lines),
+        Plan::Lines(version, format, lines) => lines_reply(alloc, version, format, &lines),
         Plan::File(name, span) => Ok(given(None, Body::File(name, span))),
     }
 }

@@ -94,7 +94,7 @@ fn is_body(body: &Body, bytes: &[u8]) -> bool {
     match body {
         Body::Empty => bytes.is_empty(),
         Body::Json(text) => text.as_str().as_bytes() == bytes,
-        Body::Lines(text) => text.get() == bytes,
+        Body::Lines(_, text) => text.get() == bytes,
         Body::File(..) => false,
     }
 }

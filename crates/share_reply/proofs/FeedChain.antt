@@ -1,12 +1,14 @@
 -- The pages of a chain of changes are the changes of the range that the first one was of.
 use Rattle.std.proofs.Common.{◌≡◌, ℕ, ◌<◌, ◌⊎◌, inl, inr, List, [], ◌∷◌, Option, Some, None, Result, Ok, refl, sym, ap, ◌∙◌, subst, length, drop, filter}
-use Rattle.std.specs.Prelude.{is_some}
+use Rattle.std.specs.Prelude.{⊤, All, is_some}
+use Rattle.std.proofs.lemmas.List.Elements.{All-cons, All-nil}
 use mathlib.Core.List.{IsPrefix}
 use Rattle.change_feed.specs.Changes.{ChangedFile}
 use Rattle.change_feed.specs.Feed.{feed_of}
 use Rattle.change_feed.proofs.LawLemmas.{later_commits_leave}
 use Rattle.log_actions.specs.declared.actions.Action.{Action}
 use Rattle.log_actions.specs.declared.actions.MetaData.{MetaData}
+use Rattle.log_actions.specs.declared.actions.Protocol.{Protocol}
 use Rattle.page_token.specs.Token.{token_text}
 use Rattle.page_token.specs.declared.cursor.Cursor.TheVariants as cursor
 use Rattle.page_token.specs.declared.cursor.FeedCursor.{FeedCursor}
@@ -31,9 +33,9 @@ use Rattle.share_reply.proofs.FeedPaged.{FirstFeed, LaterFeed, Ranged, first, la
 use Rattle.share_book.proofs.Versions.{IsWhole}
 use Rattle.share_reply.proofs.SeenTable.{Grown, IsBound, either_log, is_bound, is_whole}
 
-says_next : (keys : ReplyKeys) (a : TableAccess) (now : ℕ) (q : ChangesQuery) (start : FeedStart) (meta : MetaData) (changes : List ChangedFile)
-    → NextIs (feed_cursor a start) (next_place lists_all q.max start.place changes) (next_in (feed_page keys a now q start meta changes))
-says_next keys a now q start meta changes = end_says (feed_cursor a start) lists_all q.max (is_some q.token) start.place changes _
+says_next : (keys : ReplyKeys) (a : TableAccess) (now : ℕ) (q : ChangesQuery) (start : FeedStart) (protocol : Protocol) (meta : MetaData) (changes : List ChangedFile)
+    → NextIs (feed_cursor a start) (next_place lists_all q.max start.place changes) (next_in (feed_page keys a now q start protocol meta changes))
+says_next keys a now q start protocol meta changes = end_says (feed_cursor a start) lists_all q.max (is_some q.token) start.place changes _
 
 -- ---- a turn's answer
 
@@ -77,8 +79,8 @@ record Held (point : List Entry) (name : TableName) (c : FeedCursor) (changes : 
 same_changes : (r r' : Result (List ChangedFile) ℕ) (xs ys : List ChangedFile) → r ≡ Ok xs → r' ≡ Ok ys → r' ≡ r → ys ≡ xs
 same_changes r r' xs ys e f g = cc
 
-page_same : (keys : ReplyKeys) (a a' : TableAccess) (now : ℕ) (q : ChangesQuery) (start : FeedStart) (meta : MetaData) (xs ys : List ChangedFile) → a ≡ a' → xs ≡ ys → feed_page keys a now q start meta xs ≡ feed_page keys a' now q start meta ys
-page_same keys a a' now q start meta xs ys e g = λ i. feed_page keys (e i) now q start meta (g i)
+page_same : (keys : ReplyKeys) (a a' : TableAccess) (now : ℕ) (q : ChangesQuery) (start : FeedStart) (protocol : Protocol) (meta : MetaData) (xs ys : List ChangedFile) → a ≡ a' → xs ≡ ys → feed_page keys a now q start protocol meta xs ≡ feed_page keys a' now q start protocol meta ys
+page_same keys a a' now q start protocol meta xs ys e g = λ i. feed_page keys (e i) now q start protocol meta (g i)
 
 grown_feeds : (only : Option (List ℕ)) (log log' : Log) (from to : ℕ) → Grown only log log' → only ≡ None → to < length log.commits → feed_of log'.commits from to ≡ feed_of log.commits from to
 grown_feeds only log log' from to g none kept = let (more, grown) = g.commits none in ap (λ (cs : List (List Action)). feed_of cs from to) grown ∙ later_commits_leave log.commits more from to kept
@@ -87,6 +89,14 @@ either_feeds : (only only' : Option (List ℕ)) (log log' : Log) (from to : ℕ)
     → feed_of log'.commits from to ≡ feed_of log.commits from to
 either_feeds only only' log log' from to (inl g) none none' kept kept' = grown_feeds only log log' from to g none kept
 either_feeds only only' log log' from to (inr g) none none' kept kept' = sym (grown_feeds only' log' log from to g none' kept')
+
+-- of whose turns nothing more is asked
+abbrev Any : Turn ChangesQuery → Type 0
+Any t = ⊤
+
+all_turns : (ts : List (Turn ChangesQuery)) → All Any ts
+all_turns [] = All-nil Any
+all_turns (t ∷ ts) = All-cons Any t ts tt (all_turns ts)
 
 later : (keys : ReplyKeys) (name : TableName) (ts : List (Turn ChangesQuery)) (history before : List Entry) (c : FeedCursor) (changes : List ChangedFile) → IsPrefix before history → Held before name c changes
     → IsSpelt keys (cursor.Feed c) → AreSpelt by_changes keys name ts → IsChainAfter by_changes keys name history (Some (token_text keys.token (cursor.Feed c))) ts
@@ -104,16 +114,19 @@ later keys name (t ∷ ts) history before c changes stands held spelt (spelt_her
     let feed_stays : feed_of log.commits c.from c.to ≡ feed_of held.log.commits c.from c.to =
     either_feeds held.spot.only T.spot.only held.log log c.from c.to (either_log history before t.point name held.spot T.spot held.log log held.is_bound here stands goes (binding ∙ sym held.binding)) held.none U.none held.kept S.kept in
     let changes_here : S.changes ≡ changes = same_changes (feed_of held.log.commits c.from c.to) (feed_of log.commits c.from c.to) changes S.changes held.is_feed S.is_feed feed_stays in
-    let page_is : p ≡ feed_page keys c.access t.moment t.query (start_at c) S.meta changes = S.page_is ∙ page_same keys a c.access t.moment t.query (start_at c) S.meta S.changes changes P.same changes_here in
-    let answered_here : answer_at by_changes keys name t ≡ page (feed_page keys c.access t.moment t.query (start_at c) S.meta changes) = answered ∙ ap page page_is in
-    one_page by_changes keys name (linked_change keys c.access) history t ts lists_all t.query.max c.place changes (feed_cursor c.access (start_at c)) (feed_page keys c.access t.moment t.query (start_at c) S.meta changes)
-    (next_in (feed_page keys c.access t.moment t.query (start_at c) S.meta changes)) answered_here refl
-    (says_next keys c.access t.moment t.query (start_at c) S.meta changes) (subst (NextIsSpelt keys) answered_here spelt_here)
+    let page_is : p ≡ feed_page keys c.access t.moment t.query (start_at c) S.protocol S.meta changes = S.page_is ∙ page_same keys a c.access t.moment t.query (start_at c) S.protocol S.meta S.changes changes P.same changes_here in
+    let answered_here : answer_at by_changes keys name t ≡ page (feed_page keys c.access t.moment t.query (start_at c) S.protocol S.meta changes) = answered ∙ ap page page_is in
+    (one_page by_changes keys name (linked_change keys c.access) Any history t ts lists_all t.query.max c.place changes (feed_cursor c.access (start_at c)) (feed_page keys c.access t.moment t.query (start_at c) S.protocol S.meta changes)
+    (next_in (feed_page keys c.access t.moment t.query (start_at c) S.protocol S.meta changes)) answered_here refl
+    (says_next keys c.access t.moment t.query (start_at c) S.protocol S.meta changes) (subst (NextIsSpelt keys) answered_here spelt_here)
     (subst (λ (x : Page). IsChainAfter by_changes keys name history (next_token keys x) ts) page_is chain)
-    (λ place spelt_next chain_next.
-    later keys name ts history t.point (record { access = c.access; asked_from = c.asked_from; asked_to = c.asked_to; from = c.from; to = c.to; place = place }) changes goes
-    (record { spot = T.spot; log = log; is_bound = here; binding = binding; none = U.none; kept = S.kept; is_feed = feed_stays ∙ held.is_feed })
-    spelt_next spelt_later chain_next)
+    tt
+    (λ place spelt_next chain_next. (
+      later keys name ts history t.point (record { access = c.access; asked_from = c.asked_from; asked_to = c.asked_to; from = c.from; to = c.to; place = place }) changes goes
+          (record { spot = T.spot; log = log; is_bound = here; binding = binding; none = U.none; kept = S.kept; is_feed = feed_stays ∙ held.is_feed })
+          spelt_next spelt_later chain_next,
+      all_turns ts,
+    ))).0
 
 -- ---- the whole chain
 
@@ -136,16 +149,19 @@ whole_if_spelt keys name history t ts (stands, none, (p, answered, chain)) (spel
     let F : FirstFeed keys a t.moment t.query T.spot log p = first keys a t.moment t.query T.spot log p U.whole none U.page_is in
     let start : FeedStart = start_of t.query F.from F.to in
     let S : Ranged keys a t.moment t.query start p log F.from F.to = F.ranged.ranged in
-    let answered_here : answer_at by_changes keys name t ≡ page (feed_page keys a t.moment t.query start S.meta S.changes) = answered ∙ ap page S.page_is in
+    let answered_here : answer_at by_changes keys name t ≡ page (feed_page keys a t.moment t.query start S.protocol S.meta S.changes) = answered ∙ ap page S.page_is in
     let gives : Gives by_changes keys name (linked_change keys a) (t ∷ ts) (filter lists_all S.changes) =
-    one_page by_changes keys name (linked_change keys a) history t ts lists_all t.query.max 0 S.changes (feed_cursor a start) (feed_page keys a t.moment t.query start S.meta S.changes)
-    (next_in (feed_page keys a t.moment t.query start S.meta S.changes)) answered_here refl
-    (says_next keys a t.moment t.query start S.meta S.changes) (subst (NextIsSpelt keys) answered_here spelt_here)
+    (one_page by_changes keys name (linked_change keys a) Any history t ts lists_all t.query.max 0 S.changes (feed_cursor a start) (feed_page keys a t.moment t.query start S.protocol S.meta S.changes)
+    (next_in (feed_page keys a t.moment t.query start S.protocol S.meta S.changes)) answered_here refl
+    (says_next keys a t.moment t.query start S.protocol S.meta S.changes) (subst (NextIsSpelt keys) answered_here spelt_here)
     (subst (λ (x : Page). IsChainAfter by_changes keys name history (next_token keys x) ts) S.page_is chain)
-    (λ place spelt_next chain_next.
-    later keys name ts history t.point (record { access = a; asked_from = start.asked_from; asked_to = start.asked_to; from = start.from; to = start.to; place = place }) S.changes stands
-    (record { spot = T.spot; log = log; is_bound = bound_at keys name t p T; binding = refl; none = U.none; kept = S.kept; is_feed = S.is_feed })
-    spelt_next spelt_later chain_next) in (
+    tt
+    (λ place spelt_next chain_next. (
+      later keys name ts history t.point (record { access = a; asked_from = start.asked_from; asked_to = start.asked_to; from = start.from; to = start.to; place = place }) S.changes stands
+          (record { spot = T.spot; log = log; is_bound = bound_at keys name t p T; binding = refl; none = U.none; kept = S.kept; is_feed = S.is_feed })
+          spelt_next spelt_later chain_next,
+      all_turns ts,
+    ))).0 in (
       T.spot,
       log,
       a,

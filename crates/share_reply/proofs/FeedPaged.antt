@@ -8,7 +8,8 @@ use Rattle.change_feed.specs.Feed.{feed_of}
 use Rattle.change_feed.specs.Shown.{feed_from as feed_in}
 use Rattle.change_feed.proofs.RangeLemmas.{ranged_feed}
 use Rattle.log_actions.specs.declared.actions.MetaData.{MetaData}
-use Rattle.log_replay.specs.Reconciliation.{last_meta}
+use Rattle.log_actions.specs.declared.actions.Protocol.{Protocol}
+use Rattle.log_replay.specs.Reconciliation.{last_meta, last_protocol}
 use Rattle.log_replay.specs.declared.times.Unresolved.{Unresolved}
 use Rattle.page_token.specs.Cursors.{cursor_of}
 use Rattle.page_token.specs.declared.cursor.Cursor.{Cursor}
@@ -27,7 +28,7 @@ use Rattle.share_reply.specs.Access.{is_same_edition, is_same_table}
 use Rattle.share_reply.specs.Answer.{Page}
 use Rattle.share_reply.specs.Asking.{asked_at, feed_by as part_by, feed_part, first_bound, last_bound}
 use Rattle.share_reply.specs.Feeds as feeds
-use Rattle.share_reply.specs.Feeds.{ChangesQuery, FeedStart, agrees, changes_page, feed_from, feed_page, feed_with, first_start, later_feed, or_off, or_unsupported, start_at}
+use Rattle.share_reply.specs.Feeds.{ChangesQuery, FeedStart, agrees, changes_page, feed_from, feed_page, feed_with, first_start, later_feed, or_off, or_unsupported, start_at, told_protocol}
 use Rattle.share_reply.specs.Refusing.{Refused, where_all}
 use Rattle.share_reply.specs.declared.keys.ReplyKeys.{ReplyKeys}
 use Rattle.share_reply.proofs.FilesPaged.{ok_is, passed, same_access}
@@ -39,21 +40,29 @@ pub record Ranged (keys : ReplyKeys) (a : TableAccess) (now : ℕ) (q : ChangesQ
   pub changes : List ChangedFile
   pub is_feed : feed_of log.commits from to ≡ Ok changes
   pub within : start.place ≤ length changes
+  pub protocol : Protocol
   pub meta : MetaData
-  pub page_is : p ≡ feed_page keys a now q start meta changes
+  pub page_is : p ≡ feed_page keys a now q start protocol meta changes
 
-meta_from : (keys : ReplyKeys) (a : TableAccess) (now : ℕ) (q : ChangesQuery) (start : FeedStart) (p : Page) (log : Log) (from to : ℕ) (changes : List ChangedFile) (o : Option MetaData) → to < length log.commits
-    → feed_of log.commits from to ≡ Ok changes → nat_le start.place (length changes) ≡ true → feeds.with_meta keys a now q start changes (or_unsupported o) ≡ Ok p → Ranged keys a now q start p log from to
-meta_from keys a now q start p log from to changes None kept is within e = absurd cc
-meta_from keys a now q start p log from to changes (Some meta) kept is within e =
-    record { kept = kept; changes = changes; is_feed = is; within = grind (arith, nat_tests, within); meta = meta; page_is = ok_is (feed_page keys a now q start meta changes) p (Ok (feed_page keys a now q start meta changes)) refl e }
+meta_from : (keys : ReplyKeys) (a : TableAccess) (now : ℕ) (q : ChangesQuery) (start : FeedStart) (p : Page) (log : Log) (from to : ℕ) (protocol : Protocol) (changes : List ChangedFile) (o : Option MetaData) → to < length log.commits
+    → feed_of log.commits from to ≡ Ok changes → nat_le start.place (length changes) ≡ true → feeds.with_meta keys a now q start protocol changes (or_unsupported o) ≡ Ok p → Ranged keys a now q start p log from to
+meta_from keys a now q start p log from to protocol changes None kept is within e = absurd cc
+meta_from keys a now q start p log from to protocol changes (Some meta) kept is within e = record {
+  kept = kept;
+  changes = changes;
+  is_feed = is;
+  within = grind (arith, nat_tests, within);
+  protocol = protocol;
+  meta = meta;
+  page_is = ok_is (feed_page keys a now q start protocol meta changes) p (Ok (feed_page keys a now q start protocol meta changes)) refl e;
+}
 
-changes_from : (keys : ReplyKeys) (a : TableAccess) (now : ℕ) (q : ChangesQuery) (start : FeedStart) (p : Page) (log : Log) (from to : ℕ) (o : Option MetaData) (r : Result (List ChangedFile) ℕ) → to < length log.commits
-    → feed_of log.commits from to ≡ r → feeds.with_changes keys a now q start o (or_off r) ≡ Ok p → Ranged keys a now q start p log from to
-changes_from keys a now q start p log from to o (Err version) kept is e = absurd cc
-changes_from keys a now q start p log from to o (Ok changes) kept is e =
-    let (within, rest) = passed (nat_le start.place (length changes)) _ [] (feeds.with_meta keys a now q start changes (or_unsupported o)) p e in
-    meta_from keys a now q start p log from to changes o kept is within rest
+changes_from : (keys : ReplyKeys) (a : TableAccess) (now : ℕ) (q : ChangesQuery) (start : FeedStart) (p : Page) (log : Log) (from to : ℕ) (protocol : Protocol) (o : Option MetaData) (r : Result (List ChangedFile) ℕ) → to < length log.commits
+    → feed_of log.commits from to ≡ r → feeds.with_changes keys a now q start protocol o (or_off r) ≡ Ok p → Ranged keys a now q start p log from to
+changes_from keys a now q start p log from to protocol o (Err version) kept is e = absurd cc
+changes_from keys a now q start p log from to protocol o (Ok changes) kept is e =
+    let (within, rest) = passed (nat_le start.place (length changes)) _ [] (feeds.with_meta keys a now q start protocol changes (or_unsupported o)) p e in
+    meta_from keys a now q start p log from to protocol changes o kept is within rest
 
 abbrev range_feed : Log → ℕ → ℕ → Result (List ChangedFile) ℕ
 range_feed log from to = feed_in from (parts.between from to log.marks) (parts.between from to log.commits)
@@ -72,7 +81,7 @@ from_first : (keys : ReplyKeys) (a : TableAccess) (now : ℕ) (q : ChangesQuery)
 from_first keys a now q start p spot log from to true whole kept t e = absurd cc
 from_first keys a now q start p spot log from to false whole kept t e = record {
   shared = grind (arith, nat_tests, t);
-  ranged = changes_from keys a now q (start (parts.feed_of log from to)) p log from to (last_meta (parts.feed_of log from to).meta) (range_feed log from to) kept (whole_feed log from to whole kept) e;
+  ranged = changes_from keys a now q (start (parts.feed_of log from to)) p log from to (told_protocol (last_protocol (parts.feed_of log from to).protocol)) (last_meta (parts.feed_of log from to).meta) (range_feed log from to) kept (whole_feed log from to whole kept) e;
 }
 
 between_from : (keys : ReplyKeys) (a : TableAccess) (now : ℕ) (q : ChangesQuery) (start : FeedPart → FeedStart) (p : Page) (spot : Spot) (log : Log) (from to : ℕ) (b : Bool) → IsWhole log → to < length log.commits → nat_lt to from ≡ b

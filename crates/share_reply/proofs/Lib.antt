@@ -10,6 +10,7 @@ pub mod FilesChain
 pub mod FeedPaged
 pub mod FeedChain
 pub mod LawLemmas
+pub mod FormatLemmas
 pub mod RevokedLemmas
 pub mod PartsKept
 pub mod Cutting

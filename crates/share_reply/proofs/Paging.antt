@@ -6,25 +6,23 @@ use Rattle.std.specs.Borrow.{Bor}
 use Rattle.std.proofs.lemmas.Simd.{map-map}
 use Rattle.case_table.specs.declared.refuse.Refusal.TheVariants.{TokenAhead}
 use Rattle.change_feed.specs.Changes.{ChangedFile}
-use Rattle.log_actions.specs.declared.actions.Action.{Action}
+use Rattle.delta_lines.specs.declared.kinds.DeltaFile.{DeltaFile}
+use Rattle.delta_lines.specs.declared.kinds.DeltaLine.{DeltaLine}
+use Rattle.delta_lines.specs.declared.kinds.DeltaLine.TheVariants as line
 use Rattle.log_actions.specs.declared.actions.AddFile.{AddFile}
 use Rattle.log_actions.specs.declared.actions.MetaData.{MetaData}
-use Rattle.json_tree.specs.Results.{◌>>=◌}
-use Rattle.log_replay.specs.Reconciliation.{last_meta}
+use Rattle.log_actions.specs.declared.actions.Protocol.{Protocol}
 use Rattle.log_replay.specs.State.{State}
 use Rattle.page_token.specs.declared.cursor.TableAccess.{TableAccess}
 use Rattle.pred_tree.specs.Listing.{IsFilter, passes, pred_by}
 use Rattle.pred_tree.specs.declared.filter.Filter.{Filter}
-use Rattle.share_lines.specs.Lines.{meta_of}
 use Rattle.share_lines.specs.declared.kinds.EndLine.{EndLine}
-use Rattle.share_lines.specs.declared.kinds.Line.{Line}
-use Rattle.share_lines.specs.declared.kinds.Line.TheVariants as line
 use Rattle.query_body.specs.declared.query.QueryBody.{QueryBody}
 use Rattle.share_reply.specs.Access.{expiry}
 use Rattle.share_reply.specs.Answer.{Ending, Page, ends_with}
 use Rattle.share_reply.specs.Bodies.{end_line, page_lines}
-use Rattle.share_reply.specs.Feeds.{ChangesQuery, FeedStart, change_line, feed_cursor, feed_ending, feed_page, lists_all, or_unsupported}
-use Rattle.share_reply.specs.Files.{FilesStart, file_line, files_cursor, files_ending, files_page, is_paged, lists, page_of_state}
+use Rattle.share_reply.specs.Feeds.{ChangesQuery, FeedStart, feed_cursor, feed_ending, feed_page, given_change, lists_all, or_unsupported, told_protocol, with_meta}
+use Rattle.share_reply.specs.Files.{FilesStart, files_cursor, files_ending, files_page, given_file, is_paged, lists, page_of_state}
 use Rattle.share_reply.specs.Pages.{given, next_place}
 use Rattle.share_reply.specs.Planned.{content_lines, lines_of}
 use Rattle.share_reply.specs.Refusing.{where_all}
@@ -35,10 +33,10 @@ use Rattle.share_reply.specs.declared.lines.Content.{Content}
 use Rattle.share_reply.specs.declared.lines.Content.TheVariants as content
 use Rattle.share_reply.specs.declared.page.Paged.{Paged}
 
-abbrev pub page_with : ℕ → MetaData → List Line → Bool → Ending → Page
-page_with version meta lines asked e = record { version = version; meta = meta_of meta; content = lines; end = if asked then Some e else None }
+abbrev pub page_with : ℕ → Protocol → MetaData → List DeltaFile → Bool → Ending → Page
+page_with version protocol meta files asked e = record { version = version; protocol = protocol; meta = meta; content = files; end = if asked then Some e else None }
 
-abbrev pub paged_with : ℕ → List Line → Paged
+abbrev pub paged_with : ℕ → List DeltaLine → Paged
 paged_with version lines = record { version = version; lines = lines }
 
 end_lines : (keys : ReplyKeys) (asked : Bool) (e : Ending) → option_to_list (option_map (λ e. line.End e) (end_of keys asked e)) ≡ option_to_list (option_map (λ e. line.End (end_line keys e)) (if asked then Some e else None))
@@ -46,12 +44,12 @@ end_lines keys true e = refl
 end_lines keys false e = refl
 
 -- the lines of a plan whose content and whose end are a page's
-lines_paged : (keys : ReplyKeys) (a : TableAccess) (expires version : ℕ) (meta : MetaData) (c : Content) (end : Option EndLine) (found : List Line) (asked : Bool) (e : Ending)
-    → content_lines keys a expires c ≡ found → end ≡ end_of keys asked e → lines_of keys a expires meta c end ≡ page_lines keys (page_with version meta found asked e)
-lines_paged keys a expires version meta c end found asked e is ends =
-    ap (λ ls. line.Protocol ∷ line.MetaData (meta_of meta) ∷ (ls ++ option_to_list (option_map (λ e. line.End e) end))) is
-    ∙ ap (λ last. line.Protocol ∷ line.MetaData (meta_of meta) ∷ (found ++ option_to_list (option_map (λ e. line.End e) last))) ends
-    ∙ ap (λ last. line.Protocol ∷ line.MetaData (meta_of meta) ∷ (found ++ last)) (end_lines keys asked e)
+lines_paged : (keys : ReplyKeys) (a : TableAccess) (expires version : ℕ) (protocol : Protocol) (meta : MetaData) (c : Content) (end : Option EndLine) (found : List DeltaFile) (asked : Bool) (e : Ending)
+    → content_lines keys a expires c ≡ map (λ f. line.File f) found → end ≡ end_of keys asked e → lines_of keys a expires protocol meta c end ≡ page_lines keys (page_with version protocol meta found asked e)
+lines_paged keys a expires version protocol meta c end found asked e is ends =
+    ap (λ files. line.Protocol protocol ∷ line.MetaData meta ∷ (files ++ option_to_list (option_map (λ e. line.End e) end))) is
+    ∙ ap (λ last. line.Protocol protocol ∷ line.MetaData meta ∷ (map (λ f. line.File f) found ++ option_to_list (option_map (λ e. line.End e) last))) ends
+    ∙ ap (λ last. line.Protocol protocol ∷ line.MetaData meta ∷ (map (λ f. line.File f) found ++ last)) (end_lines keys asked e)
 
 -- ---- files
 
@@ -65,19 +63,20 @@ listed_by hint state filter meta is_meta is_filter =
     λ i file. filter_is file i
 
 -- the page of the files that were cut
-pub files_paged : (keys : ReplyKeys) (a : TableAccess) (now : ℕ) (q : QueryBody) (s : FilesStart) (state : State) (expires version : ℕ) (meta : MetaData)
+pub files_paged : (keys : ReplyKeys) (a : TableAccess) (now : ℕ) (q : QueryBody) (s : FilesStart) (state : State) (expires version : ℕ) (protocol : Protocol) (meta : MetaData)
     (files : Vec (Bor AddFile) Global) (next : Option ℕ) (end : Option EndLine)
-    → expires ≡ expiry keys now → version ≡ s.version → meta ≡ state.meta
+    → expires ≡ expiry keys now → version ≡ s.version → protocol ≡ state.protocol → meta ≡ state.meta
     → map (λ f. f.now) files.items ≡ given (lists s.hint state) q.max s.place state.files → next ≡ next_place (lists s.hint state) q.max s.place state.files
     → end ≡ end_of keys (is_paged q.max q.token) (ending_with a expires s (map (λ f. f.now) files.items) next)
-    → paged_with version (lines_of keys a expires meta (content.Files files) end) ≡ paged keys (files_page keys a now q s state)
-files_paged keys a now q s state expires version meta files next end is_end is_version is_meta is_files is_next is_last =
+    → paged_with version (lines_of keys a expires protocol meta (content.Files files) end) ≡ paged keys (files_page keys a now q s state)
+files_paged keys a now q s state expires version protocol meta files next end is_end is_version is_protocol is_meta is_files is_next is_last =
     let ending : ending_with a expires s (map (λ f. f.now) files.items) next ≡ files_ending keys a now q s state = λ i. ending_with a (is_end i) s (is_files i) (is_next i) in
-    let given_lines : content_lines keys a expires (content.Files files) ≡ map (file_line keys a (expiry keys now)) (given (lists s.hint state) q.max s.place state.files) =
-    sym (map-map (file_line keys a expires) (λ f. f.now) files.items) ∙ (λ i. map (file_line keys a (is_end i)) (is_files i)) in
-    let lines = lines_paged keys a expires s.version meta (content.Files files) end _ (is_paged q.max q.token) (files_ending keys a now q s state) given_lines (is_last ∙ ap (end_of keys (is_paged q.max q.token)) ending) in
-    let here : lines_of keys a expires meta (content.Files files) end ≡ page_lines keys (files_page keys a now q s state) =
-    lines ∙ ap (λ m. page_lines keys (page_with s.version m (map (file_line keys a (expiry keys now)) (given (lists s.hint state) q.max s.place state.files)) (is_paged q.max q.token) (files_ending keys a now q s state))) is_meta in
+    let given_lines : content_lines keys a expires (content.Files files) ≡ map (λ f. line.File f) (map (given_file keys a (expiry keys now)) (given (lists s.hint state) q.max s.place state.files)) =
+    sym (map-map (λ f. line.File (given_file keys a expires f)) (λ f. f.now) files.items) ∙ (λ i. map (λ f. line.File (given_file keys a (is_end i) f)) (is_files i))
+    ∙ sym (map-map (λ (f : DeltaFile). line.File f) (given_file keys a (expiry keys now)) (given (lists s.hint state) q.max s.place state.files)) in
+    let lines = lines_paged keys a expires s.version protocol meta (content.Files files) end _ (is_paged q.max q.token) (files_ending keys a now q s state) given_lines (is_last ∙ ap (end_of keys (is_paged q.max q.token)) ending) in
+    let here : lines_of keys a expires protocol meta (content.Files files) end ≡ page_lines keys (files_page keys a now q s state) =
+    lines ∙ (λ i. page_lines keys (page_with s.version (is_protocol i) (is_meta i) (map (given_file keys a (expiry keys now)) (given (lists s.hint state) q.max s.place state.files)) (is_paged q.max q.token) (files_ending keys a now q s state))) in
     λ i. paged_with (is_version i) (here i)
 
 -- a place within the state has that page
@@ -92,22 +91,23 @@ abbrev pub feed_ending_with : TableAccess → ℕ → FeedStart → List Changed
 feed_ending_with a expires s page next = record { expires = ends_with expires page; next = option_map (feed_cursor a s) next }
 
 -- the page of the changes that were cut
-pub feed_paged : (keys : ReplyKeys) (a : TableAccess) (now : ℕ) (q : ChangesQuery) (s : FeedStart) (meta : MetaData) (changes : List ChangedFile) (expires version : ℕ)
+pub feed_paged : (keys : ReplyKeys) (a : TableAccess) (now : ℕ) (q : ChangesQuery) (s : FeedStart) (protocol : Protocol) (meta : MetaData) (changes : List ChangedFile) (expires version : ℕ)
     (page : Vec ChangedFile Global) (next : Option ℕ) (end : Option EndLine)
     → expires ≡ expiry keys now → version ≡ s.to → page.items ≡ given lists_all q.max s.place changes → next ≡ next_place lists_all q.max s.place changes
     → end ≡ end_of keys (is_paged q.max q.token) (feed_ending_with a expires s page.items next)
-    → paged_with version (lines_of keys a expires meta (content.Changes page) end) ≡ paged keys (feed_page keys a now q s meta changes)
-feed_paged keys a now q s meta changes expires version page next end is_end is_version is_page is_next is_last =
+    → paged_with version (lines_of keys a expires protocol meta (content.Changes page) end) ≡ paged keys (feed_page keys a now q s protocol meta changes)
+feed_paged keys a now q s protocol meta changes expires version page next end is_end is_version is_page is_next is_last =
     let ending : feed_ending_with a expires s page.items next ≡ feed_ending keys a now q s changes = λ i. feed_ending_with a (is_end i) s (is_page i) (is_next i) in
-    let given_lines : content_lines keys a expires (content.Changes page) ≡ map (change_line keys a (expiry keys now)) (given lists_all q.max s.place changes) = λ i. map (change_line keys a (is_end i)) (is_page i) in
-    let here : lines_of keys a expires meta (content.Changes page) end ≡ page_lines keys (feed_page keys a now q s meta changes) =
-    lines_paged keys a expires s.to meta (content.Changes page) end _ (is_paged q.max q.token) (feed_ending keys a now q s changes) given_lines (is_last ∙ ap (end_of keys (is_paged q.max q.token)) ending) in
+    let given_lines : content_lines keys a expires (content.Changes page) ≡ map (λ f. line.File f) (map (given_change keys a (expiry keys now)) (given lists_all q.max s.place changes)) =
+    (λ i. map (λ c. line.File (given_change keys a (is_end i) c)) (is_page i)) ∙ sym (map-map (λ (f : DeltaFile). line.File f) (given_change keys a (expiry keys now)) (given lists_all q.max s.place changes)) in
+    let here : lines_of keys a expires protocol meta (content.Changes page) end ≡ page_lines keys (feed_page keys a now q s protocol meta changes) =
+    lines_paged keys a expires s.to protocol meta (content.Changes page) end _ (is_paged q.max q.token) (feed_ending keys a now q s changes) given_lines (is_last ∙ ap (end_of keys (is_paged q.max q.token)) ending) in
     λ i. paged_with (is_version i) (here i)
 
 -- a place within the changes has that page
-pub changes_paged : (keys : ReplyKeys) (a : TableAccess) (now : ℕ) (q : ChangesQuery) (s : FeedStart) (actions : List Action) (meta : MetaData) (changes : List ChangedFile) (made : Paged)
-    → nat_le s.place (length changes) ≡ true → Some meta ≡ last_meta actions → made ≡ paged keys (feed_page keys a now q s meta changes) → as_lines keys (page_of_changes keys a now q s actions changes) ≡ Ok made
-changes_paged keys a now q s actions meta changes made within found is =
-    ap (λ b. as_lines keys (where_all ((b, TokenAhead) ∷ []) (or_unsupported (last_meta actions) >>= λ m. Ok (feed_page keys a now q s m changes)))) within
-    ∙ ap (λ o. as_lines keys (or_unsupported o >>= λ m. Ok (feed_page keys a now q s m changes))) (sym found)
+pub changes_paged : (keys : ReplyKeys) (a : TableAccess) (now : ℕ) (q : ChangesQuery) (s : FeedStart) (held : Option Protocol) (last : Option MetaData) (meta : MetaData) (changes : List ChangedFile) (made : Paged)
+    → nat_le s.place (length changes) ≡ true → Some meta ≡ last → made ≡ paged keys (feed_page keys a now q s (told_protocol held) meta changes) → as_lines keys (page_of_changes keys a now q s held last changes) ≡ Ok made
+changes_paged keys a now q s held last meta changes made within found is =
+    ap (λ b. as_lines keys (where_all ((b, TokenAhead) ∷ []) (with_meta keys a now q s (told_protocol held) changes (or_unsupported last)))) within
+    ∙ ap (λ o. as_lines keys (with_meta keys a now q s (told_protocol held) changes (or_unsupported o))) (sym found)
     ∙ ap Ok (sym is)

@@ -6,8 +6,7 @@ use Rattle.std.specs.List.{cons_option, list_any, range_with_len}
 use Rattle.std.proofs.lemmas.List.Elements.{All-append, All-cons, All-contains_itself, All-drop, All-filter, All-head, All-map, All-nil, All-tail, All-take, All-weaker, filter_passes}
 use Rattle.change_feed.specs.Changes.{ChangedFile, file_change, is_cdc, row_change}
 use Rattle.change_feed.specs.Feed.{changes_at, commit_at, feed_of, first_off, time_at, unless_off}
-use Rattle.change_feed.specs.declared.change.ChangeKind.{ChangeKind}
-use Rattle.change_feed.specs.declared.change.ChangeKind.TheVariants as kind
+use Rattle.delta_lines.specs.declared.kinds.DeltaFile.{DeltaFile}
 use Rattle.log_actions.specs.declared.actions.Action.{Action}
 use Rattle.log_actions.specs.declared.actions.Action.TheVariants as action
 use Rattle.log_actions.specs.declared.actions.AddFile.{AddFile}
@@ -38,18 +37,17 @@ use Rattle.share_catalog.specs.TableNames.{parts_of}
 use Rattle.share_catalog.specs.Views.{Spot, token}
 use Rattle.share_catalog.specs.declared.edit.Binding.{Binding}
 use Rattle.share_catalog.specs.declared.table_name.TableName.{TableName}
-use Rattle.share_lines.specs.declared.kinds.FileLine.{FileLine}
 use Rattle.share_request.specs.declared.asked.What.{What}
 use Rattle.share_request.specs.declared.asked.What.TheVariants as what
 use Rattle.share_reply.specs.Access.{access, expiry}
 use Rattle.share_reply.specs.Answer.{Answer, Page, at_version, of, page, refused}
 use Rattle.share_reply.specs.Asking.{asked_at, feed_by, feed_part, files_by as part_by, files_part, from_bound, last_bound}
 use Rattle.share_reply.specs.Chains.{linked_file}
-use Rattle.share_reply.specs.Feeds.{ChangesQuery, FeedStart, change_line, changes_page, feed_page, line_by, lists_all, unrestricted_changes}
+use Rattle.share_reply.specs.Feeds.{ChangesQuery, FeedStart, changes_page, feed_page, given_change, lists_all, unrestricted_changes}
 use Rattle.share_reply.specs.Feeds as feeds
 use Rattle.share_reply.specs.Files.{FilesStart, files_by, files_with, first_start, lists, metadata_page, query_page, start_at, version_in}
 use Rattle.share_reply.specs.Laws as laws
-use Rattle.share_reply.specs.Laws.{HiddenFilesAreNotGiven, IsOfShown, NothingBeforeFirst, RunsOn, line_version, versions_told}
+use Rattle.share_reply.specs.Laws.{HiddenFilesAreNotGiven, IsOfShown, NothingBeforeFirst, RunsOn, versions_told}
 use Rattle.share_reply.specs.Pages.{given}
 use Rattle.share_reply.specs.Refusing.{Refused}
 use Rattle.share_reply.specs.Replies.{answer_to}
@@ -124,7 +122,7 @@ meta_refuses why p e = absurd cc
 meta_filed : (keys : ReplyKeys) (now : ℕ) (a : TableAccess) (spot : Spot) (log : Log) (p : Page) (b : _) → metadata_page (found_of spot log (part.Files b)) ≡ Ok p → Filed keys now spot log p
 meta_filed keys now a spot log p b e =
     let F : FoundBy spot log b metadata_page p = found_by spot log b metadata_page p meta_refuses e in
-    let is : Page = record { version = F.version; meta = _; content = []; end = None } in
+    let is : Page = record { version = F.version; protocol = _; meta = _; content = []; end = None } in
     let same : p ≡ is = files_paged.ok_is is p (metadata_page (part_found.Files F.version F.found.state)) refl F.found.page_is in
     record {
       version = F.version;
@@ -185,21 +183,21 @@ no_version (Ok v) p e = cc
 no_version (Err why) p e = cc
 
 pub hidden_files_are_not_given : HiddenFilesAreNotGiven
-hidden_files_are_not_given keys history now digest r name w b text p (laws.version from) is only e =
+hidden_files_are_not_given keys history now digest r f name w b text p (laws.version from) is only e =
     at_view keys (token digest) history now name (part.Head (from_bound from)) (what.Version name from) (λ s a x. of at_version (version_in x)) (λ answer. answer ≡ page p → GivesShown keys now history b text p) (view_by history (token digest)) (λ r x. refl)
     (λ why no. absurd cc) (λ view spot v at same. absurd (no_version (version_in (found_of spot (log_in view name) (part.Head (from_bound from)))) p same)) refl e
-hidden_files_are_not_given keys history now digest r name w b text p (laws.metadata at) is only e =
+hidden_files_are_not_given keys history now digest r f name w b text p (laws.metadata at) is only e =
     let T : AtTable (token digest) history name (part.Files (last_bound (asked_at at))) (λ s a x. metadata_page x) p =
     at_table keys (token digest) history now name (part.Files (last_bound (asked_at at))) (what.Metadata name at) (λ s a x. metadata_page x) p (view_by history (token digest)) (λ r x. refl) refl e in
     let s = is_bound history (token digest) T.view name T.spot T.is_view T.is_spot in
     gives_shown keys now history name T.spot (log_in T.view name) b text p s is only (meta_filed keys now (access T.view.catalog.recipient name T.spot) T.spot (log_in T.view name) p (last_bound (asked_at at)) T.page_is)
-hidden_files_are_not_given keys history now digest r name w b text p (laws.query q) is only e =
+hidden_files_are_not_given keys history now digest r f name w b text p (laws.query q) is only e =
     let T : AtTable (token digest) history name (files_part keys q q.token) (λ s a x. query_page keys a now q x) p =
     at_table keys (token digest) history now name (files_part keys q q.token) (what.Query name q) (λ s a x. query_page keys a now q x) p (view_by history (token digest)) (λ r x. refl) refl e in
     let s = is_bound history (token digest) T.view name T.spot T.is_view T.is_spot in
     gives_shown keys now history name T.spot (log_in T.view name) b text p s is only
     (filed keys (access T.view.catalog.recipient name T.spot) now q T.spot (log_in T.view name) p q.token (marks_kept history name T.spot (log_in T.view name) s) refl T.page_is)
-hidden_files_are_not_given keys history now digest r name w b text p (laws.changes from to max t) is only e =
+hidden_files_are_not_given keys history now digest r f name w b text p (laws.changes from to max t) is only e =
     let q : ChangesQuery = record { from = from; to = to; max = max; token = t } in
     let T : AtTable (token digest) history name (feed_part keys from to t) (λ s a x. unrestricted_changes keys s.only a now q x) p =
     at_table keys (token digest) history now name (feed_part keys from to t) (what.Changes name from to max t) (λ s a x. unrestricted_changes keys s.only a now q x) p (view_by history (token digest)) (λ r x. refl) refl e in
@@ -266,22 +264,19 @@ unless_late first (Some version) xs ys all e = absurd cc
 feed_late : (log : List (List Action)) (first from to : ℕ) (ys : List ChangedFile) → first ≤ from → feed_of log from to ≡ Ok ys → All (IsLate first) ys
 feed_late log first from to ys low e = unless_late first (first_off log from to) _ ys (range_late log first from (to + 1 - from) low) e
 
--- the version that the line of a change tells is its own
-kind_told : (k : ChangeKind) (f : FileLine) → line_version (line_by k f) ≡ f.version
-kind_told kind.Add f = refl
-kind_told kind.Cdf f = refl
-kind_told kind.Remove f = refl
+-- the version that is told of a file: of a change its own
+abbrev version_told : DeltaFile → Option ℕ
+version_told f = f.version
 
-changes_told : (keys : ReplyKeys) (a : TableAccess) (expires first : ℕ) (xs : List ChangedFile) → All (IsLate first) xs → All (λ v. first ≤ v) (filter_map line_version (map (change_line keys a expires) xs))
+changes_told : (keys : ReplyKeys) (a : TableAccess) (expires first : ℕ) (xs : List ChangedFile) → All (IsLate first) xs → All (λ v. first ≤ v) (filter_map version_told (map (given_change keys a expires) xs))
 changes_told keys a expires first [] all = All-nil (λ v. first ≤ v)
 changes_told keys a expires first (x ∷ xs) all =
     let rest = changes_told keys a expires first xs (All-tail (IsLate first) x xs all) in
-    let told : line_version (change_line keys a expires x) ≡ Some x.version = kind_told x.kind _ in
-    one_of (λ v. first ≤ v) (line_version (change_line keys a expires x)) _ (subst (λ (o : Option ℕ). IfSome o (λ v. first ≤ v)) (sym told) (All-head (IsLate first) x xs all)) rest
+    one_of (λ v. first ≤ v) (Some x.version) _ (All-head (IsLate first) x xs all) rest
 
 -- ---- nothing before the first
 
-files_told : (keys : ReplyKeys) (a : TableAccess) (now : ℕ) (xs : List AddFile) → filter_map line_version (map (linked_file keys a now) xs) ≡ []
+files_told : (keys : ReplyKeys) (a : TableAccess) (now : ℕ) (xs : List AddFile) → filter_map version_told (map (linked_file keys a now) xs) ≡ []
 files_told keys a now [] = refl
 files_told keys a now (x ∷ xs) = files_told keys a now xs
 
@@ -305,14 +300,14 @@ page_late first (Err why) each = refused_late first why
 
 filed_late : (keys : ReplyKeys) (now : ℕ) (spot : Spot) (log : Log) (p : Page) → Filed keys now spot log p → Late spot.first (page p)
 filed_late keys now spot log p F =
-    let none : filter_map line_version p.content ≡ [] = ap (filter_map line_version) F.content ∙ files_told keys F.a now (given F.test F.most F.place F.state.files) in
+    let none : filter_map version_told p.content ≡ [] = ap (filter_map version_told) F.content ∙ files_told keys F.a now (given F.test F.most F.place F.state.files) in
     All-cons (λ v. spot.first ≤ v) p.version _ (subst (λ (v : ℕ). spot.first ≤ v) (sym F.is_version) F.shared) (subst (All (λ v. spot.first ≤ v)) (sym none) (All-nil (λ v. spot.first ≤ v)))
 
 ranged_late : (keys : ReplyKeys) (a : TableAccess) (now : ℕ) (q : ChangesQuery) (start : FeedStart) (p : Page) (spot : Spot) (log : Log) → start.from ≤ start.to → feed_paged.Shared keys a now q start p spot log start.from start.to → Late spot.first (page p)
 ranged_late keys a now q start p spot log order S =
     let R : Ranged keys a now q start p log start.from start.to = S.ranged in
     let low = S.shared in
-    let here : Page = feed_page keys a now q start R.meta R.changes in
+    let here : Page = feed_page keys a now q start R.protocol R.meta R.changes in
     let late : All (IsLate spot.first) (given lists_all q.max start.place R.changes) = given_late q.max (feed_late log.commits spot.first start.from start.to R.changes low R.is_feed) in
     subst (λ (x : Page). Late spot.first (page x)) (sym R.page_is)
     (All-cons (λ v. spot.first ≤ v) here.version _ (omega (arith, low, order)) (changes_told keys a (expiry keys now) spot.first (given lists_all q.max start.place R.changes) late)) where
@@ -354,18 +349,18 @@ late_at keys history now digest name part w g b asks is each =
     refl
 
 pub nothing_is_before_first : NothingBeforeFirst
-nothing_is_before_first keys history now digest r name w b (laws.version from) on is =
+nothing_is_before_first keys history now digest r f name w b (laws.version from) on is =
     late_at keys history now digest name (part.Head (from_bound from)) (what.Version name from) (λ s a x. of at_version (version_in x)) b (λ r x. refl) is
     (λ view spot s. version_late spot.first (found_of spot (log_in view name) (part.Head (from_bound from))) (nothing_before_first spot (log_in view name) (part.Head (from_bound from))))
-nothing_is_before_first keys history now digest r name w b (laws.metadata at) on is =
+nothing_is_before_first keys history now digest r f name w b (laws.metadata at) on is =
     let bd = last_bound (asked_at at) in
     late_at keys history now digest name (part.Files bd) (what.Metadata name at) (λ s a x. of page (metadata_page x)) b (λ r x. refl) is
     (λ view spot s. page_late spot.first (metadata_page (found_of spot (log_in view name) (part.Files bd))) (λ p e. filed_late keys now spot (log_in view name) p (meta_filed keys now (access view.catalog.recipient name spot) spot (log_in view name) p bd e)))
-nothing_is_before_first keys history now digest r name w b (laws.query q) on is =
+nothing_is_before_first keys history now digest r f name w b (laws.query q) on is =
     late_at keys history now digest name (files_part keys q q.token) (what.Query name q) (λ s a x. of page (query_page keys a now q x)) b (λ r x. refl) is
     (λ view spot s. page_late spot.first (query_page keys (access view.catalog.recipient name spot) now q (found_of spot (log_in view name) (files_part keys q q.token)))
     (λ p e. filed_late keys now spot (log_in view name) p (filed keys (access view.catalog.recipient name spot) now q spot (log_in view name) p q.token (marks_kept history name spot (log_in view name) s) refl e)))
-nothing_is_before_first keys history now digest r name w b (laws.changes from to max t) on is =
+nothing_is_before_first keys history now digest r f name w b (laws.changes from to max t) on is =
     let q : ChangesQuery = record { from = from; to = to; max = max; token = t } in
     late_at keys history now digest name (feed_part keys from to t) (what.Changes name from to max t) (λ s a x. of page (unrestricted_changes keys s.only a now q x)) b (λ r x. refl) is
     (λ view spot s. page_late spot.first (unrestricted_changes keys spot.only (access view.catalog.recipient name spot) now q (found_of spot (log_in view name) (feed_part keys from to t)))

@@ -193,14 +193,14 @@ linked history now s o = of_object s (linked_object (option_and_then (seen_in (o
 
 gives_nothing : (over : List Entry → TableAccess → Type 0) → ((before later : List Entry) (given : TableAccess) → over before given → IsGiven (before ++ later) given → ⊥) → GivesNothing over
 gives_nothing over never = record {
-  files = λ keys before later now digest text name q c has read ended p e.
-      let t : Turn QueryBody = record { point = before ++ later; digest = digest; moment = now; query = q } in
+  files = λ keys before later now digest text f name q c has read ended p e.
+      let t : Turn QueryBody = record { point = before ++ later; digest = digest; format = f; moment = now; query = q } in
       let T : files_chain.TurnAt keys name t p = files_chain.turn_at keys name t p e in
       let P : files_paged.Later keys (access T.view.catalog.recipient name T.spot) now q c T.spot (log_in T.view name) p =
       files_paged.later keys (access T.view.catalog.recipient name T.spot) now q c text T.spot (log_in T.view name) p read has T.page_is in
       never before later c.access ended (given_by (before ++ later) digest T.view name T.spot c.access P.same T.is_view T.is_spot);
-  changes = λ keys before later now digest text name q c has read ended p e.
-      let t : Turn ChangesQuery = record { point = before ++ later; digest = digest; moment = now; query = q } in
+  changes = λ keys before later now digest text f name q c has read ended p e.
+      let t : Turn ChangesQuery = record { point = before ++ later; digest = digest; format = f; moment = now; query = q } in
       let T : feed_chain.TurnAt keys name t p = feed_chain.turn_at keys name t p e in
       let U : feed_chain.Unrestricted keys name t p T = feed_chain.unrestricted_at keys name t p T in
       let P : feed_paged.LaterFeed keys (access T.view.catalog.recipient name T.spot) now q c T.spot (log_in T.view name) p =

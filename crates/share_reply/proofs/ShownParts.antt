@@ -41,6 +41,10 @@ each_passes : {X : Type 0} (test : X → Bool) (xs : List X) → ((x : X) → te
 each_passes test [] pass = refl
 each_passes test (x ∷ xs) pass = rw (pass x) (ap (λ ys. x ∷ ys) (each_passes test xs pass))
 
+pub shown_protocol : (only : Option (List ℕ)) (state : State) → (shown_state only state).protocol ≡ state.protocol
+shown_protocol None state = refl
+shown_protocol (Some text) state = refl
+
 -- which files are shown, all where nothing is restricted
 pub files_shown : (only : Option (List ℕ)) (state : State) (s : Shown) (meta : MetaData) → meta ≡ state.meta → IsShown only meta s → filter (shown_in s) state.files ≡ (shown_state only state).files
 files_shown None state s meta is_meta is_shown = each_passes (shown_in s) state.files is_shown

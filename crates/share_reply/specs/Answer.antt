@@ -1,12 +1,13 @@
 -- What a recipient's request is answered, as a value: before any text is made of it.
 use Rattle.std.specs.Prelude.{ℕ, List, [], ◌∷◌, Option, Some, None, Result, Ok, Err}
 use Rattle.case_table.specs.declared.routing.Method.{Method}
+use Rattle.delta_lines.specs.declared.kinds.DeltaFile.{DeltaFile}
 use Rattle.file_ranges.specs.declared.span.Span.{Span}
+use Rattle.log_actions.specs.declared.actions.MetaData.{MetaData}
+use Rattle.log_actions.specs.declared.actions.Protocol.{Protocol}
 use Rattle.page_token.specs.declared.cursor.Cursor.{Cursor}
 use Rattle.page_token.specs.declared.cursor.ListCursor.{ListCursor}
 use Rattle.page_token.specs.declared.cursor.ListKind.{ListKind}
-use Rattle.share_lines.specs.declared.kinds.Line.{Line}
-use Rattle.share_lines.specs.declared.kinds.MetaLine.{MetaLine}
 use Rattle.share_reply.specs.Refusing.{Refused}
 
 -- the end of a page: when its links end, where it has any, and where the next page begins, where one is left
@@ -14,11 +15,12 @@ pub record Ending : Type 0 where
   pub expires : Option ℕ
   pub next : Option Cursor
 
--- The lines of a version: its metaData, the files or the changes, and the end where pages are asked for. The first line, the protocol's, is the same in all.
+-- What is given of a version, in whichever format: its protocol and its metaData, the files or the changes with their links, and the end where pages are asked for.
 pub record Page : Type 0 where
   pub version : ℕ
-  pub meta : MetaLine
-  pub content : List Line
+  pub protocol : Protocol
+  pub meta : MetaData
+  pub content : List DeltaFile
   pub end : Option Ending
 
 -- Names that are listed, those of a share or of a schema where the listing is of one: each a share; a schema; a table; or a schema and a table.

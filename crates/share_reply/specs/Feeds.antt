@@ -1,15 +1,18 @@
 -- What a query of a table's changes is answered (Delta Sharing PROTOCOL.md, "Read Change Data Feed from a Table").
-use Rattle.std.specs.Prelude.{ℕ, ◌==◌, ◌&&◌, List, [], ◌∷◌, ◌++◌, Bool, true, false, Option, Some, None, Result, Ok, Err, is_none, length, map, nat_le, option_map, if◌then◌else◌}
+use Rattle.std.specs.Prelude.{ℕ, ◌==◌, ◌&&◌, List, [], ◌∷◌, ◌++◌, Bool, true, false, Option, Some, None, Result, Ok, Err, is_none, length, map, nat_le, option_map, unwrap_or, if◌then◌else◌}
 use Rattle.std.specs.Fmt.{decimal}
 use Rattle.std.specs.Ordering.{int_eq}
 use Rattle.case_table.specs.declared.refuse.Refusal.TheVariants.{ChangesNotEnabled, ChangesRestricted, TokenAhead, TokenInvalid, TokenMismatch, UnsupportedTable}
-use Rattle.change_feed.specs.Changes.{ChangedFile}
+use Rattle.change_feed.specs.Changes as came
+use Rattle.change_feed.specs.Changes.{ChangedFile, FileAction as Came}
 use Rattle.change_feed.specs.Shown.{feed_from as feed_in}
-use Rattle.change_feed.specs.declared.change.ChangeKind.{ChangeKind}
-use Rattle.change_feed.specs.declared.change.ChangeKind.TheVariants as kind
+use Rattle.delta_lines.specs.declared.kinds.DeltaFile.{DeltaFile}
+use Rattle.delta_lines.specs.declared.kinds.FileAction.{FileAction}
+use Rattle.delta_lines.specs.declared.kinds.FileAction.TheVariants as action
 use Rattle.json_tree.specs.Results.{◌>>=◌}
 use Rattle.log_actions.specs.declared.actions.MetaData.{MetaData}
-use Rattle.log_replay.specs.Reconciliation.{last_meta}
+use Rattle.log_actions.specs.declared.actions.Protocol.{Protocol}
+use Rattle.log_replay.specs.Reconciliation.{last_meta, last_protocol}
 use Rattle.page_token.specs.Cursors.{cursor_of}
 use Rattle.page_token.specs.declared.cursor.Asked.{Asked}
 use Rattle.page_token.specs.declared.cursor.Asked.TheVariants as asked
@@ -20,10 +23,6 @@ use Rattle.page_token.specs.declared.cursor.TableAccess.{TableAccess}
 use Rattle.share_book.specs.declared.look.FeedPart.{FeedPart}
 use Rattle.share_book.specs.declared.look.PartFound.{PartFound}
 use Rattle.share_book.specs.declared.look.PartFound.TheVariants as part_found
-use Rattle.share_lines.specs.Lines.{meta_of}
-use Rattle.share_lines.specs.declared.kinds.FileLine.{FileLine}
-use Rattle.share_lines.specs.declared.kinds.Line.{Line}
-use Rattle.share_lines.specs.declared.kinds.Line.TheVariants as line
 use Rattle.share_request.specs.declared.asked.Bound.{Bound as At}
 use Rattle.share_reply.specs.Access.{access_tests, expiry, link_to}
 use Rattle.share_reply.specs.Answer.{Ending, Page, ends_with}
@@ -79,18 +78,18 @@ or_off (Err version) = Err (record { refusal = ChangesNotEnabled; detail = decim
 abbrev pub changes_in : FeedPart → Result (List ChangedFile) Refused
 changes_in f = or_off (feed_in f.from f.marks f.commits)
 
-abbrev pub line_by : ChangeKind → FileLine → Line
-line_by kind.Add f = line.Add f
-line_by kind.Cdf f = line.Cdf f
-line_by kind.Remove f = line.Remove f
+-- the action of a change
+abbrev pub action_of : Came → FileAction
+action_of (came.added f) = action.Add f
+action_of (came.rows f) = action.Cdc f
+action_of (came.removed f) = action.Remove f
 
 -- a change with a link, and when that ends
-abbrev pub change_with : List ℕ → ℕ → ChangedFile → FileLine
-change_with url expires c = record { url = url; id = c.path; values = c.values; size = c.size; stats = c.stats; expires = Some expires; time = Some c.time; version = Some c.version }
+abbrev pub change_with : List ℕ → ℕ → ChangedFile → DeltaFile
+change_with url expires c = record { id = c.path; url = url; action = action_of c.action; expires = Some expires; time = Some c.time; version = Some c.version }
 
--- "Add File", "CDF File", "Remove File", each with its link
-abbrev pub change_line : ReplyKeys → TableAccess → ℕ → ChangedFile → Line
-change_line keys a expires c = line_by c.kind (change_with (link_to keys a expires c.path) expires c)
+abbrev pub given_change : ReplyKeys → TableAccess → ℕ → ChangedFile → DeltaFile
+given_change keys a expires c = change_with (link_to keys a expires c.path) expires c
 
 abbrev pub feed_cursor : TableAccess → FeedStart → ℕ → Cursor
 feed_cursor a s place = cursor.Feed (record { access = a; asked_from = s.asked_from; asked_to = s.asked_to; from = s.from; to = s.to; place = place })
@@ -105,29 +104,37 @@ feed_ending keys a now q s changes = record {
   next = option_map (feed_cursor a s) (next_place lists_all q.max s.place changes);
 }
 
--- the metaData is that of the range's last version, and so is the version that is told
-abbrev pub feed_page : ReplyKeys → TableAccess → ℕ → ChangesQuery → FeedStart → MetaData → List ChangedFile → Page
-feed_page keys a now q s meta changes = record {
+-- the protocol and the metaData are those of the range's last version, and so is the version that is told
+abbrev pub feed_page : ReplyKeys → TableAccess → ℕ → ChangesQuery → FeedStart → Protocol → MetaData → List ChangedFile → Page
+feed_page keys a now q s protocol meta changes = record {
   version = s.to;
-  meta = meta_of meta;
-  content = map (change_line keys a (expiry keys now)) (given lists_all q.max s.place changes);
+  protocol = protocol;
+  meta = meta;
+  content = map (given_change keys a (expiry keys now)) (given lists_all q.max s.place changes);
   end = if is_paged q.max q.token then Some (feed_ending keys a now q s changes) else None;
 }
+
+-- Every log in form has a protocol; of one without, reader 1 and writer 2 are told, without features (Delta Lake PROTOCOL.md, "Protocol Evolution").
+abbrev pub plain_protocol : Protocol
+plain_protocol = record { min_reader = 1; min_writer = 2; reader_features = None; writer_features = None }
+
+abbrev pub told_protocol : Option Protocol → Protocol
+told_protocol held = unwrap_or held plain_protocol
 
 -- no log that is read lacks a metaData
 abbrev pub or_unsupported : {X : Type 0} → Option X → Result X Refused
 or_unsupported None = Err (plain UnsupportedTable)
 or_unsupported (Some x) = Ok x
 
-abbrev pub with_meta : ReplyKeys → TableAccess → ℕ → ChangesQuery → FeedStart → List ChangedFile → Result MetaData Refused → Result Page Refused
-with_meta keys a now q s changes meta = meta >>= λ m. Ok (feed_page keys a now q s m changes)
+abbrev pub with_meta : ReplyKeys → TableAccess → ℕ → ChangesQuery → FeedStart → Protocol → List ChangedFile → Result MetaData Refused → Result Page Refused
+with_meta keys a now q s protocol changes meta = meta >>= λ m. Ok (feed_page keys a now q s protocol m changes)
 
-abbrev pub with_changes : ReplyKeys → TableAccess → ℕ → ChangesQuery → FeedStart → Option MetaData → Result (List ChangedFile) Refused → Result Page Refused
-with_changes keys a now q s meta found =
-    found >>= λ changes. where_all ((nat_le s.place (length changes), TokenAhead) ∷ []) (with_meta keys a now q s changes (or_unsupported meta))
+abbrev pub with_changes : ReplyKeys → TableAccess → ℕ → ChangesQuery → FeedStart → Protocol → Option MetaData → Result (List ChangedFile) Refused → Result Page Refused
+with_changes keys a now q s protocol meta found =
+    found >>= λ changes. where_all ((nat_le s.place (length changes), TokenAhead) ∷ []) (with_meta keys a now q s protocol changes (or_unsupported meta))
 
 abbrev pub page_of_feed : ReplyKeys → TableAccess → ℕ → ChangesQuery → FeedStart → FeedPart → Result Page Refused
-page_of_feed keys a now q s f = with_changes keys a now q s (last_meta f.meta) (changes_in f)
+page_of_feed keys a now q s f = with_changes keys a now q s (told_protocol (last_protocol f.protocol)) (last_meta f.meta) (changes_in f)
 
 -- ---- of what is found
 

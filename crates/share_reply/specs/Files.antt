@@ -3,6 +3,8 @@ use Rattle.std.specs.Prelude.{ℕ, ◌==◌, ◌&&◌, ◌||◌, ℤ, List, [], 
 use Rattle.std.specs.Fmt.{decimal}
 use Rattle.std.specs.Ordering.{int_eq}
 use Rattle.case_table.specs.declared.refuse.Refusal.TheVariants.{ChangesRestricted, HistoryNotShared, NotFound, TimestampRange, TokenAhead, TokenInvalid, TokenMismatch, UnsupportedTable, VersionNotShared, VersionRange}
+use Rattle.delta_lines.specs.declared.kinds.DeltaFile.{DeltaFile}
+use Rattle.delta_lines.specs.declared.kinds.FileAction.TheVariants as action
 use Rattle.log_actions.specs.declared.actions.AddFile.{AddFile}
 use Rattle.log_replay.specs.State.{State}
 use Rattle.page_token.specs.Cursors.{cursor_of}
@@ -18,10 +20,6 @@ use Rattle.share_book.specs.declared.look.PartFound.{PartFound}
 use Rattle.share_book.specs.declared.look.PartFound.TheVariants as part_found
 use Rattle.share_book.specs.declared.look.TableRefusal.{TableRefusal}
 use Rattle.share_book.specs.declared.look.TableRefusal.TheVariants as refusal
-use Rattle.share_lines.specs.Lines.{meta_of}
-use Rattle.share_lines.specs.declared.kinds.FileLine.{FileLine}
-use Rattle.share_lines.specs.declared.kinds.Line.{Line}
-use Rattle.share_lines.specs.declared.kinds.Line.TheVariants as line
 use Rattle.query_body.specs.declared.query.QueryBody.{QueryBody}
 use Rattle.share_reply.specs.Access.{access_tests, expiry, link_to}
 use Rattle.share_reply.specs.Answer.{Ending, Page, ends_with}
@@ -103,11 +101,11 @@ agrees q c = is_version q.version c.asked && (is_moment q.moment c.asked && is_h
 -- ---- the page
 
 -- a file with a link, and when that ends
-abbrev pub file_with : List ℕ → ℕ → AddFile → FileLine
-file_with url expires f = record { url = url; id = f.path; values = f.values; size = f.size; stats = f.stats; expires = Some expires; time = None; version = None }
+abbrev pub file_with : List ℕ → ℕ → AddFile → DeltaFile
+file_with url expires f = record { id = f.path; url = url; action = action.Add f; expires = Some expires; time = None; version = None }
 
-abbrev pub file_line : ReplyKeys → TableAccess → ℕ → AddFile → Line
-file_line keys a expires f = line.File (file_with (link_to keys a expires f.path) expires f)
+abbrev pub given_file : ReplyKeys → TableAccess → ℕ → AddFile → DeltaFile
+given_file keys a expires f = file_with (link_to keys a expires f.path) expires f
 
 abbrev pub files_cursor : TableAccess → FilesStart → ℕ → Cursor
 files_cursor a s place = cursor.Files (record { access = a; asked = s.asked; version = s.version; hint = s.hint; place = place })
@@ -126,8 +124,9 @@ files_ending keys a now q s state = record {
 abbrev pub files_page : ReplyKeys → TableAccess → ℕ → QueryBody → FilesStart → State → Page
 files_page keys a now q s state = record {
   version = s.version;
-  meta = meta_of state.meta;
-  content = map (file_line keys a (expiry keys now)) (given (lists s.hint state) q.max s.place state.files);
+  protocol = state.protocol;
+  meta = state.meta;
+  content = map (given_file keys a (expiry keys now)) (given (lists s.hint state) q.max s.place state.files);
   end = if is_paged q.max q.token then Some (files_ending keys a now q s state) else None;
 }
 
@@ -159,7 +158,7 @@ query_page keys a now q found = files_with keys a now q q.token found
 
 -- "Query Table Metadata": the same version without files
 abbrev pub metadata_page : PartFound → Result Page Refused
-metadata_page (part_found.Files version state) = Ok (record { version = version; meta = meta_of state.meta; content = []; end = None })
+metadata_page (part_found.Files version state) = Ok (record { version = version; protocol = state.protocol; meta = state.meta; content = []; end = None })
 metadata_page (part_found.Refused why) = Err (refused_for why)
 metadata_page _ = unlike
 

@@ -1,8 +1,12 @@
 -- Laws of replies, over the definitions alone.
-use Rattle.std.specs.Prelude.{◌≡◌, ◌≢◌, ◌≤◌, ◌++◌, ⊤, ℕ, List, [], ◌∷◌, true, false, All, Contains, Option, Some, None, Ok, IsErr, filter_map}
+use Rattle.std.specs.Prelude.{◌≡◌, ◌≢◌, ◌≤◌, ◌++◌, ⊤, ℕ, List, [], ◌∷◌, true, false, All, Contains, Option, Some, None, Ok, IsErr, filter_map, map}
 use Rattle.case_table.specs.declared.refuse.Refusal.TheVariants.{NotFound}
 use Rattle.case_table.specs.declared.routing.Route.TheVariants as route
 use Rattle.case_table.specs.declared.routing.Route.{Route}
+use Rattle.delta_lines.specs.Delta.{delta_line_text}
+use Rattle.delta_lines.specs.Formats.{parquet_line}
+use Rattle.delta_lines.specs.declared.kinds.DeltaFile.{DeltaFile}
+use Rattle.delta_lines.specs.declared.kinds.DeltaLine.{DeltaLine}
 use Rattle.log_actions.specs.declared.actions.AddFile.{AddFile}
 use Rattle.log_replay.specs.State.{State}
 use Rattle.page_token.specs.Cursors.{cursor_of}
@@ -13,7 +17,7 @@ use Rattle.page_token.specs.declared.cursor.TableAccess.{TableAccess}
 use Rattle.pred_tree.specs.Shown.{shows}
 use Rattle.share_book.specs.History.{edits}
 use Rattle.share_book.specs.Parts.{state_at}
-use Rattle.share_book.specs.Views.{log_at}
+use Rattle.share_book.specs.Views.{View, log_at}
 use Rattle.share_book.specs.declared.entry.Entry.{Entry}
 use Rattle.share_book.specs.declared.look.PartFound.{PartFound}
 use Rattle.share_book.specs.declared.look.Found.TheVariants as found
@@ -21,9 +25,13 @@ use Rattle.share_catalog.specs.declared.edit.Binding.{Binding}
 use Rattle.share_catalog.specs.declared.table_name.TableName.{TableName}
 use Rattle.share_catalog.specs.Catalogue.{binding_edition, bound, grant_edition, granted}
 use Rattle.file_ranges.specs.declared.span.Span.{Span}
+use Rattle.share_lines.specs.Printing.{line_text}
 use Rattle.share_request.specs.declared.asked.ByLink.{ByLink}
+use Rattle.share_request.specs.declared.asked.ByToken.{ByToken}
 use Rattle.share_request.specs.declared.asked.Request.{Request}
 use Rattle.share_request.specs.declared.asked.Request.TheVariants as request
+use Rattle.share_request.specs.declared.asked.ResponseFormat.{ResponseFormat}
+use Rattle.share_request.specs.declared.asked.ResponseFormat.TheVariants as format
 use Rattle.share_request.specs.declared.asked.What.{What}
 use Rattle.share_request.specs.declared.asked.What.TheVariants as what
 use Rattle.query_body.specs.declared.query.QueryBody.{QueryBody}
@@ -31,16 +39,17 @@ use Rattle.signed_link.specs.Parts.{parts_of}
 use Rattle.signed_link.specs.declared.parts.LinkParts.{LinkParts}
 use Rattle.share_book.specs.NamesView.{NamesView}
 use Rattle.share_reply.specs.Access.{is_same_edition}
-use Rattle.share_lines.specs.declared.kinds.Line.{Line}
-use Rattle.share_lines.specs.declared.kinds.Line.TheVariants as line
 use Rattle.share_reply.specs.Answer.{Answer, Page, at_version, object, page, refused}
+use Rattle.share_reply.specs.Bodies.{reply_of}
 use Rattle.share_reply.specs.Chains.{linked_file}
 use Rattle.share_reply.specs.Feeds.{ChangesQuery, changes_page}
 use Rattle.share_reply.specs.Files.{query_page}
 use Rattle.share_reply.specs.Lists.{has_share}
 use Rattle.share_reply.specs.Refusing.{plain}
-use Rattle.share_reply.specs.Replies.{answer_what, answered_at, view_for}
+use Rattle.share_reply.specs.Replies.{answer_what, answered, answered_at, view_for}
 use Rattle.share_reply.specs.declared.keys.ReplyKeys.{ReplyKeys}
+use Rattle.share_reply.specs.declared.plan.Plan.{Plan}
+use Rattle.share_reply.specs.declared.plan.Plan.TheVariants as plan
 
 -- Equal views answer alike, links and tokens included: they are part of the answer. So what isn't in a view (other recipients, shares that aren't granted, numbers of logs, who did what) is in no reply.
 abbrev pub EqualViewsAnswerAlike : Type 0
@@ -80,10 +89,10 @@ access_of parts = record { recipient = parts.recipient; share = parts.table.shar
 
 -- What was given under something that is over is good no more, at whatever later point, given again or not: its tokens give no line, and its links no byte.
 pub record GivesNothing (over : List Entry → TableAccess → Type 0) : Type 0 where
-  pub files : (keys : ReplyKeys) (before later : List Entry) (now : ℕ) (digest text : List ℕ) (name : TableName) (q : QueryBody) (c : FilesCursor) → q.token ≡ Some text → cursor_of keys.token text ≡ Some (cursor.Files c)
-      → over before c.access → (p : Page) → answered_at keys (before ++ later) now (request.ByToken (record { digest = digest; route = route.Query; asked = Ok (what.Query name q) })) ≢ page p
-  pub changes : (keys : ReplyKeys) (before later : List Entry) (now : ℕ) (digest text : List ℕ) (name : TableName) (q : ChangesQuery) (c : FeedCursor) → q.token ≡ Some text → cursor_of keys.token text ≡ Some (cursor.Feed c)
-      → over before c.access → (p : Page) → answered_at keys (before ++ later) now (request.ByToken (record { digest = digest; route = route.Changes; asked = Ok (what.Changes name q.from q.to q.max q.token) })) ≢ page p
+  pub files : (keys : ReplyKeys) (before later : List Entry) (now : ℕ) (digest text : List ℕ) (f : ResponseFormat) (name : TableName) (q : QueryBody) (c : FilesCursor) → q.token ≡ Some text → cursor_of keys.token text ≡ Some (cursor.Files c)
+      → over before c.access → (p : Page) → answered_at keys (before ++ later) now (request.ByToken (record { digest = digest; route = route.Query; format = f; asked = Ok (what.Query name q) })) ≢ page p
+  pub changes : (keys : ReplyKeys) (before later : List Entry) (now : ℕ) (digest text : List ℕ) (f : ResponseFormat) (name : TableName) (q : ChangesQuery) (c : FeedCursor) → q.token ≡ Some text → cursor_of keys.token text ≡ Some (cursor.Feed c)
+      → over before c.access → (p : Page) → answered_at keys (before ++ later) now (request.ByToken (record { digest = digest; route = route.Changes; format = f; asked = Ok (what.Changes name q.from q.to q.max q.token) })) ≢ page p
   pub links : (keys : ReplyKeys) (before later : List Entry) (now : ℕ) (by : ByLink) (parts : LinkParts) → parts_of keys.link by.target ≡ Some parts
       → over before (access_of parts) → (name : List ℕ) (span : Option Span) → answered_at keys (before ++ later) now (request.ByLink by) ≢ object name span
 
@@ -98,31 +107,23 @@ UnboundTablesGiveNothing = GivesNothing (λ history a. IsUnbound history (record
 -- ---- tables that are shared in part
 
 -- what is asked of a table, by whom the digest finds
-abbrev pub asked_of : List ℕ → Route → What → Request
-asked_of digest r w = request.ByToken (record { digest = digest; route = r; asked = Ok w })
+abbrev pub asked_of : List ℕ → Route → ResponseFormat → What → Request
+asked_of digest r f w = request.ByToken (record { digest = digest; route = r; format = f; asked = Ok w })
 
--- a line that is given of a file of a state, one that is shown
-abbrev pub IsOfShown : ReplyKeys → ℕ → List ℕ → State → Line → Type 0
-IsOfShown keys now text state l = (f : AddFile) × Contains state.files f × (shows (Some text) state.meta f ≡ true) × ((a : TableAccess) × (l ≡ linked_file keys a now f))
+-- what is given of a file of a state, one that is shown
+abbrev pub IsOfShown : ReplyKeys → ℕ → List ℕ → State → DeltaFile → Type 0
+IsOfShown keys now text state given = (f : AddFile) × Contains state.files f × (shows (Some text) state.meta f ≡ true) × ((a : TableAccess) × (given ≡ linked_file keys a now f))
 
--- No hidden file is given: where the binding of a table restricts it, each line of files of a page, whatever is asked, is of a file that the restriction shows, of the version of the table's log that the page tells.
+-- No hidden file is given: where the binding of a table restricts it, each file of a page, whatever is asked and in whichever format, is one that the restriction shows, of the version of the table's log that the page tells.
 abbrev pub HiddenFilesAreNotGiven : Type 0
-HiddenFilesAreNotGiven = (keys : ReplyKeys) (history : List Entry) (now : ℕ) (digest : List ℕ) (r : Route) (name : TableName) (w : What) (b : Binding) (text : List ℕ) (p : Page)
-    → AsksFor name w → bound (edits history) name ≡ Some b → b.only ≡ Some text → answered_at keys history now (asked_of digest r w) ≡ page p
+HiddenFilesAreNotGiven = (keys : ReplyKeys) (history : List Entry) (now : ℕ) (digest : List ℕ) (r : Route) (f : ResponseFormat) (name : TableName) (w : What) (b : Binding) (text : List ℕ) (p : Page)
+    → AsksFor name w → bound (edits history) name ≡ Some b → b.only ≡ Some text → answered_at keys history now (asked_of digest r f w) ≡ page p
     → (state : State) × (state_at (log_at history b.location) p.version ≡ Ok state) × All (IsOfShown keys now text state) p.content
 
--- the version that a line tells: that of a change
-abbrev pub line_version : Line → Option ℕ
-line_version (line.File f) = f.version
-line_version (line.Add f) = f.version
-line_version (line.Cdf f) = f.version
-line_version (line.Remove f) = f.version
-line_version _ = None
-
--- the versions of a table that an answer of status 200 tells
+-- the versions of a table that an answer of status 200 tells: its own, and those of changes
 abbrev pub versions_told : Answer → List ℕ
 versions_told (at_version v) = v ∷ []
-versions_told (page p) = p.version ∷ filter_map line_version p.content
+versions_told (page p) = p.version ∷ filter_map (λ f. f.version) p.content
 versions_told _ = []
 
 -- a token of changes, if one is given, is of a range that runs forwards, as that of each page does
@@ -137,5 +138,25 @@ AsksOn keys _ = ⊤
 
 -- Nothing is told of versions before the first one that the binding of a table shares.
 abbrev pub NothingBeforeFirst : Type 0
-NothingBeforeFirst = (keys : ReplyKeys) (history : List Entry) (now : ℕ) (digest : List ℕ) (r : Route) (name : TableName) (w : What) (b : Binding) → AsksFor name w → AsksOn keys w → bound (edits history) name ≡ Some b
-    → All (λ v. b.first ≤ v) (versions_told (answered_at keys history now (asked_of digest r w)))
+NothingBeforeFirst = (keys : ReplyKeys) (history : List Entry) (now : ℕ) (digest : List ℕ) (r : Route) (f : ResponseFormat) (name : TableName) (w : What) (b : Binding) → AsksFor name w → AsksOn keys w → bound (edits history) name ≡ Some b
+    → All (λ v. b.first ≤ v) (versions_told (answered_at keys history now (asked_of digest r f w)))
+
+-- ---- the two formats
+
+-- a request in one format or the other
+abbrev pub in_format : ResponseFormat → ByToken → Request
+in_format f r = request.ByToken (record r { format = f })
+
+abbrev pub HasNoLines : Plan → Type 0
+HasNoLines (plan.Lines v f texts) = ⊥
+HasNoLines _ = ⊤
+
+-- The replies to one request in the two formats: one and the same where it has no lines; else lines of one version, those of the parquet format each what stands for a line of the delta format, in the same order.
+pub data Agree : (parquet delta : Plan) → Type 0 where
+  alike : (p : Plan) → HasNoLines p → Agree p p
+  lines : (v : ℕ) (ls : List DeltaLine) → Agree (plan.Lines v format.Parquet (map (λ l. line_text (parquet_line l)) ls)) (plan.Lines v format.Delta (map delta_line_text ls))
+
+-- Both formats agree: of each view, at each moment, a request has one answer in whichever format it asks, and its two replies say the same. So what is said of answers holds in both.
+pub record FormatsAgree : Type 0 where
+  pub answers : (keys : ReplyKeys) (view : Option View) (now : ℕ) (r : ByToken) → answered keys view now (in_format format.Parquet r) ≡ answered keys view now (in_format format.Delta r)
+  pub replies : (keys : ReplyKeys) (view : Option View) (now : ℕ) (r : ByToken) → Agree (reply_of keys format.Parquet (answered keys view now (in_format format.Parquet r))) (reply_of keys format.Delta (answered keys view now (in_format format.Delta r)))

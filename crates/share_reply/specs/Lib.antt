@@ -9,6 +9,7 @@ pub mod Lists
 pub mod Links
 pub mod Replies
 pub mod Planned
+pub mod Formats
 pub mod Bodies
 pub mod Stops
 pub mod Cuts

@@ -1,11 +1,10 @@
 -- Where pages begin, as private functions have it.
-use Rattle.std.specs.Prelude.{ℕ, ◌+◌, ◌-◌, List, [], ◌∷◌, Bool, Option, Some, None, Result, Ok, length, nat_le, nat_lt, if◌then◌else◌}
+use Rattle.std.specs.Prelude.{ℕ, ◌+◌, ◌-◌, List, [], ◌∷◌, Bool, Option, Some, None, Result, length, nat_le, nat_lt, if◌then◌else◌}
 use Rattle.std.specs.Fmt.{decimal}
 use Rattle.case_table.specs.declared.refuse.Refusal.TheVariants.{ChangesNotEnabled, TokenAhead}
 use Rattle.change_feed.specs.Changes.{ChangedFile}
-use Rattle.json_tree.specs.Results.{◌>>=◌}
-use Rattle.log_actions.specs.declared.actions.Action.{Action}
-use Rattle.log_replay.specs.Reconciliation.{last_meta}
+use Rattle.log_actions.specs.declared.actions.MetaData.{MetaData}
+use Rattle.log_actions.specs.declared.actions.Protocol.{Protocol}
 use Rattle.page_token.specs.declared.cursor.TableAccess.{TableAccess}
 use Rattle.page_token.specs.declared.cursor.FilesCursor.{FilesCursor}
 use Rattle.share_book.specs.declared.look.FeedPart.{FeedPart}
@@ -52,11 +51,9 @@ end_of keys is_paged e = if is_paged then Some (end_line keys e) else None
 abbrev pub paged : ReplyKeys → Page → Paged
 paged keys p = record { version = p.version; lines = page_lines keys p }
 
--- the page of the changes that are found, with the commit whose metaData holds at the last version
-abbrev pub page_of_changes : ReplyKeys → TableAccess → ℕ → ChangesQuery → FeedStart → List Action → List ChangedFile → Result Page Refused
-page_of_changes keys a now q s actions changes =
-    where_all ((nat_le s.place (length changes), TokenAhead) ∷ [])
-    (feeds.or_unsupported (last_meta actions) >>= λ meta. Ok (feeds.feed_page keys a now q s meta changes))
+-- the page of the changes that are found, with what holds at the last version
+abbrev pub page_of_changes : ReplyKeys → TableAccess → ℕ → ChangesQuery → FeedStart → Option Protocol → Option MetaData → List ChangedFile → Result Page Refused
+page_of_changes keys a now q s held meta changes = where_all ((nat_le s.place (length changes), TokenAhead) ∷ []) (feeds.with_meta keys a now q s (feeds.told_protocol held) changes (feeds.or_unsupported meta))
 
 -- the place behind so many of a list, where more are left
 abbrev pub behind : ℕ → Option ℕ → ℕ → Option ℕ

@@ -10,13 +10,14 @@ ghost use Rattle.share_reply.specs.Files as files;
 ghost use Rattle.share_reply.specs.Pages.{given};
 ghost use Rattle.share_reply.specs.Starts.{behind, end_of, feed_start, feed_start_by, off_at, page_of_changes, query_in};
 ghost use Rattle.change_feed.specs.Shown.{feed_from};
+ghost use Rattle.log_replay.specs.Reconciliation.{last_meta, last_protocol};
 ghost use Rattle.std.specs.Arc.{arc_value};
 ghost use Rattle.share_reply.specs.Stops.{GivesItems, GivesPage};
 
 use crate::access::{Access, Signing, expiry};
 use crate::files::{ends_with, is_paged, refusal_for};
 use crate::keys::ReplyKeys;
-use crate::lines::{Content, LinePlan};
+use crate::lines::{Content, PageLines};
 use crate::numbers::{place_of, version_of};
 use crate::page::Paged;
 use crate::refused::Refused;
@@ -25,7 +26,7 @@ use crate::stop::Stop;
 use case_table::Refusal;
 use change_feed::{Change, FeedRefusal, changes};
 use json_tree::{Millis, Place, Text, Version};
-use log_actions::{Action, Commit};
+use log_actions::{Action, Commit, MetaData, Protocol};
 use log_replay::{Mark, meta_in};
 use page_token::{Asked, Cursor, FeedCursor, cursor_of};
 use share_book::{FeedPart, PartFound, Spot};
@@ -219,7 +220,34 @@ fn page_end(
     }))
 }
 
-// Of the changes, and of the commit whose metaData holds at the last version.
+// The last protocol of a commit's actions.
+fn protocol_in(actions: &[Action]) -> Option<&Protocol>
+    ensures { option_map (λ p. p.now) result ≡ last_protocol actions.now }
+{
+    let mut last = None;
+    for action in actions {
+        if let Action::Protocol(protocol) = action {
+            last = Some(protocol);
+        }
+    }
+    last
+}
+
+// The protocol that holds at the last version of a range.
+fn held_protocol(feed: &FeedPart) -> Option<&Protocol>
+    ensures { option_map (λ p. p.now) result ≡ last_protocol feed.now.protocol }
+{
+    protocol_in(feed.protocol.get().actions())
+}
+
+// And the metaData.
+fn held_meta(feed: &FeedPart) -> Option<&MetaData>
+    ensures { option_map (λ m. m.now) result ≡ last_meta feed.now.meta }
+{
+    meta_in(feed.meta.get().actions())
+}
+
+// Of the changes of a range that is found.
 fn page_of_changes<'a>(
     alloc: Global,
     keys: &'a ReplyKeys,
@@ -227,19 +255,20 @@ fn page_of_changes<'a>(
     now: Millis,
     asked: &ChangesAsked<'_>,
     begin: &FeedBegin,
-    actions: &'a [Action],
+    feed: &'a FeedPart,
     changes: Vec<Change<'a>>,
 ) -> Result<Paged<'a>, Stop>
-    ensures { GivesPage keys.now result (page_of_changes keys.now access.entry now (query_in asked.now) (feed_start begin.now) actions.now changes.entry.items) }
+    ensures { GivesPage keys.now result (page_of_changes keys.now access.entry now (query_in asked.now) (feed_start begin.now) (last_protocol feed.now.protocol) (last_meta feed.now.meta) changes.entry.items) }
 {
     let count = changes.len();
     let place = begin.place.get();
     if (count as u64) < place {
         return Err(refuse(alloc, Refusal::TokenAhead));
     }
-    let Some(meta) = meta_in(actions) else {
+    let Some(meta) = held_meta(feed) else {
         return Err(refuse(alloc, Refusal::UnsupportedTable));
     };
+    let protocol = held_protocol(feed);
     let expires = expiry(keys, now)?;
     let next = place_behind(count, asked.max, place);
     let page = changes_cut(changes, asked.max, place)?;
@@ -251,7 +280,7 @@ fn page_of_changes<'a>(
     let end = page_end(alloc, &signing, asked, begin, &page, next)?;
     Ok(Paged {
         version: begin.to.get(),
-        lines: LinePlan::of(signing, meta, Content::Changes(page), end),
+        lines: PageLines::of(signing, protocol, meta, Content::Changes(page), end),
     })
 }
 
@@ -268,8 +297,7 @@ fn page_of_feed<'a>(
     ensures { GivesPage keys.now result (spec.page_of_feed keys.now access.entry now (query_in asked.now) (feed_start begin.now) feed.now) }
 {
     let changes = changes_in(alloc, feed)?;
-    let actions = feed.meta.get().actions();
-    page_of_changes(alloc, keys, access, now, asked, begin, actions, changes)
+    page_of_changes(alloc, keys, access, now, asked, begin, feed, changes)
 }
 
 // The first page of a range.

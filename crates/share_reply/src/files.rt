@@ -16,7 +16,7 @@ ghost use Rattle.share_reply.specs.Stops.{Gives, GivesPage};
 use crate::access::{Access, Signing, expiry};
 use crate::cut::{FilesCut, files_cut};
 use crate::keys::ReplyKeys;
-use crate::lines::{Content, LinePlan};
+use crate::lines::{Content, PageLines};
 use crate::numbers::{place_of, version_of};
 use crate::page::Paged;
 use crate::refused::Refused;
@@ -299,7 +299,7 @@ fn page_of_state<'a>(
     };
     let expires = expiry(keys, now)?;
     let snapshot = state.get();
-    let meta = snapshot.meta();
+    let (protocol, meta) = (snapshot.protocol(), snapshot.meta());
     let signing = Signing {
         keys,
         access,
@@ -308,7 +308,13 @@ fn page_of_state<'a>(
     let end = page_end(alloc, &signing, query, begin, &cut)?;
     Ok(Paged {
         version: begin.version.get(),
-        lines: LinePlan::of(signing, meta, Content::Files(cut.files), end),
+        lines: PageLines::of(
+            signing,
+            Some(protocol),
+            meta,
+            Content::Files(cut.files),
+            end,
+        ),
     })
 }
 
@@ -401,7 +407,7 @@ pub(crate) fn query_page<'a>(
     files_by(alloc, keys, access, now, query, &cursor, spot, found)
 }
 
-// The metaData of the version that is found, without files: the same whatever is shown of these.
+// The protocol and the metaData of the version that is found, without files: the same whatever is shown of these.
 pub(crate) fn metadata_page<'a>(
     alloc: Global,
     keys: &'a ReplyKeys,
@@ -417,9 +423,11 @@ pub(crate) fn metadata_page<'a>(
                 access,
                 expires: Millis::of_small(0),
             };
+            let snapshot = state.get();
+            let (protocol, meta) = (snapshot.protocol(), snapshot.meta());
             Ok(Paged {
                 version: *version,
-                lines: LinePlan::of(signing, state.get().meta(), Content::Nothing, None),
+                lines: PageLines::of(signing, Some(protocol), meta, Content::Nothing, None),
             })
         }
         PartFound::Refused(why) => Err(Stop::Refused(refusal_for(alloc, *why)?)),

@@ -1,6 +1,6 @@
 // Laws of replies. None of these functions does anything when it is called.
-ghost use Rattle.share_reply.specs.Chains.{ChainsAreWhole, FeedChainsAreWhole};
-ghost use Rattle.share_reply.specs.Laws.{EqualViewsAnswerAlike, HiddenFilesAreNotGiven, NothingBeforeFirst, RevokedGrantsGiveNothing, StaleTokensGiveNothing, UnboundTablesGiveNothing, UngrantedSharesAreAlike, UnseenTablesAreAlike};
+ghost use Rattle.share_reply.specs.Chains.{ChainsAreWhole, ChainsGiveActions, FeedChainsAreWhole};
+ghost use Rattle.share_reply.specs.Laws.{EqualViewsAnswerAlike, FormatsAgree, HiddenFilesAreNotGiven, NothingBeforeFirst, RevokedGrantsGiveNothing, StaleTokensGiveNothing, UnboundTablesGiveNothing, UngrantedSharesAreAlike, UnseenTablesAreAlike};
 
 /// A law: the pages of a chain, joined, are the files of the version that the first one was of that the predicate doesn't make false,
 /// each once and in order, each with the link and the expiry of its own page's moment, whatever is committed, granted or bound
@@ -9,12 +9,22 @@ pub fn chains_are_whole()
     ensures files { ChainsAreWhole }
     // So are those of a chain of changes: all changes of the range that the first one was of.
     ensures changes { FeedChainsAreWhole }
+    // In whichever format: the actions of a chain of files are exactly the adds of the version that the first page was of, and each page
+    // has the protocol and the metaData of that version.
+    ensures actions { ChainsGiveActions }
 {}
 
 /// A law: where two histories show a recipient the same, the same request at the same moment has the same answer in both, with the
 /// same links and tokens.
 pub fn equal_views_answer_alike()
     ensures { EqualViewsAnswerAlike }
+{}
+
+/// A law: both formats agree. A request has one answer in whichever format it asks; its replies in the two are the same refusal, or lines
+/// of one version, of which those in the parquet format are what stands there for those in the delta format. So all that is said of
+/// answers holds of both.
+pub fn formats_agree()
+    ensures { FormatsAgree }
 {}
 
 /// Laws of what isn't shared.

@@ -7,6 +7,7 @@ mod asking;
 mod cut;
 mod feeds;
 mod files;
+mod given;
 mod keys;
 mod law;
 mod lengths;
@@ -26,8 +27,8 @@ mod walk;
 pub use asking::ask_of;
 pub use keys::ReplyKeys;
 pub use law::{
-    chains_are_whole, equal_views_answer_alike, hidden_is_like_absent, parts_are_kept,
-    revoked_grants_give_nothing, unbound_tables_give_nothing,
+    chains_are_whole, equal_views_answer_alike, formats_agree, hidden_is_like_absent,
+    parts_are_kept, revoked_grants_give_nothing, unbound_tables_give_nothing,
 };
 pub use lines::LinePlan;
 pub use plan::{Plan, plan_of};

@@ -4,9 +4,11 @@ ghost use Rattle.page_token.specs.declared.cursor.ListKind.TheVariants as kind;
 ghost use Rattle.share_book.specs.Shown.{show, show_found};
 ghost use Rattle.share_book.specs.Views.{View};
 ghost use Rattle.share_request.specs.declared.asked.Request.TheVariants as request_is;
+ghost use Rattle.share_request.specs.declared.asked.ResponseFormat.{ResponseFormat as Format};
 ghost use Rattle.share_reply.specs.Answer.{NamesPage, Page, of};
 ghost use Rattle.share_reply.specs.Answer as answer;
 ghost use Rattle.share_reply.specs.Bodies.{reply_of};
+ghost use Rattle.share_reply.specs.Formats.{format_of};
 ghost use Rattle.share_reply.specs.Chains.{NextIsSpelt};
 ghost use Rattle.share_reply.specs.Lists as lists;
 ghost use Rattle.share_reply.specs.Listings.{as_names, as_share};
@@ -37,7 +39,7 @@ use page_token::ListKind;
 use query_body::QueryBody;
 use share_book::{Found, Names, Seen};
 use share_catalog::{CatalogName, TableName};
-use share_request::{ByLink, Request, RequestFault, TurnedAway, What};
+use share_request::{ByLink, Request, RequestFault, ResponseFormat, TurnedAway, What};
 use signed_link::parts_of;
 use std::alloc::{AllocError, Global};
 
@@ -52,8 +54,8 @@ pub enum Plan<'a> {
     Json(Text),
     /// The version of a table, and no body.
     Version(u64),
-    /// The lines of a version of a table.
-    Lines(u64, LinePlan<'a>),
+    /// The lines of a version of a table, in that format.
+    Lines(u64, ResponseFormat, LinePlan<'a>),
     /// The object of that name in the store, or the part of it that is asked for.
     File(Name, Option<Span>),
 }
@@ -67,7 +69,7 @@ fn refused<'a>(alloc: Global, refusal: Refusal) -> Plan<'a>
 // ---- the reply of what is given
 
 fn of_names<'a>(given: Result<Text, Stop>) -> Result<Plan<'a>, AllocError>
-    ensures { (keys : Keys) (names : Result NamesPage RefusedView) → Gives given (as_names keys names) → IfOk result (λ p. p ≡ reply_of keys (of answer.names names)) }
+    ensures { (keys : Keys) (f : Format) (names : Result NamesPage RefusedView) → Gives given (as_names keys names) → IfOk result (λ p. p ≡ reply_of keys f (of answer.names names)) }
 {
     match given {
         Ok(text) => Ok(Plan::Json(text)),
@@ -77,7 +79,7 @@ fn of_names<'a>(given: Result<Text, Stop>) -> Result<Plan<'a>, AllocError>
 }
 
 fn of_share<'a>(given: Result<Text, Stop>) -> Result<Plan<'a>, AllocError>
-    ensures { (keys : Keys) (share : Result (List ℕ) RefusedView) → Gives given (as_share share) → IfOk result (λ p. p ≡ reply_of keys (of answer.one_share share)) }
+    ensures { (keys : Keys) (f : Format) (share : Result (List ℕ) RefusedView) → Gives given (as_share share) → IfOk result (λ p. p ≡ reply_of keys f (of answer.one_share share)) }
 {
     match given {
         Ok(text) => Ok(Plan::Json(text)),
@@ -87,7 +89,7 @@ fn of_share<'a>(given: Result<Text, Stop>) -> Result<Plan<'a>, AllocError>
 }
 
 fn of_version<'a>(given: Result<u64, Stop>) -> Result<Plan<'a>, AllocError>
-    ensures { (keys : Keys) (version : Result ℕ RefusedView) → Gives given version → IfOk result (λ p. p ≡ reply_of keys (of answer.at_version version)) }
+    ensures { (keys : Keys) (f : Format) (version : Result ℕ RefusedView) → Gives given version → IfOk result (λ p. p ≡ reply_of keys f (of answer.at_version version)) }
 {
     match given {
         Ok(version) => Ok(Plan::Version(version)),
@@ -96,19 +98,25 @@ fn of_version<'a>(given: Result<u64, Stop>) -> Result<Plan<'a>, AllocError>
     }
 }
 
-fn of_page<'a>(given: Result<Paged<'a>, Stop>) -> Result<Plan<'a>, AllocError>
-    ensures reply { (keys : Keys) (page : Result Page RefusedView) → GivesPage keys given.entry page → IfOk result (λ p. p ≡ reply_of keys (of answer.page page)) }
+fn of_page<'a>(
+    given: Result<Paged<'a>, Stop>,
+    format: ResponseFormat,
+) -> Result<Plan<'a>, AllocError>
+    ensures reply { (keys : Keys) (page : Result Page RefusedView) → GivesPage keys given.entry page → IfOk result (λ p. p ≡ reply_of keys format (of answer.page page)) }
     ensures spelt { (keys : Keys) (page : Result Page RefusedView) → GivesPage keys given.entry page → IfOk result (λ _. NextIsSpelt keys (of answer.page page)) }
 {
     match given {
-        Ok(page) => Ok(Plan::Lines(page.version, page.lines)),
+        Ok(page) => {
+            let lines = LinePlan::of(page.lines, format);
+            Ok(Plan::Lines(page.version, format, lines))
+        }
         Err(Stop::Refused(refused)) => Ok(Plan::Refused(refused)),
         Err(Stop::NoMemory) => Err(AllocError),
     }
 }
 
 fn of_object<'a>(given: Result<Name, Stop>, span: Option<Span>) -> Result<Plan<'a>, AllocError>
-    ensures { (keys : Keys) (name : Result (List ℕ) RefusedView) → Gives given name → IfOk result (λ p. p ≡ reply_of keys (answer.of_object span name)) }
+    ensures { (keys : Keys) (f : Format) (name : Result (List ℕ) RefusedView) → Gives given name → IfOk result (λ p. p ≡ reply_of keys f (answer.of_object span name)) }
 {
     match given {
         Ok(name) => Ok(Plan::File(name, span)),
@@ -126,7 +134,7 @@ fn listing_plan<'a>(
     listing: Listing,
     found: &Found,
 ) -> Result<Plan<'a>, AllocError>
-    ensures { IfOk result (λ p. p ≡ reply_of keys.now (replies.of_names (λ seen. of answer.names (lists.names_page keys.now recipient.now seen listing.entry)) (show_found found.now))) }
+    ensures { (f : Format) → IfOk result (λ p. p ≡ reply_of keys.now f (replies.of_names (λ seen. of answer.names (lists.names_page keys.now recipient.now seen listing.entry)) (show_found found.now))) }
 {
     match found {
         Found::Names(names) => of_names(names_text(alloc, keys, recipient, names, &listing)),
@@ -135,7 +143,7 @@ fn listing_plan<'a>(
 }
 
 fn share_plan<'a>(alloc: Global, share: &CatalogName, found: &Found) -> Result<Plan<'a>, AllocError>
-    ensures { (keys : Keys) → IfOk result (λ p. p ≡ reply_of keys (replies.of_names (λ seen. of answer.one_share (lists.share_in seen share.now)) (show_found found.now))) }
+    ensures { (keys : Keys) (f : Format) → IfOk result (λ p. p ≡ reply_of keys f (replies.of_names (λ seen. of answer.one_share (lists.share_in seen share.now)) (show_found found.now))) }
 {
     match found {
         Found::Names(names) => of_share(one_share_text(alloc, names, share)),
@@ -151,7 +159,7 @@ fn version_plan<'a>(
     table: &TableName,
     found: &Found,
 ) -> Result<Plan<'a>, AllocError>
-    ensures { (keys : Keys) → IfOk result (λ p. p ≡ reply_of keys (replies.of_table recipient.now table.now (λ spot a part. of answer.at_version (files_spec.version_in part)) (show_found found.now))) }
+    ensures { (keys : Keys) (f : Format) → IfOk result (λ p. p ≡ reply_of keys f (replies.of_table recipient.now table.now (λ spot a part. of answer.at_version (files_spec.version_in part)) (show_found found.now))) }
 {
     match found {
         Found::Table(_, part) => of_version(files::version_in(alloc, part)),
@@ -163,16 +171,17 @@ fn metadata_plan<'a>(
     alloc: Global,
     keys: &'a ReplyKeys,
     recipient: &Text,
+    format: ResponseFormat,
     table: &'a TableName,
     found: &'a Found,
 ) -> Result<Plan<'a>, AllocError>
-    ensures reply { IfOk result (λ p. p ≡ reply_of keys.now (replies.of_table recipient.now table.now (λ spot a part. of answer.page (files_spec.metadata_page part)) (show_found found.now))) }
+    ensures reply { IfOk result (λ p. p ≡ reply_of keys.now format (replies.of_table recipient.now table.now (λ spot a part. of answer.page (files_spec.metadata_page part)) (show_found found.now))) }
     ensures spelt { IfOk result (λ _. NextIsSpelt keys.now (replies.of_table recipient.now table.now (λ spot a part. of answer.page (files_spec.metadata_page part)) (show_found found.now))) }
 {
     match found {
         Found::Table(spot, part) => {
             let access = Access::of(alloc, recipient, table, spot)?;
-            of_page(files::metadata_page(alloc, keys, access, part))
+            of_page(files::metadata_page(alloc, keys, access, part), format)
         }
         Found::Names(_) | Found::NoTable => Ok(refused(alloc, Refusal::NotFound)),
     }
@@ -185,15 +194,17 @@ fn query_plan<'a>(
     now: Millis,
     table: &'a TableName,
     query: &QueryBody,
+    format: ResponseFormat,
     found: &'a Found,
 ) -> Result<Plan<'a>, AllocError>
-    ensures reply { IfOk result (λ p. p ≡ reply_of keys.now (replies.of_table recipient.now table.now (λ spot a part. of answer.page (files_spec.query_page keys.now a now query.now part)) (show_found found.now))) }
+    ensures reply { IfOk result (λ p. p ≡ reply_of keys.now format (replies.of_table recipient.now table.now (λ spot a part. of answer.page (files_spec.query_page keys.now a now query.now part)) (show_found found.now))) }
     ensures spelt { IfOk result (λ _. NextIsSpelt keys.now (replies.of_table recipient.now table.now (λ spot a part. of answer.page (files_spec.query_page keys.now a now query.now part)) (show_found found.now))) }
 {
     match found {
         Found::Table(spot, part) => {
             let access = Access::of(alloc, recipient, table, spot)?;
-            of_page(files::query_page(alloc, keys, access, now, query, spot, part))
+            let page = files::query_page(alloc, keys, access, now, query, spot, part);
+            of_page(page, format)
         }
         Found::Names(_) | Found::NoTable => Ok(refused(alloc, Refusal::NotFound)),
     }
@@ -206,15 +217,17 @@ fn changes_plan<'a>(
     now: Millis,
     table: &'a TableName,
     asked: &ChangesAsked,
+    format: ResponseFormat,
     found: &'a Found,
 ) -> Result<Plan<'a>, AllocError>
-    ensures reply { IfOk result (λ p. p ≡ reply_of keys.now (replies.of_table recipient.now table.now (λ spot a part. of answer.page (feeds_spec.unrestricted_changes keys.now spot.only a now (record { from = asked.now.from; to = asked.now.to; max = asked.now.max; token = asked.now.token.now }) part)) (show_found found.now))) }
+    ensures reply { IfOk result (λ p. p ≡ reply_of keys.now format (replies.of_table recipient.now table.now (λ spot a part. of answer.page (feeds_spec.unrestricted_changes keys.now spot.only a now (record { from = asked.now.from; to = asked.now.to; max = asked.now.max; token = asked.now.token.now }) part)) (show_found found.now))) }
     ensures spelt { IfOk result (λ _. NextIsSpelt keys.now (replies.of_table recipient.now table.now (λ spot a part. of answer.page (feeds_spec.unrestricted_changes keys.now spot.only a now (record { from = asked.now.from; to = asked.now.to; max = asked.now.max; token = asked.now.token.now }) part)) (show_found found.now))) }
 {
     match found {
         Found::Table(spot, part) => {
             let access = Access::of(alloc, recipient, table, spot)?;
-            of_page(feeds::changes_page(alloc, keys, access, now, asked, spot, part))
+            let page = feeds::changes_page(alloc, keys, access, now, asked, spot, part);
+            of_page(page, format)
         }
         Found::Names(_) | Found::NoTable => Ok(refused(alloc, Refusal::NotFound)),
     }
@@ -227,10 +240,11 @@ fn what_plan<'a>(
     keys: &'a ReplyKeys,
     recipient: &Text,
     now: Millis,
+    format: ResponseFormat,
     what: &'a What,
     found: &'a Found,
 ) -> Result<Plan<'a>, AllocError>
-    ensures reply { IfOk result (λ p. p ≡ reply_of keys.now (replies.answer_what keys.now recipient.now now what.now (show_found found.now))) }
+    ensures reply { IfOk result (λ p. p ≡ reply_of keys.now format (replies.answer_what keys.now recipient.now now what.now (show_found found.now))) }
     ensures spelt { IfOk result (λ _. NextIsSpelt keys.now (replies.answer_what keys.now recipient.now now what.now (show_found found.now))) }
 {
     match what {
@@ -256,9 +270,9 @@ fn what_plan<'a>(
             listing_plan(alloc, keys, recipient, listing, found)
         }
         What::Version { table, .. } => version_plan(alloc, recipient, table, found),
-        What::Metadata { table, .. } => metadata_plan(alloc, keys, recipient, table, found),
+        What::Metadata { table, .. } => metadata_plan(alloc, keys, recipient, format, table, found),
         What::Query { table, body } => {
-            query_plan(alloc, keys, recipient, now, table, body, found)
+            query_plan(alloc, keys, recipient, now, table, body, format, found)
         }
         What::Changes {
             table,
@@ -273,7 +287,7 @@ fn what_plan<'a>(
                 max: *max,
                 token,
             };
-            changes_plan(alloc, keys, recipient, now, table, &asked, found)
+            changes_plan(alloc, keys, recipient, now, table, &asked, format, found)
         }
         What::Commit { .. } | What::Refresh { .. } | What::Edit { .. } => {
             Ok(refused(alloc, Refusal::NotFound))
@@ -286,14 +300,15 @@ fn asked_plan<'a>(
     keys: &'a ReplyKeys,
     recipient: &Text,
     now: Millis,
+    format: ResponseFormat,
     asked: &'a Result<What, RequestFault>,
     found: &'a Found,
 ) -> Result<Plan<'a>, AllocError>
-    ensures reply { IfOk result (λ p. p ≡ reply_of keys.now (replies.answer_asked keys.now recipient.now now asked.now (show_found found.now))) }
+    ensures reply { IfOk result (λ p. p ≡ reply_of keys.now format (replies.answer_asked keys.now recipient.now now asked.now (show_found found.now))) }
     ensures spelt { IfOk result (λ _. NextIsSpelt keys.now (replies.answer_asked keys.now recipient.now now asked.now (show_found found.now))) }
 {
     match asked {
-        Ok(what) => what_plan(alloc, keys, recipient, now, what, found),
+        Ok(what) => what_plan(alloc, keys, recipient, now, format, what, found),
         Err(fault) => Ok(Plan::Refused(Refused::of_fault(alloc, *fault)?)),
     }
 }
@@ -313,10 +328,11 @@ fn token_plan<'a>(
     alloc: Global,
     keys: &'a ReplyKeys,
     now: Millis,
+    format: ResponseFormat,
     asked: &'a Result<What, RequestFault>,
     seen: &'a Option<Seen>,
 ) -> Result<Plan<'a>, AllocError>
-    ensures reply { IfOk result (λ p. p ≡ reply_of keys.now (replies.answer_to keys.now now asked.now (option_map show seen.now))) }
+    ensures reply { IfOk result (λ p. p ≡ reply_of keys.now format (replies.answer_to keys.now now asked.now (option_map show seen.now))) }
     ensures spelt { IfOk result (λ _. NextIsSpelt keys.now (replies.answer_to keys.now now asked.now (option_map show seen.now))) }
 {
     let Some(seen) = seen else {
@@ -325,7 +341,15 @@ fn token_plan<'a>(
     if is_expired(seen.expires, now) {
         return Ok(refused(alloc, Refusal::Unauthenticated));
     }
-    asked_plan(alloc, keys, &seen.recipient, now, asked, &seen.found)
+    asked_plan(
+        alloc,
+        keys,
+        &seen.recipient,
+        now,
+        format,
+        asked,
+        &seen.found,
+    )
 }
 
 fn link_plan<'a>(
@@ -335,14 +359,14 @@ fn link_plan<'a>(
     by: &ByLink,
     seen: &Option<Seen>,
 ) -> Result<Plan<'a>, AllocError>
-    ensures { IfOk result (λ p. p ≡ reply_of keys.now (answer_from keys.now now (request_is.ByLink by.now) (option_map show seen.now))) }
+    ensures { (f : Format) → IfOk result (λ p. p ≡ reply_of keys.now f (answer_from keys.now now (request_is.ByLink by.now) (option_map show seen.now))) }
 {
     let parts = parts_of(alloc, &keys.link, by.target.as_str())?;
     of_object(linked_object(alloc, seen, now, &parts), by.span)
 }
 
 fn early_plan<'a>(alloc: Global, why: TurnedAway) -> Plan<'a>
-    ensures { (keys : Keys) → result ≡ reply_of keys (replies.answer_early why) }
+    ensures { (keys : Keys) (f : Format) → result ≡ reply_of keys f (replies.answer_early why) }
 {
     match why {
         TurnedAway::WrongMethod(allowed) => Plan::Only(allowed),
@@ -351,9 +375,9 @@ fn early_plan<'a>(alloc: Global, why: TurnedAway) -> Plan<'a>
     }
 }
 
-/// How a request is answered at a moment, by what is shown of what was seen for what it asks: of a table that is shared in part the
-/// files that its restriction shows, and no changes. The plan borrows the keys, the request and what was seen, and copies nothing of
-/// a table's files. The error is want of memory.
+/// How a request is answered at a moment, in the format that it asks for, by what is shown of what was seen for what it asks: of a table
+/// that is shared in part the files that its restriction shows, and no changes. The plan borrows the keys, the request and what was seen,
+/// and copies nothing of a table's files. The error is want of memory.
 pub fn plan_of<'a>(
     alloc: Global,
     keys: &'a ReplyKeys,
@@ -361,17 +385,24 @@ pub fn plan_of<'a>(
     now: Millis,
     seen: &'a Option<Seen>,
 ) -> Result<Plan<'a>, AllocError>
-    ensures reply { IfOk result (λ p. p ≡ reply_of keys.now (answer_from keys.now now request.now (option_map show seen.now))) }
+    ensures reply { IfOk result (λ p. p ≡ reply_of keys.now (format_of request.now) (answer_from keys.now now request.now (option_map show seen.now))) }
 
     // Where it is a page behind which another is left, there is a token of where that begins.
     ensures spelt { IfOk result (λ _. NextIsSpelt keys.now (answer_from keys.now now request.now (option_map show seen.now))) }
 
     // What is shown of what was seen is what a view shows for the request: then it is the answer by that view.
-    ensures view { (view : Option View) → option_map show seen.now ≡ seen_for keys.now request.now view → IfOk result (λ p. p ≡ reply_of keys.now (answered keys.now view now request.now)) }
+    ensures view { (view : Option View) → option_map show seen.now ≡ seen_for keys.now request.now view → IfOk result (λ p. p ≡ reply_of keys.now (format_of request.now) (answered keys.now view now request.now)) }
 {
     match request {
         Request::TurnedAway(why) => Ok(early_plan(alloc, *why)),
-        Request::ByToken(request) => token_plan(alloc, keys, now, &request.asked, seen),
+        Request::ByToken(request) => token_plan(
+            alloc,
+            keys,
+            now,
+            request.format,
+            &request.asked,
+            seen,
+        ),
         Request::ByLink(by) => link_plan(alloc, keys, now, by, seen),
     }
 }

@@ -14,6 +14,7 @@ use Rattle.signed_link.specs.Reading.{after}
 use Rattle.share_request.specs.Asked.{as_fault, what_at}
 use Rattle.share_request.specs.Asked as asked
 use Rattle.text_forms.specs.Numbers.{is_digits, number_in}
+use Rattle.share_request.specs.Capabilities.{format_in}
 use Rattle.share_request.specs.Bearers.{bearer_in}
 use Rattle.share_request.specs.Bodies.{edit_in, offer_in, refresh_in}
 use Rattle.share_request.specs.Faults.{or_bad, or_bad_body, parameter_word}
@@ -30,6 +31,7 @@ use Rattle.share_request.specs.declared.asked.Bound.TheVariants as bound
 use Rattle.share_request.specs.declared.asked.ListPage.{ListPage}
 use Rattle.share_request.specs.declared.asked.Request.{Request}
 use Rattle.share_request.specs.declared.asked.Request.TheVariants as request
+use Rattle.share_request.specs.declared.asked.ResponseFormat.{ResponseFormat}
 use Rattle.share_request.specs.declared.fault.TurnedAway.TheVariants as early
 use Rattle.share_request.specs.declared.asked.What.{What}
 use Rattle.share_request.specs.declared.asked.What.TheVariants as what
@@ -275,9 +277,9 @@ route_no_link (a ∷ share ∷ c ∷ schema ∷ e ∷ table ∷ g ∷ more ∷ s
 
 -- ---- requests
 
-bearer_is : (digest : Option (List ℕ)) (r : Route) (names : List (List ℕ)) (query : Option (List ℕ)) (body : List ℕ) → r ≢ route.File → IsInForm (with_bearer digest r names query body)
-bearer_is None r names query body differs = tt
-bearer_is (Some digest) r names query body differs = (differs, asked_by r names (pairs_or_none query) body (what_at r names (pairs_or_none query) body) refl)
+bearer_is : (digest : Option (List ℕ)) (r : Route) (format : ResponseFormat) (names : List (List ℕ)) (query : Option (List ℕ)) (body : List ℕ) → r ≢ route.File → IsInForm (with_bearer digest r format names query body)
+bearer_is None r format names query body differs = tt
+bearer_is (Some digest) r format names query body differs = (differs, asked_by r names (pairs_or_none query) body (what_at r names (pairs_or_none query) body) refl)
 
 if_in_form : (test : Bool) (a b : Request) → IsInForm a → IsInForm b → IsInForm (cond test a b)
 if_in_form true a b h k = h
@@ -287,7 +289,7 @@ route_is : (head : Head) (o : Option Route) (names : List (List ℕ)) (query : O
 route_is head None names query body differs = tt
 route_is head (Some r) names query body differs =
     if_in_form (has_method (route_row r).method head.method) _ _
-    (bearer_is (bearer_in head.fields) r names query body (λ e. differs (ap (λ x. Some x) e))) tt
+    (bearer_is (bearer_in head.fields) r (format_in head.fields) names query body (λ e. differs (ap (λ x. Some x) e))) tt
 
 -- HEAD is not GET, so it asks for no part
 no_part : (head : Head) → is_head head ≡ true → span_of head ≡ None

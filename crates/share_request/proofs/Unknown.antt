@@ -1,5 +1,5 @@
 -- What isn't known is passed over.
-use Rattle.std.proofs.Common.{◌≡◌, ◌≢◌, ℕ, ◌<◌, List, [], ◌∷◌, ◌++◌, length, map, filter, get_or, Bool, true, false, cond, eqb, All, Option, Some, None, Result, refl, ap, sym, ◌∙◌, append-nil, arith}
+use Rattle.std.proofs.Common.{◌≡◌, ◌≢◌, ℕ, ◌<◌, List, [], ◌∷◌, ◌++◌, length, map, filter, get_or, Bool, true, false, cond, eqb, All, Option, Some, None, refl, ap, sym, ◌∙◌, append-nil, arith}
 use Rattle.std.specs.Prelude.{bytes_eq, codes, option_and_then}
 use Rattle.std.proofs.lemmas.Bool.{false_from_ne_true}
 use Rattle.std.specs.List.{flat_map, join_with_byte}
@@ -18,6 +18,7 @@ use Rattle.json_tree.specs.Fields.{present}
 use Rattle.share_request.specs.Asked.{what_at}
 use Rattle.share_request.specs.Bearers.{bearer_in}
 use Rattle.share_request.specs.Bodies.{offer_of}
+use Rattle.share_request.specs.Capabilities.{format_in}
 use Rattle.share_request.specs.Laws.{with_target, UnknownFieldsPass, UnknownParametersPass, known_parameters, offer_fields}
 use Rattle.share_request.specs.Parameters.{first_value, pair_of, pairs_in, text_of}
 use Rattle.share_request.specs.Paths.{route_of, segments_in}
@@ -29,6 +30,7 @@ use Rattle.signed_link.specs.Reading.{after}
 use Rattle.signed_link.proofs.Cuts.{cut_again}
 use Rattle.share_request.specs.declared.asked.Request.{Request}
 use Rattle.share_request.specs.declared.asked.Request.TheVariants as request
+use Rattle.share_request.specs.declared.asked.ResponseFormat.{ResponseFormat}
 use Rattle.share_request.specs.declared.fault.TurnedAway.TheVariants as early
 use Rattle.share_request.specs.declared.parameter.QueryPair.{QueryPair}
 
@@ -132,18 +134,18 @@ what_same r names xs ys body same =
     what_by route.Edit names xs ys body e0 e1 e2 e3 e4 e5 e6 e7 e8 = refl
     what_by route.File names xs ys body e0 e1 e2 e3 e4 e5 e6 e7 e8 = refl
 
-bearer_same : (digest : Option (List ℕ)) (r : Route) (names : List (List ℕ)) (p q body : List ℕ) → SameValues (pairs_in p) (pairs_in q)
-    → with_bearer digest r names (Some p) body ≡ with_bearer digest r names (Some q) body
-bearer_same None r names p q body same = refl
-bearer_same (Some digest) r names p q body same =
-    ap (λ asked. request.ByToken (record { digest = digest; route = r; asked = asked })) (what_same r names (pairs_in p) (pairs_in q) body same)
+bearer_same : (digest : Option (List ℕ)) (r : Route) (format : ResponseFormat) (names : List (List ℕ)) (p q body : List ℕ) → SameValues (pairs_in p) (pairs_in q)
+    → with_bearer digest r format names (Some p) body ≡ with_bearer digest r format names (Some q) body
+bearer_same None r format names p q body same = refl
+bearer_same (Some digest) r format names p q body same =
+    ap (λ asked. request.ByToken (record { digest = digest; route = r; format = format; asked = asked })) (what_same r names (pairs_in p) (pairs_in q) body same)
 
 route_same : (head : Head) (s t : List ℕ) (o : Option Route) (names : List (List ℕ)) (p q body : List ℕ) → SameValues (pairs_in p) (pairs_in q)
     → by_route (with_target head s) o names (Some p) body ≡ by_route (with_target head t) o names (Some q) body
 route_same head s t None names p q body same = refl
 route_same head s t (Some r) names p q body same =
     ap (λ x. cond (has_method (route_row r).method head.method) x (turned_away (early.WrongMethod (route_row r).method)))
-    (bearer_same (bearer_in head.fields) r names p q body same)
+    (bearer_same (bearer_in head.fields) r (format_in head.fields) names p q body same)
 
 link_same : (head other : Head) (file query third : Option (List ℕ)) (x y : Request) → file ≡ None → x ≡ y → link_or head file query x ≡ link_or other file third y
 link_same head other None query third x y none same = same

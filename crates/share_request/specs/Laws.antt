@@ -1,7 +1,9 @@
 -- Laws of requests.
-use Rattle.std.specs.Prelude.{◌≡◌, ◌≢◌, ℕ, ◌<◌, List, [], ◌∷◌, ◌++◌, All, Option, Some, None, option_map, is_some, codes, IsTrue}
+use Rattle.std.specs.Prelude.{◌≡◌, ◌≢◌, ℕ, ◌<◌, List, [], ◌∷◌, ◌++◌, All, Option, Some, None, option_map, is_some, filter, codes, IsTrue}
 use Rattle.std.specs.List.{join_with_byte}
 use Rattle.case_table.specs.declared.routing.Method.TheVariants as method
+use Rattle.http_message.specs.Fields.{is_named}
+use Rattle.http_message.specs.Framing.{Pairs}
 use Rattle.http_message.specs.declared.head.Head.{Head}
 use Rattle.json_tree.specs.Options.{◌>>=◌}
 use Rattle.percent_encoding.specs.Percent.{percent_decode}
@@ -12,6 +14,7 @@ use Rattle.signed_link.specs.Link.{endpoint_path, IsLink}
 use Rattle.signed_link.specs.Reading.{after}
 use Rattle.signed_link.specs.declared.parts.LinkParts.{LinkParts}
 use Rattle.share_request.specs.Bodies.{offer_of}
+use Rattle.share_request.specs.Capabilities.{capability_parts, names_formats}
 use Rattle.share_request.specs.InForm.{IsInForm}
 use Rattle.share_request.specs.Parameters.{text_of}
 use Rattle.query_body.specs.Fields.{SameMembers, query_fields}
@@ -54,6 +57,24 @@ abbrev pub UnknownFieldsPass : Type 0
 UnknownFieldsPass =
     ((d e : Data) → is_some (as_object d) ≡ is_some (as_object e) → SameMembers query_fields d e → query_of_value d ≡ query_of_value e)
     × ((d e : Data) → SameMembers offer_fields d e → offer_of d ≡ offer_of e)
+
+-- the fields that are read by their names alone: all of that name, in order
+abbrev pub known_fields : List (List ℕ)
+known_fields = codes "authorization" ∷ codes "range" ∷ codes "if-range" ∷ []
+
+-- the fields of these names are the same, and so are the parts that name formats
+pub record SameFields (fields others : Pairs) : Type 0 where
+  pub named : All (λ name. filter (is_named name) fields ≡ filter (is_named name) others) known_fields
+  pub formats : filter names_formats (capability_parts fields) ≡ filter names_formats (capability_parts others)
+
+abbrev pub with_fields : Head → Pairs → Head
+with_fields head fields = record head { fields = fields }
+
+-- heads that differ in other fields, or in other parts of `delta-sharing-capabilities`, ask the same
+abbrev pub OtherFieldsPass : Type 0
+OtherFieldsPass =
+    (head : Head) (fields others : Pairs) (body : List ℕ)
+    → SameFields fields others → request_in (with_fields head fields) body ≡ request_in (with_fields head others) body
 
 -- ---- links
 

@@ -10,11 +10,13 @@ use Rattle.http_message.specs.declared.head.Head.{Head}
 use Rattle.signed_link.specs.Reading.{after}
 use Rattle.share_request.specs.Asked.{what_at}
 use Rattle.share_request.specs.Bearers.{bearer_in}
+use Rattle.share_request.specs.Capabilities.{format_in}
 use Rattle.share_request.specs.Parameters.{pairs_in}
 use Rattle.share_request.specs.Paths.{route_of, segments_in}
 use Rattle.share_request.specs.Targets.{below_endpoint, link_target, split_query}
 use Rattle.share_request.specs.declared.asked.Request.{Request}
 use Rattle.share_request.specs.declared.asked.Request.TheVariants as request
+use Rattle.share_request.specs.declared.asked.ResponseFormat.{ResponseFormat}
 use Rattle.share_request.specs.declared.fault.TurnedAway.{TurnedAway}
 use Rattle.share_request.specs.declared.fault.TurnedAway.TheVariants as early
 use Rattle.share_request.specs.declared.parameter.QueryPair.{QueryPair}
@@ -35,18 +37,18 @@ abbrev pub pairs_or_none : Option (List ℕ) → List QueryPair
 pairs_or_none None = []
 pairs_or_none (Some query) = pairs_in query
 
-abbrev pub by_token : List ℕ → Route → List (List ℕ) → Option (List ℕ) → List ℕ → Request
-by_token digest route segments query body =
-    request.ByToken (record { digest = digest; route = route; asked = what_at route segments (pairs_or_none query) body })
+abbrev pub by_token : List ℕ → Route → ResponseFormat → List (List ℕ) → Option (List ℕ) → List ℕ → Request
+by_token digest route format segments query body =
+    request.ByToken (record { digest = digest; route = route; format = format; asked = what_at route segments (pairs_or_none query) body })
 
-abbrev pub with_bearer : Option (List ℕ) → Route → List (List ℕ) → Option (List ℕ) → List ℕ → Request
-with_bearer None route segments query body = turned_away early.NoBearer
-with_bearer (Some digest) route segments query body = by_token digest route segments query body
+abbrev pub with_bearer : Option (List ℕ) → Route → ResponseFormat → List (List ℕ) → Option (List ℕ) → List ℕ → Request
+with_bearer None route format segments query body = turned_away early.NoBearer
+with_bearer (Some digest) route format segments query body = by_token digest route format segments query body
 
 abbrev pub at_route : Head → Route → List (List ℕ) → Option (List ℕ) → List ℕ → Request
 at_route head route segments query body =
     if has_method (route_row route).method head.method
-    then with_bearer (bearer_in head.fields) route segments query body
+    then with_bearer (bearer_in head.fields) route (format_in head.fields) segments query body
     else turned_away (early.WrongMethod (route_row route).method)
 
 abbrev pub by_route : Head → Option Route → List (List ℕ) → Option (List ℕ) → List ℕ → Request

@@ -103,6 +103,15 @@ pub struct Caller {
     pub route: Route,
 }
 
+/// The format in which the lines of a table are asked for (Delta Sharing PROTOCOL.md, "Delta Sharing Capabilities Header").
+#[derive(Clone, Copy, Debug, PartialEq, Eq)]
+pub enum ResponseFormat {
+    /// The protocol's own lines.
+    Parquet,
+    /// The actions of the table's log, each file's link in its path's place.
+    Delta,
+}
+
 /// A request by bearer token.
 #[derive(Drop)]
 pub struct ByToken {
@@ -110,6 +119,8 @@ pub struct ByToken {
     pub digest: [u8; 32],
     /// The route, which says whose token is wanted. It isn't [`Route::File`].
     pub route: Route,
+    /// The format of lines. What is asked for, and what is refused, don't depend on it; answers without lines have no format.
+    pub format: ResponseFormat,
     /// What is asked for, by that route; or why the request is refused, once it is known who asks.
     pub asked: Result<What, RequestFault>,
 }

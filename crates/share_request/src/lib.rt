@@ -6,6 +6,7 @@ mod asked;
 mod bearer;
 mod body;
 mod caller;
+mod capability;
 mod fault;
 mod law;
 mod parameter;
@@ -13,7 +14,7 @@ mod path;
 mod request;
 mod target;
 
-pub use asked::{Bound, ByLink, ByToken, Caller, ListPage, Request, What};
+pub use asked::{Bound, ByLink, ByToken, Caller, ListPage, Request, ResponseFormat, What};
 pub use bearer::bearer_of;
 pub use caller::caller_of;
 pub use fault::{Parameter, RequestFault, TurnedAway};

@@ -5,9 +5,10 @@ ghost use Rattle.share_request.specs.Asked as asked;
 ghost use Rattle.share_request.specs.Stops.{Gives};
 ghost use Rattle.share_request.specs.Targets.{below_endpoint};
 
-use crate::asked::{ByLink, ByToken, Request, What};
+use crate::asked::{ByLink, ByToken, Request, ResponseFormat, What};
 use crate::bearer::bearer_of;
 use crate::body::{edit_in, offer_in, refresh_in};
+use crate::capability::format_in;
 use crate::fault::{Parameter, RequestFault, Stop, TurnedAway};
 use crate::parameter::{
     QueryPair, at_in, from_in, max_files_in, moment_at, page_of, pairs_of, to_in, token_of,
@@ -194,17 +195,19 @@ fn by_token(
     alloc: Global,
     digest: [u8; 32],
     route: Route,
+    format: ResponseFormat,
     names: &[Text],
     query: Option<&str>,
     body: &[u8],
 ) -> Result<Request, AllocError>
-    ensures { IfOk result (λ r. r ≡ spec.by_token digest route names.now (option_map (λ q. q.now) query.entry) body.now) }
+    ensures { IfOk result (λ r. r ≡ spec.by_token digest route format names.now (option_map (λ q. q.now) query.entry) body.now) }
 {
     let pairs = pairs_or_none(alloc, query)?;
     let asked = asked_at(alloc, route, names, &pairs, body)?;
     Ok(Request::ByToken(ByToken {
         digest,
         route,
+        format,
         asked,
     }))
 }
@@ -245,7 +248,10 @@ fn at_route(
         return Ok(turned_away(TurnedAway::WrongMethod(route.method())));
     }
     match bearer_of(head) {
-        Some(digest) => by_token(alloc, digest, route, names, query, body),
+        Some(digest) => {
+            let format = format_in(&head.fields);
+            by_token(alloc, digest, route, format, names, query, body)
+        }
         None => Ok(turned_away(TurnedAway::NoBearer)),
     }
 }
@@ -312,6 +318,10 @@ fn below_in(
 /// fields of bodies and the bodies of GET requests are passed over. A link's target is answered in the one spelling of links:
 /// unescaped and escaped again, as URL libraries and proxies rewrite escapes, but for its query. Links alone are asked for by HEAD
 /// too, and in parts: see [`span_of`] for which Range fields count.
+///
+/// Lines are asked for in the delta format exactly where, of the parts between the `;` of all `delta-sharing-capabilities` fields, the
+/// first one named `responseformat` lists `delta`, and not `parquet`, behind its `=`; case, spaces and tabs around the words say nothing,
+/// and values that aren't UTF-8 are passed over.
 ///
 /// The time is linear in the bytes, and no body is copied. The error is want of memory.
 pub fn request_of(alloc: Global, head: &Head, body: &[u8]) -> Result<Request, AllocError>

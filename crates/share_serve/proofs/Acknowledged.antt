@@ -1,5 +1,5 @@
 -- What the turns of a session stored.
-use Rattle.std.proofs.Common.{◌≡◌, ℕ, ◌+◌, Bool, ◌&&◌, cond, List, [], ◌∷◌, Some, Result, Ok, Err, refl, sym, ap, ◌∙◌, arith}
+use Rattle.std.proofs.Common.{◌≡◌, ℕ, ◌+◌, ◌&&◌, cond, [], ◌∷◌, Some, Result, Ok, Err, refl, sym, ap, ◌∙◌, arith}
 use Rattle.std.specs.Prelude.{◌==◌}
 use Rattle.std.proofs.lemmas.List.Sums.{sum_by-cons}
 use Rattle.response_text.specs.Statuses.{code}
@@ -66,7 +66,7 @@ none_stored (plan.Refused why) r old new is = ap (λ (s : Shelf). s.stored) is.1
 none_stored (plan.Only m) r old new is = ap (λ (s : Shelf). s.stored) is.1
 none_stored (plan.Json text) r old new is = ap (λ (s : Shelf). s.stored) is.1
 none_stored (plan.Version v) r old new is = ap (λ (s : Shelf). s.stored) is.1
-none_stored (plan.Lines v lines) r old new is = ap (λ (s : Shelf). s.stored) is.1
+none_stored (plan.Lines v f lines) r old new is = ap (λ (s : Shelf). s.stored) is.1
 
 -- what one turn stored
 one_stored : (server : Server) (asked : Request) (b : By) (moment : ℕ) (r : Response) (old new : Hold) → AnswersBy server asked b moment r old new

@@ -1,5 +1,5 @@
 -- What the turns of a session and its end added stands.
-use Rattle.std.proofs.Common.{◌≡◌, ⊎_elim, ℕ, List, [], ◌∷◌, Option, sym, ap, subst}
+use Rattle.std.proofs.Common.{◌≡◌, ⊎_elim, ℕ, List, [], ◌∷◌, sym, ap, subst}
 use Rattle.edge_core.specs.Objects.{Grows}
 use Rattle.edge_core.proofs.Growth.{Grows-itself, Grows-on}
 use mathlib.Core.List.{IsPrefix}
@@ -11,7 +11,7 @@ use Rattle.share_serve.proofs.Basics.{prefix_self, prefix_trans}
 use Rattle.share_serve.specs.Callers.{By, by_request}
 use Rattle.share_serve.specs.Callers as by
 use Rattle.share_serve.specs.Laws.{request_of}
-use Rattle.share_serve.specs.Sessions.{Ends, IsSession, RefusesInPart, RespondsInPart, WantsMemory}
+use Rattle.share_serve.specs.Sessions.{Ends, RefusesInPart, RespondsInPart, WantsMemory}
 use Rattle.share_serve.specs.Standing.{HoldsAdded, WhatIsAddedStands}
 use Rattle.share_serve.specs.Turns.{AnswersBy, Grew, Hold, LacksBy, Responds, Runs, Side, State, Turn}
 use Rattle.share_serve.specs.declared.response.Response.{Response}

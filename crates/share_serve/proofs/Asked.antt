@@ -57,7 +57,7 @@ known b x g e = ap (λ (c : Bool). of g (where_all ((not c, Unauthenticated) ∷
 
 -- the answer to a recipient, of what is found in its view
 pub asked_is : (a : Asking) (asked : Result What RequestFault)
-    → answered_at a.keys a.point a.now (request.ByToken (record { digest = a.digest; route = a.route; asked = asked })) ≡ answer_asked a.keys a.recipient a.now asked (found_in found_of (view_at a.point a.recipient a.credential) (want_or_names a.keys asked))
+    → answered_at a.keys a.point a.now (request.ByToken (record { digest = a.digest; route = a.route; format = a.format; asked = asked })) ≡ answer_asked a.keys a.recipient a.now asked (found_in found_of (view_at a.point a.recipient a.credential) (want_or_names a.keys asked))
 asked_is a asked =
     ap (λ (o : Option View). answer_to a.keys a.now asked (look_of o (want_or_names a.keys asked))) (view_is a)
     ∙ known (is_expired a.credential.expires a.now) (found_in found_of (view_at a.point a.recipient a.credential) (want_or_names a.keys asked)) (answer_asked a.keys a.recipient a.now asked)

@@ -15,15 +15,15 @@ use Rattle.file_ranges.specs.declared.span.Span.{Span}
 use Rattle.response_text.specs.declared.head.ContentType.TheVariants as content
 use Rattle.response_text.specs.declared.status.Status.{Status}
 use Rattle.response_text.specs.declared.status.Status.TheVariants as status
-use Rattle.share_lines.specs.Printing.{body_text}
-use Rattle.share_lines.specs.declared.kinds.Line.{Line}
 use Rattle.share_reply.specs.Answer.{Answer}
 use Rattle.share_reply.specs.Bodies.{reply_of}
+use Rattle.share_reply.specs.Formats.{body_of}
 use Rattle.share_reply.specs.Chains.{NextIsSpelt}
 use Rattle.share_reply.specs.Refusing.{plain}
 use Rattle.share_reply.specs.declared.keys.ReplyKeys.{ReplyKeys}
 use Rattle.share_reply.specs.declared.plan.Plan.{Plan}
 use Rattle.share_reply.specs.declared.plan.Plan.TheVariants as plan
+use Rattle.share_request.specs.declared.asked.ResponseFormat.{ResponseFormat}
 use Rattle.share_serve.specs.Responses.{body_sent, bytes_response, file_response, lines_response, object_response, out_response, picked_response, refusal_response, response_head, response_text}
 use Rattle.share_serve.specs.Sends.{BodySent, CopySent, FileSent, HasSize, IsInPart, IsSent, IsWritten, PartSent, WholeSent, Writes, delivered_of}
 use Rattle.share_serve.specs.Turns.{IsObject, ObjectIs, OnlyLooks, ReplyIs, Shelf}
@@ -58,11 +58,11 @@ writes_whole end d w w' P N (Ok r) s f g = inr (r, f r refl, s)
 writes_whole end d w w' P N (Err e) s f g = inl (s.0, g e refl, s.1)
 
 -- the lines of a reply, written
-pub lines_written : (s : Sent) (end : Delivered) → end ≡ delivered_of s → (d : Delivery) (v : ℕ) (lines : List Line) (p : Plan) → p ≡ plan.Lines v lines → (at : Shelf) (w w' : Option (List ℕ)) → IsSent s (response_text d (lines_response v (body_text lines))) w w'
+pub lines_written : (s : Sent) (end : Delivered) → end ≡ delivered_of s → (d : Delivery) (v : ℕ) (f : ResponseFormat) (lines : List (List ℕ)) (p : Plan) → p ≡ plan.Lines v f lines → (at : Shelf) (w w' : Option (List ℕ)) → IsSent s (response_text d (lines_response f v (body_of lines))) w w'
     → Writes end d (λ r. ReplyIs p r at at) (at ≡ at) w w'
-lines_written s end made d v lines p is at w w' sent =
-    let r = lines_response v (body_text lines) in
-    let first : Writes (delivered_of s) d (λ r. ReplyIs (plan.Lines v lines) r at at) (at ≡ at) w w' = inr (r, (refl, refl), written_of s d r w w' sent) in
+lines_written s end made d v f lines p is at w w' sent =
+    let r = lines_response f v (body_of lines) in
+    let first : Writes (delivered_of s) d (λ r. ReplyIs (plan.Lines v f lines) r at at) (at ≡ at) w w' = inr (r, (refl, refl), written_of s d r w w' sent) in
     let second : Writes (delivered_of s) d (λ r. ReplyIs p r at at) (at ≡ at) w w' = subst (λ (z : Plan). Writes (delivered_of s) d (λ r. ReplyIs z r at at) (at ≡ at) w w') (sym is) first in
     subst (λ (z : Delivered). Writes z d (λ r. ReplyIs p r at at) (at ≡ at) w w') (sym made) second
 
@@ -195,7 +195,7 @@ module _ (size last : ℕ) (end : last ≡ size - 1) where
   no_range e = none_by (nat_le 0 last && nat_lt last size) refl e
 
 -- the reply of an answer, with a token of where the next page begins
-pub answer_written : (keys : ReplyKeys) (end : Delivered) (d : Delivery) (p : Plan) (a : Answer) (before after : Shelf) (w w' : Option (List ℕ)) → p ≡ reply_of keys a → NextIsSpelt keys a
-    → Writes end d (λ r. ReplyIs p r before after) (after ≡ before) w w' → Writes end d (λ r. ReplyIs (reply_of keys a) r before after × NextIsSpelt keys a) (after ≡ before) w w'
-answer_written keys end d p a before after w w' is spelt (inl none) = inl none
-answer_written keys end d p a before after w w' is spelt (inr (r, reply, written)) = inr (r, (subst (λ (z : Plan). ReplyIs z r before after) is reply, spelt), written)
+pub answer_written : (keys : ReplyKeys) (f : ResponseFormat) (end : Delivered) (d : Delivery) (p : Plan) (a : Answer) (before after : Shelf) (w w' : Option (List ℕ)) → p ≡ reply_of keys f a → NextIsSpelt keys a
+    → Writes end d (λ r. ReplyIs p r before after) (after ≡ before) w w' → Writes end d (λ r. ReplyIs (reply_of keys f a) r before after × NextIsSpelt keys a) (after ≡ before) w w'
+answer_written keys f end d p a before after w w' is spelt (inl none) = inl none
+answer_written keys f end d p a before after w w' is spelt (inr (r, reply, written)) = inr (r, (subst (λ (z : Plan). ReplyIs z r before after) is reply, spelt), written)

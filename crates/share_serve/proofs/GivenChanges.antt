@@ -8,7 +8,8 @@ use Rattle.change_feed.specs.Feed.{changes_between, feed_of, first_off, is_on, u
 use Rattle.change_feed.proofs.RangeLemmas.{ranged_feed}
 use Rattle.log_actions.specs.Paths.{name_under}
 use Rattle.log_actions.specs.declared.actions.MetaData.{MetaData}
-use Rattle.log_replay.specs.Reconciliation.{last_meta, meta_at}
+use Rattle.log_actions.specs.declared.actions.Protocol.{Protocol}
+use Rattle.log_replay.specs.Reconciliation.{last_meta, last_protocol, meta_at}
 use Rattle.log_replay.specs.Times.{has_feed}
 use Rattle.log_replay.specs.declared.times.Unresolved.{Unresolved}
 use Rattle.page_token.specs.declared.cursor.Cursor.{Cursor}
@@ -37,7 +38,7 @@ use Rattle.file_ranges.specs.declared.span.Span.{Span}
 use Rattle.share_reply.specs.Answer.{Answer, of, of_object, page, refused}
 use Rattle.share_reply.specs.Asking.{ask_by, asked_at, feed_by as part_by, feed_part, first_bound, last_bound}
 use Rattle.share_reply.specs.Feeds as feeds
-use Rattle.share_reply.specs.Feeds.{ChangesQuery, FeedStart, agrees, feed_from, feed_page, feed_with, first_start, later_feed, or_off, or_unsupported, page_of_feed, start_at, unrestricted_changes}
+use Rattle.share_reply.specs.Feeds.{ChangesQuery, FeedStart, agrees, feed_from, feed_page, feed_with, first_start, later_feed, or_off, or_unsupported, page_of_feed, start_at, told_protocol, unrestricted_changes}
 use Rattle.share_reply.specs.Links.{linked_object, object_in, object_or}
 use Rattle.share_reply.specs.Refusing.{plain, where_all}
 use Rattle.share_reply.specs.Replies.{answer_what, answered_at, seen_in, view_asked}
@@ -88,13 +89,17 @@ meta_is log from to changes whole has =
     let m = turned_on (meta_at log.commits to) (ap (λ version. not (is_on log.commits version)) (sym last) ∙ on) in
     (m.0, meta_told log from to m.0 whole has.kept m.1)
 
+-- the protocol that is told of the range
+abbrev protocol_in : Log → ℕ → ℕ → Protocol
+protocol_in log from to = told_protocol (last_protocol (parts.feed_of log from to).protocol)
+
 page_is : (keys : ReplyKeys) (x : TableAccess) (now : ℕ) (q : ChangesQuery) (s : FeedStart) (log : Log) (from to : ℕ) (changes : List ChangedFile) (meta : MetaData) → IsWhole log → HasFeed log from to changes → last_meta (parts.feed_of log from to).meta ≡ Some meta → s.place ≤ length changes
-    → page_of_feed keys x now q s (parts.feed_of log from to) ≡ Ok (feed_page keys x now q s meta changes)
+    → page_of_feed keys x now q s (parts.feed_of log from to) ≡ Ok (feed_page keys x now q s (protocol_in log from to) meta changes)
 page_is keys x now q s log from to changes meta whole has is_meta within =
     let test : nat_le s.place (length changes) ≡ true = grind (arith, nat_tests, within) in
-    ap (feeds.with_changes keys x now q s (last_meta (parts.feed_of log from to).meta)) (ranged_is log from to changes whole has)
-    ∙ passes (nat_le s.place (length changes)) TokenAhead [] (feeds.with_meta keys x now q s changes (or_unsupported (last_meta (parts.feed_of log from to).meta))) test
-    ∙ ap (λ (o : Option MetaData). feeds.with_meta keys x now q s changes (or_unsupported o)) is_meta
+    ap (feeds.with_changes keys x now q s (protocol_in log from to) (last_meta (parts.feed_of log from to).meta)) (ranged_is log from to changes whole has)
+    ∙ passes (nat_le s.place (length changes)) TokenAhead [] (feeds.with_meta keys x now q s (protocol_in log from to) changes (or_unsupported (last_meta (parts.feed_of log from to).meta))) test
+    ∙ ap (λ (o : Option MetaData). feeds.with_meta keys x now q s (protocol_in log from to) changes (or_unsupported o)) is_meta
 
 -- what a query of changes is answered of the table
 changes_are : (a : Asking) (name : TableName) (t : Shares a.point a.recipient name) (q : ChangesQuery)
@@ -137,7 +142,7 @@ first_given a name t q from to changes log is none only history le means_from me
     let start : FeedStart = first_start q (parts.feed_of log from to) in
     let whole = log_whole a name t log is in
     let meta = meta_is log from to changes whole has in
-    page_given a (changes_asked name q) (feed_page a.keys (mine a name t) a.now q start meta.0 changes) (
+    page_given a (changes_asked name q) (feed_page a.keys (mine a name t) a.now q start (protocol_in log from to) meta.0 changes) (
     changes_whole a name t q only
     ∙ ap (λ (o : Option (List ℕ)). of page (feed_with a.keys (mine a name t) a.now q o (part_at a name t (feed_part a.keys q.from q.to o)))) none
     ∙ ap (λ (l : Log). of page (feed_from a.keys (mine a name t) a.now q (first_start q) (shown_of a name t.binding (part.Feed (first_bound (asked_at q.from)) (last_bound (asked_at q.to))) l))) (sym is)
@@ -163,7 +168,7 @@ later_given a name t q text c has only is =
     let whole = whole_at a.point t.binding.location in
     let feed : PartFound = part_found.Feed (parts.feed_of log c.from c.to) in
     let meta = meta_is log c.from c.to is.changes whole is.feed in
-    page_given a (changes_asked name q) (feed_page a.keys (mine a name t) a.now q (start_at c) meta.0 is.changes) (
+    page_given a (changes_asked name q) (feed_page a.keys (mine a name t) a.now q (start_at c) (protocol_in log c.from c.to) meta.0 is.changes) (
     changes_whole a name t q only
     ∙ ap (λ (o : Option (List ℕ)). of page (feed_with a.keys (mine a name t) a.now q o (part_at a name t (feed_part a.keys q.from q.to o)))) has
     ∙ ap (λ (o : Option Cursor). of page (feeds.feed_by a.keys (mine a name t) a.now q o (part_at a name t (part_by o)))) is.is_cursor

@@ -118,13 +118,13 @@ names_given : (a : Asking) (w : What) (l : Listing) → answered_at a.keys a.poi
 names_given a w l answered there is =
     let p = page_of a (seen_by a) l there is in
     let so : answered_at a.keys a.point a.now (request_for a w) ≡ names p.0 = answered ∙ ap (of names) p.1 in
-    (json_response _, ap (λ (x : Answer). response_of (reply_of a.keys x)) so, refl)
+    (json_response _, ap (λ (x : Answer). response_of (reply_of a.keys a.format x)) so, refl)
 
 share_given : (a : Asking) (share : List ℕ) → IsGranted a.point a.recipient share → IsGiven a (what.GetShare share) None
 share_given a share is =
     let so : answered_at a.keys a.point a.now (request_for a (what.GetShare share)) ≡ one_share share =
     answered_is a (what.GetShare share) ∙ ap (of one_share) (passes (has_share (seen_by a) share) NotFound [] (Ok share) (share_listed a.point a.recipient a.credential share is)) in
-    (json_response _, ap (λ (x : Answer). response_of (reply_of a.keys x)) so, refl)
+    (json_response _, ap (λ (x : Answer). response_of (reply_of a.keys a.format x)) so, refl)
 
 pub names_are_given : NamesAreGiven
 names_are_given = record {

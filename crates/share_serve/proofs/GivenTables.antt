@@ -23,14 +23,14 @@ use Rattle.share_catalog.specs.Views.{spot_with}
 use Rattle.share_catalog.specs.declared.edit.Binding.{Binding}
 use Rattle.share_catalog.specs.declared.table_name.TableName.{TableName}
 use Rattle.share_catalog.proofs.KeyTests.{bytes_refl}
-use Rattle.share_lines.specs.Printing.{body_text}
 use Rattle.share_request.specs.declared.asked.What.{What}
 use Rattle.share_request.specs.declared.asked.What.TheVariants as what
 use Rattle.query_body.specs.declared.query.QueryBody.{QueryBody}
 use Rattle.share_reply.specs.Access.{access, is_same_edition, is_same_table}
 use Rattle.share_reply.specs.Answer.{Answer, Page, at_version, of, page}
 use Rattle.share_reply.specs.Asking.{asked_at, asked_by, files_by as part_by, files_part, from_bound, last_bound}
-use Rattle.share_reply.specs.Bodies.{page_lines, reply_of}
+use Rattle.share_reply.specs.Bodies.{page_texts, reply_of}
+use Rattle.share_reply.specs.Formats.{body_of}
 use Rattle.share_reply.specs.Files.{FilesStart, agrees, files_by, files_from, files_page, files_with, first_start, later_files, metadata_page, start_at, version_in}
 use Rattle.share_reply.specs.Refusing.{Refused, where_all}
 use Rattle.share_reply.specs.Replies.{answer_what, answered_at}
@@ -42,7 +42,7 @@ use Rattle.share_serve.proofs.Meant.{files_are, head_is, pinned_files_are, whole
 -- ---- responses of answers
 
 pub page_given : (a : Asking) (w : What) (p : Page) → answered_at a.keys a.point a.now (request_for a w) ≡ page p → IsGiven a w (Some p.version)
-page_given a w p so = (lines_response p.version (body_text (page_lines a.keys p)), ap (λ (x : Answer). response_of (reply_of a.keys x)) so, refl)
+page_given a w p so = (lines_response a.format p.version (body_of (page_texts a.keys a.format p)), ap (λ (x : Answer). response_of (reply_of a.keys a.format x)) so, refl)
 
 -- to whom a table is given
 abbrev pub mine : (a : Asking) (name : TableName) → Shares a.point a.recipient name → TableAccess
@@ -79,7 +79,7 @@ versions_are_given a name t from version tells =
     answered_is a w
     ∙ ap (λ (f : Found). answer_what a.keys a.recipient a.now w f) (table_is a.point a.recipient a.credential name (part.Head (from_bound from)) t)
     ∙ ap (λ (x : PartFound). of at_version (version_in x)) head in
-    (version_response version, ap (λ (x : Answer). response_of (reply_of a.keys x)) so, refl)
+    (version_response version, ap (λ (x : Answer). response_of (reply_of a.keys a.format x)) so, refl)
 
 pub metadata_is_given : MetadataIsGiven
 metadata_is_given a name t at version state log is tells made =

@@ -10,6 +10,7 @@ use Rattle.file_ranges.specs.declared.span.Span.{Span}
 use Rattle.file_ranges.specs.declared.span.Span.TheVariants as span_is
 use Rattle.share_reply.specs.Answer.{Answer, object}
 use Rattle.share_reply.specs.Bodies.{reply_of}
+use Rattle.share_reply.specs.Formats.{format_of}
 use Rattle.share_reply.specs.Replies.{answered_at}
 use Rattle.share_reply.specs.declared.plan.Plan.{Plan}
 use Rattle.share_reply.specs.declared.plan.Plan.TheVariants as plan
@@ -32,20 +33,20 @@ reply_given (plan.Refused why) x r old new is e = same_some x r (sym is.0 ∙ e)
 reply_given (plan.Only m) x r old new is e = same_some x r (sym is.0 ∙ e)
 reply_given (plan.Json text) x r old new is e = same_some x r (sym is.0 ∙ e)
 reply_given (plan.Version v) x r old new is e = same_some x r (sym is.0 ∙ e)
-reply_given (plan.Lines v lines) x r old new is e = same_some x r (sym is.0 ∙ e)
+reply_given (plan.Lines v f lines) x r old new is e = same_some x r (sym is.0 ∙ e)
 reply_given (plan.File name span) x r old new is e = absurd cc
 
 pub turns_give : TurnsGiveTheDefined
 turns_give server old new t r serves view is =
-    reply_given (reply_of server.keys (answer_at server t)) t.response r old.side.hold.shelf new.side.hold.shelf
+    reply_given (reply_of server.keys (format_of (request_of t)) (answer_at server t)) t.response r old.side.hold.shelf new.side.hold.shelf
     (turn_reply server old t new view serves.responds.point serves.responds.answers) is
 
 pub turns_are_given : TurnsAreGiven
 turns_are_given server old new t a w version serves asks recipient keys point now given =
-    let view : by_request server (request_of t) ≡ by.view = ap (by_request server) asks ∙ ap (λ (p : Party). by_party p server (record { digest = a.digest; route = a.route; asked = Ok w })) recipient in
+    let view : by_request server (request_of t) ≡ by.view = ap (by_request server) asks ∙ ap (λ (p : Party). by_party p server (record { digest = a.digest; route = a.route; format = a.format; asked = Ok w })) recipient in
     let back = sym asks in
-    let same : response_of (reply_of server.keys (answer_at server t)) ≡ response_of (reply_of a.keys (answered_at a.keys a.point a.now (request_for a w))) =
-    sym (λ i. response_of (reply_of (keys i) (answered_at (keys i) (point i) (now i) (back i)))) in
+    let same : response_of (reply_of server.keys (format_of (request_of t)) (answer_at server t)) ≡ response_of (reply_of a.keys a.format (answered_at a.keys a.point a.now (request_for a w))) =
+    sym (λ i. response_of (reply_of (keys i) (format_of (back i)) (answered_at (keys i) (point i) (now i) (back i)))) in
     ap (λ (r : Response). r.status) (turns_give server old new t given.0 serves view (same ∙ given.1)) ∙ given.2
 
 held : (o : Option Objects) (objects : Objects) (P : Objects → Type 0) → o ≡ Some objects → IfSome o P → P objects
@@ -71,7 +72,7 @@ objects_are_given server old new t r bytes g =
     let so : answer_at server t ≡ object g.name r.span = ap (answered_at server.keys t.point t.moment) g.asks ∙ links_are_given server.keys t.point t.moment r g.name g.is_link in
     let reply = turn_reply server old t new (ap (by_request server) g.asks) g.serves.responds.point g.serves.responds.answers in
     object_given g.name r.span t.response old.side.hold.shelf new.side.hold.shelf g.objects bytes
-    (subst (λ (x : Answer). ReplyIs (reply_of server.keys x) t.response old.side.hold.shelf new.side.hold.shelf) so reply) g.told g.has g.stays
+    (subst (λ (x : Answer). ReplyIs (reply_of server.keys (format_of (request_of t)) x) t.response old.side.hold.shelf new.side.hold.shelf) so reply) g.told g.has g.stays
 
 -- of no bytes none are asked for
 none_asked : (span : Span) → asked span [] ≡ []

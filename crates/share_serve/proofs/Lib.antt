@@ -30,3 +30,4 @@ pub mod Told
 pub mod WholeBytes
 pub mod Worlds
 pub mod Added
+pub mod Takes

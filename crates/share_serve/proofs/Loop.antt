@@ -14,7 +14,7 @@ use Rattle.share_book.specs.declared.entry.Entry.{Entry}
 use Rattle.share_serve.specs.Sessions.{CutsBody, Ends, IsBad, IsNext, IsSessionFrom, Refuses, Wants, opening, refusal_text, served_in}
 use Rattle.share_serve.specs.Sides.{state_at}
 use Rattle.share_serve.specs.Turned.{RefusalEnds, TurnsInPart, TurnsWhole, message, turn}
-use Rattle.share_serve.specs.Turns.{ReadsWhenDue, Serves, Side, State, Turn, closes_after}
+use Rattle.share_serve.specs.Turns.{ReadsWhenDue, Serves, Side, Turn, closes_after}
 use Rattle.share_serve.specs.declared.response.Response.{Response}
 use Rattle.share_serve.specs.declared.serve.SessionEnd.{SessionEnd}
 use Rattle.share_serve.specs.declared.serve.SessionEnd.TheVariants as end

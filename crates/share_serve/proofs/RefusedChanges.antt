@@ -7,7 +7,8 @@ use Rattle.case_table.specs.declared.refuse.Refusal.TheVariants as refusal
 use Rattle.change_feed.specs.Changes.{ChangedFile}
 use Rattle.change_feed.specs.Feed.{feed_of}
 use Rattle.log_actions.specs.declared.actions.MetaData.{MetaData}
-use Rattle.log_replay.specs.Reconciliation.{last_meta, meta_at}
+use Rattle.log_actions.specs.declared.actions.Protocol.{Protocol}
+use Rattle.log_replay.specs.Reconciliation.{last_meta, last_protocol, meta_at}
 use Rattle.log_replay.specs.declared.times.Unresolved.{Unresolved}
 use Rattle.page_token.specs.Cursors.{cursor_of}
 use Rattle.page_token.specs.declared.cursor.Cursor.{Cursor}
@@ -31,7 +32,7 @@ use Rattle.share_reply.specs.Access.{is_same_edition, is_same_table}
 use Rattle.share_reply.specs.Answer.{Answer, Page, of, page, refused}
 use Rattle.share_reply.specs.Asking.{asked_at, feed_by as part_by, feed_part, first_bound, last_bound}
 use Rattle.share_reply.specs.Feeds as feeds
-use Rattle.share_reply.specs.Feeds.{ChangesQuery, FeedStart, agrees, feed_from, feed_page, feed_with, first_start, later_feed, or_off, or_unsupported, start_at, unrestricted_changes}
+use Rattle.share_reply.specs.Feeds.{ChangesQuery, FeedStart, agrees, feed_from, feed_with, first_start, later_feed, or_off, or_unsupported, start_at, told_protocol, unrestricted_changes}
 use Rattle.share_reply.specs.Files.{refused_for}
 use Rattle.share_reply.specs.Refusing.{Refused, plain, where_all}
 use Rattle.share_serve.specs.Entitled.{Asking, HasFeed, access_now, changes_asked}
@@ -67,16 +68,19 @@ module _ (a : Asking) (m : TableAccess) (q : ChangesQuery) (log : Log) (whole : 
   abbrev feed : FeedPart
   feed = parts.feed_of log from to
 
-  by_meta : (changes : List ChangedFile) (o : Option MetaData) → feed_of log.commits from to ≡ Ok changes → last_meta feed.meta ≡ o → of page (feeds.with_meta a.keys m a.now q (start feed) changes (or_unsupported o)) ≡ refused x → Cause
+  abbrev protocol : Protocol
+  protocol = told_protocol (last_protocol feed.protocol)
+
+  by_meta : (changes : List ChangedFile) (o : Option MetaData) → feed_of log.commits from to ≡ Ok changes → last_meta feed.meta ≡ o → of page (feeds.with_meta a.keys m a.now q (start feed) protocol changes (or_unsupported o)) ≡ refused x → Cause
   by_meta changes (Some meta) is said e = page_apart _ x Cause e
   by_meta changes None is said e = bare changes is said e
 
   by_place : (changes : List ChangedFile) (t : Bool) → feed_of log.commits from to ≡ Ok changes → nat_le (start feed).place (length changes) ≡ t
-      → of page (where_all ((t, refusal.TokenAhead) ∷ []) (feeds.with_meta a.keys m a.now q (start feed) changes (or_unsupported (last_meta feed.meta)))) ≡ refused x → Cause
+      → of page (where_all ((t, refusal.TokenAhead) ∷ []) (feeds.with_meta a.keys m a.now q (start feed) protocol changes (or_unsupported (last_meta feed.meta)))) ≡ refused x → Cause
   by_place changes true is t e = by_meta changes (last_meta feed.meta) is refl e
   by_place changes false is t e = behind changes is (grind (arith, nat_tests, t)) e
 
-  by_feed : (r : Result (List ChangedFile) ℕ) → feed_of log.commits from to ≡ r → of page (feeds.with_changes a.keys m a.now q (start feed) (last_meta feed.meta) (or_off r)) ≡ refused x → Cause
+  by_feed : (r : Result (List ChangedFile) ℕ) → feed_of log.commits from to ≡ r → of page (feeds.with_changes a.keys m a.now q (start feed) protocol (last_meta feed.meta) (or_off r)) ≡ refused x → Cause
   by_feed (Ok changes) is e = by_place changes (nat_le (start feed).place (length changes)) is refl e
   by_feed (Err version) is e = ranged (subst (RangeCause log binding from to) (sym (refused_same (record { refusal = refusal.ChangesNotEnabled; detail = decimal version }) x e)) (off version is))
 
@@ -85,7 +89,7 @@ module _ (a : Asking) (m : TableAccess) (q : ChangesQuery) (log : Log) (whole : 
   by_first true is e = ranged (subst (RangeCause log binding from to) (sym (refused_same (before_first binding.first) x e)) (begins_early (grind (arith, nat_tests, is))))
   by_first false is e =
       by_feed (feed_of log.commits from to) refl
-      (sym (ap (λ (r : Result (List ChangedFile) Refused). of page (feeds.with_changes a.keys m a.now q (start feed) (last_meta feed.meta) r)) (range_feed log from to whole kept)) ∙ e)
+      (sym (ap (λ (r : Result (List ChangedFile) Refused). of page (feeds.with_changes a.keys m a.now q (start feed) protocol (last_meta feed.meta) r)) (range_feed log from to whole kept)) ∙ e)
 
 -- ---- a table that is shared in part
 

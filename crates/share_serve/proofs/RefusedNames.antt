@@ -16,6 +16,7 @@ use Rattle.share_book.specs.declared.look.Found.{Found}
 use Rattle.share_catalog.specs.Views as catalog
 use Rattle.share_catalog.specs.Catalogue as catalogue
 use Rattle.share_catalog.specs.declared.credential.Credential.{Credential}
+use Rattle.share_request.specs.declared.asked.ResponseFormat.{ResponseFormat}
 use Rattle.share_request.specs.declared.asked.What.{What}
 use Rattle.share_request.specs.declared.asked.What.TheVariants as what
 use Rattle.share_request.specs.declared.fault.RequestFault.{RequestFault}
@@ -39,7 +40,7 @@ fresh_of : (o : Option ℕ) (now : ℕ) → is_expired o now ≡ false → IfSom
 fresh_of None now e = tt
 fresh_of (Some end) now e = grind (arith, nat_tests, e)
 
-module _ (keys : ReplyKeys) (point : List Entry) (now : ℕ) (digest : List ℕ) (route : Route) (asked : Result What RequestFault) (stranger : (a : Asking) → a.point ≡ point → a.now ≡ now → a.digest ≡ digest → ⊥) where
+module _ (keys : ReplyKeys) (point : List Entry) (now : ℕ) (digest : List ℕ) (route : Route) (format : ResponseFormat) (asked : Result What RequestFault) (stranger : (a : Asking) → a.point ≡ point → a.now ≡ now → a.digest ≡ digest → ⊥) where
   abbrev Unknown : Option View → Type 0
   Unknown view = answer_to keys now asked (look_of view (want_or_names keys asked)) ≡ refused (plain refusal.Unauthenticated)
 
@@ -47,7 +48,7 @@ module _ (keys : ReplyKeys) (point : List Entry) (now : ℕ) (digest : List ℕ)
       → of (answer_asked keys r now asked) (where_all ((not b, refusal.Unauthenticated) ∷ []) (Ok f)) ≡ refused (plain refusal.Unauthenticated)
   by_expiry r c f true has is over = refl
   by_expiry r c f false has is over =
-      absurd (stranger (record { keys = keys; point = point; now = now; digest = digest; route = route; recipient = r; has_token = has; credential = c; is_credential = is; is_fresh = fresh_of c.expires now over }) refl refl refl)
+      absurd (stranger (record { keys = keys; point = point; now = now; digest = digest; route = route; format = format; recipient = r; has_token = has; credential = c; is_credential = is; is_fresh = fresh_of c.expires now over }) refl refl refl)
 
   by_credential : (r : List ℕ) (o : Option Credential) → catalog.name_of (edits point) (catalog.token digest) ≡ Some r → catalogue.credential (edits point) r ≡ o
       → Unknown (option_map (view_with (edits point) (shown (log_at point))) (option_map (catalog.view_with (edits point) r) o))
@@ -59,7 +60,7 @@ module _ (keys : ReplyKeys) (point : List Entry) (now : ℕ) (digest : List ℕ)
   by_name (Some r) has = by_credential r (catalogue.credential (edits point) r) has refl
 
 pub strangers_are_refused : StrangersAreRefused
-strangers_are_refused keys point now digest route asked stranger = by_name keys point now digest route asked stranger (catalog.name_of (edits point) (catalog.token digest)) refl
+strangers_are_refused keys point now digest route format asked stranger = by_name keys point now digest route format asked stranger (catalog.name_of (edits point) (catalog.token digest)) refl
 
 pub faults_are_told : FaultsAreTold
 faults_are_told a fault = asked_is a (Err fault)

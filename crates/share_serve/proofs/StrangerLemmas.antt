@@ -1,5 +1,5 @@
 -- What a stranger is answered, and what is heard of the history before a request is read.
-use Rattle.std.proofs.Common.{◌≡◌, ◌⊎◌, inl, inr, ⊎_elim, ℕ, Bool, true, false, List, [], Option, Some, None, refl, sym, ap, ◌∙◌, subst}
+use Rattle.std.proofs.Common.{◌≡◌, ◌⊎◌, inl, inr, ⊎_elim, ℕ, Bool, false, List, [], Option, Some, None, refl, sym, ap, ◌∙◌, subst}
 use Rattle.std.specs.Prelude.{is_some}
 use Rattle.std.proofs.lemmas.List.{append-nil}
 use Rattle.case_table.specs.declared.refuse.Refusal.TheVariants as refusal
@@ -11,7 +11,7 @@ use Rattle.share_book.specs.Looks.{look_of}
 use Rattle.share_book.specs.Views.{View, view_by}
 use Rattle.share_book.specs.declared.entry.Entry.{Entry}
 use Rattle.share_catalog.specs.Views.{token}
-use Rattle.share_request.specs.Callers.{caller_in, caller_of}
+use Rattle.share_request.specs.Callers.{caller_of}
 use Rattle.share_request.specs.Requests.{request_in}
 use Rattle.share_request.specs.declared.asked.ByToken.{ByToken}
 use Rattle.share_request.specs.declared.asked.Caller.{Caller}
@@ -28,7 +28,7 @@ use Rattle.share_reply.specs.declared.keys.ReplyKeys.{ReplyKeys}
 use Rattle.share_serve.specs.Callers.{By, by_party, by_request, party_of, view, where_known}
 use Rattle.share_serve.specs.Callers as by
 use Rattle.share_serve.specs.Responses.{refusal_response}
-use Rattle.share_serve.specs.Sends.{IsWritten, Writes}
+use Rattle.share_serve.specs.Sends.{Writes}
 use Rattle.share_serve.specs.Sides.{hold}
 use Rattle.share_serve.specs.Strangers.{Hears, IsStrangers, is_known, is_of}
 use Rattle.share_serve.specs.Turned.{IsGiven}
@@ -66,7 +66,7 @@ module _ (server : Server) (r : ByToken) (moment : ℕ) (old new : Hold) (nobody
       let answer = nobody_is_refused server.keys new.pass.seen moment r there in
       record {
         own = subst (λ (h : Hold). Adds old.pass h.pass []) (sym is.1) (adds_none old.pass);
-        reply = subst (λ (a : Answer). ReplyIs (reply_of server.keys a) x old.shelf new.shelf) (sym answer) (ap (λ (y : Response). Some y) (sym is.0), ap (λ (h : Hold). h.shelf) is.1);
+        reply = subst (λ (a : Answer). ReplyIs (reply_of server.keys r.format a) x old.shelf new.shelf) (sym answer) (ap (λ (y : Response). Some y) (sym is.0), ap (λ (h : Hold). h.shelf) is.1);
         spelt = subst (λ (a : Answer). NextIsSpelt server.keys a) (sym answer) tt;
       }
 

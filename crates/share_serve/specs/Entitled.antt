@@ -32,6 +32,7 @@ use Rattle.share_request.specs.declared.asked.ByLink.{ByLink}
 use Rattle.share_request.specs.declared.asked.ListPage.{ListPage}
 use Rattle.share_request.specs.declared.asked.Request.{Request}
 use Rattle.share_request.specs.declared.asked.Request.TheVariants as request
+use Rattle.share_request.specs.declared.asked.ResponseFormat.{ResponseFormat}
 use Rattle.share_request.specs.declared.asked.What.{What}
 use Rattle.share_request.specs.declared.asked.What.TheVariants as what
 use Rattle.query_body.specs.declared.query.QueryBody.{QueryBody}
@@ -40,6 +41,7 @@ use Rattle.signed_link.specs.declared.parts.LinkParts.{LinkParts}
 use Rattle.share_reply.specs.Answer.{object}
 use Rattle.share_reply.specs.Asking.{asked_at, asked_by, first_bound, from_bound, last_bound}
 use Rattle.share_reply.specs.Bodies.{reply_of}
+use Rattle.share_reply.specs.Formats.{format_of}
 use Rattle.share_reply.specs.Feeds.{ChangesQuery}
 use Rattle.share_reply.specs.Feeds as feeds
 use Rattle.share_reply.specs.Files as files
@@ -60,13 +62,14 @@ use Rattle.share_serve.specs.declared.server.Server.{Server}
 
 -- ---- who asks
 
--- A recipient asks at a point of the history: it has the token, and its credential isn't over.
+-- A recipient asks at a point of the history, in a format: it has the token, and its credential isn't over.
 pub record Asking : Type 0 where
   pub keys : ReplyKeys
   pub point : List Entry
   pub now : ℕ
   pub digest : List ℕ
   pub route : Route
+  pub format : ResponseFormat
   pub recipient : List ℕ
   pub has_token : name_of (edits point) (token digest) ≡ Some recipient
   pub credential : Credential
@@ -75,11 +78,11 @@ pub record Asking : Type 0 where
 
 -- its request in form
 abbrev pub request_for : Asking → What → Request
-request_for a w = request.ByToken (record { digest = a.digest; route = a.route; asked = Ok w })
+request_for a w = request.ByToken (record { digest = a.digest; route = a.route; format = a.format; asked = Ok w })
 
 -- It is answered 200 (RFC 9110, section 15.3.1), with that version of the table, where a table is asked for.
 abbrev pub IsGiven : Asking → What → Option ℕ → Type 0
-IsGiven a w version = (r : Response) × (response_of (reply_of a.keys (answered_at a.keys a.point a.now (request_for a w))) ≡ Some r) × (r.status ≡ status.Ok version)
+IsGiven a w version = (r : Response) × (response_of (reply_of a.keys a.format (answered_at a.keys a.point a.now (request_for a w))) ≡ Some r) × (r.status ≡ status.Ok version)
 
 -- ---- names
 
@@ -219,7 +222,7 @@ LinksAreGiven = (keys : ReplyKeys) (point : List Entry) (now : ℕ) (r : ByLink)
 -- A turn that is answered from a view has the defined response, but for an object's, which waits for the store.
 abbrev pub TurnsGiveTheDefined : Type 0
 TurnsGiveTheDefined = (server : Server) (old new : turns.State) (t : Turn) (r : Response) → Serves server old t new → by_request server (request_of t) ≡ by.view
-    → response_of (reply_of server.keys (answer_at server t)) ≡ Some r → t.response ≡ r
+    → response_of (reply_of server.keys (format_of (request_of t)) (answer_at server t)) ≡ Some r → t.response ≡ r
 
 -- So a turn by which a recipient asks at its point and moment what it is given above is answered 200.
 abbrev pub TurnsAreGiven : Type 0

@@ -13,3 +13,4 @@ pub mod Turned
 pub mod Turns
 pub mod WholeSessions
 pub mod Standing
+pub mod Taken

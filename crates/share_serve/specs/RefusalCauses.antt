@@ -30,6 +30,7 @@ use Rattle.share_request.specs.declared.asked.Bound.{Bound as At}
 use Rattle.share_request.specs.declared.asked.ByLink.{ByLink}
 use Rattle.share_request.specs.declared.asked.ListPage.{ListPage}
 use Rattle.share_request.specs.declared.asked.Request.TheVariants as request
+use Rattle.share_request.specs.declared.asked.ResponseFormat.{ResponseFormat}
 use Rattle.share_request.specs.declared.asked.What.{What}
 use Rattle.share_request.specs.declared.asked.What.TheVariants as what
 use Rattle.share_request.specs.declared.fault.RequestFault.{RequestFault}
@@ -51,13 +52,13 @@ use Rattle.share_serve.specs.Entitled.{Asking, IsGranted, IsListed, Shares, Stan
 
 -- Who has no recipient's token, or one whose time is over, is refused so, whatever it asks.
 abbrev pub StrangersAreRefused : Type 0
-StrangersAreRefused = (keys : ReplyKeys) (point : List Entry) (now : ℕ) (digest : List ℕ) (route : Route) (asked : Result What RequestFault) → ((a : Asking) → a.point ≡ point → a.now ≡ now → a.digest ≡ digest → ⊥)
-    → answered_at keys point now (request.ByToken (record { digest = digest; route = route; asked = asked })) ≡ refused (plain refusal.Unauthenticated)
+StrangersAreRefused = (keys : ReplyKeys) (point : List Entry) (now : ℕ) (digest : List ℕ) (route : Route) (format : ResponseFormat) (asked : Result What RequestFault) → ((a : Asking) → a.point ≡ point → a.now ≡ now → a.digest ≡ digest → ⊥)
+    → answered_at keys point now (request.ByToken (record { digest = digest; route = route; format = format; asked = asked })) ≡ refused (plain refusal.Unauthenticated)
 
 -- Of a recipient's request that is at fault the fault is told.
 abbrev pub FaultsAreTold : Type 0
 FaultsAreTold = (a : Asking) (fault : RequestFault)
-    → answered_at a.keys a.point a.now (request.ByToken (record { digest = a.digest; route = a.route; asked = Err fault })) ≡ refused (record { refusal = fault_refusal fault; detail = fault_detail fault })
+    → answered_at a.keys a.point a.now (request.ByToken (record { digest = a.digest; route = a.route; format = a.format; asked = Err fault })) ≡ refused (record { refusal = fault_refusal fault; detail = fault_detail fault })
 
 -- a recipient's request in form is refused so
 abbrev pub IsRefused : Asking → What → Refused → Type 0

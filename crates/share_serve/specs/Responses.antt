@@ -15,10 +15,12 @@ use Rattle.response_text.specs.declared.head.ContentType.TheVariants as content
 use Rattle.response_text.specs.declared.status.Status.{Status}
 use Rattle.response_text.specs.declared.status.Status.TheVariants as status
 use Rattle.share_lines.specs.Errors.{error_body}
-use Rattle.share_lines.specs.Printing.{body_text}
+use Rattle.share_reply.specs.Formats.{body_of}
 use Rattle.share_reply.specs.Refusing.{Refused, plain}
 use Rattle.share_reply.specs.declared.plan.Plan.{Plan}
 use Rattle.share_reply.specs.declared.plan.Plan.TheVariants as plan
+use Rattle.share_request.specs.declared.asked.ResponseFormat.{ResponseFormat}
+use Rattle.share_request.specs.declared.asked.ResponseFormat.TheVariants as format
 use Rattle.share_serve.specs.declared.response.Delivery.{Delivery}
 use Rattle.share_serve.specs.declared.response.Response.{Response}
 
@@ -55,9 +57,14 @@ json_response text = record { status = status.Ok None; form = content.Json; body
 abbrev pub version_response : ℕ → Response
 version_response v = record { status = status.Ok (Some v); form = content.Json; body = [] }
 
+-- lines in a format, of which the head tells the one of actions
+abbrev pub lines_form : ResponseFormat → ContentType
+lines_form format.Parquet = content.JsonLines
+lines_form format.Delta = content.DeltaLines
+
 -- the lines of a version of a table
-abbrev pub lines_response : ℕ → List ℕ → Response
-lines_response v text = record { status = status.Ok (Some v); form = content.JsonLines; body = text }
+abbrev pub lines_response : ResponseFormat → ℕ → List ℕ → Response
+lines_response f v text = record { status = status.Ok (Some v); form = lines_form f; body = text }
 
 -- bytes of an object
 abbrev pub bytes_response : Status → List ℕ → Response
@@ -90,7 +97,7 @@ response_of (plan.Refused r) = Some (refusal_response r)
 response_of (plan.Only allowed) = Some (only_response allowed)
 response_of (plan.Json text) = Some (json_response text)
 response_of (plan.Version v) = Some (version_response v)
-response_of (plan.Lines v lines) = Some (lines_response v (body_text lines))
+response_of (plan.Lines v f texts) = Some (lines_response f v (body_of texts))
 response_of (plan.File name span) = None
 
 -- ---- texts

@@ -27,6 +27,7 @@ use Rattle.hub_catalog.specs.declared.edit.EditEnd.{EditEnd}
 use Rattle.hub_tables.specs.declared.refresh.RefreshRefusal.{RefreshRefusal}
 use Rattle.hub_tables.specs.declared.refresh.Refreshed.{Refreshed}
 use Rattle.share_reply.specs.Bodies.{reply_of}
+use Rattle.share_reply.specs.Formats.{format_of}
 use Rattle.share_reply.specs.Chains.{NextIsSpelt}
 use Rattle.share_reply.specs.Refusing.{plain}
 use Rattle.share_reply.specs.Replies.{answered_at}
@@ -92,7 +93,7 @@ ReplyIs other r old new = (response_of other ≡ Some r) × (new ≡ old)
 -- The reply is that of the recipient's view at the point, which is all that was seen; the caller adds nothing to the history. Where a page is left behind it, it has the token of that one.
 pub record Views (server : Server) (asked : Request) (moment : ℕ) (r : Response) (old new : Hold) : Type 0 where
   pub own : Adds old.pass new.pass []
-  pub reply : ReplyIs (reply_of server.keys (answered_at server.keys new.pass.seen moment asked)) r old.shelf new.shelf
+  pub reply : ReplyIs (reply_of server.keys (format_of asked) (answered_at server.keys new.pass.seen moment asked)) r old.shelf new.shelf
   pub spelt : NextIsSpelt server.keys (answered_at server.keys new.pass.seen moment asked)
 
 -- the reply is an object of the store's
@@ -101,7 +102,7 @@ IsFile p = (name : List ℕ) × (span : Option Span) × (p ≡ plan.File name sp
 
 -- the request is a recipient's, for which its view at the point has a link's object
 abbrev pub FollowsLink : Server → Request → ℕ → List Entry → Type 0
-FollowsLink server asked moment point = (by_request server asked ≡ by.view) × IsFile (reply_of server.keys (answered_at server.keys point moment asked))
+FollowsLink server asked moment point = (by_request server asked ≡ by.view) × IsFile (reply_of server.keys (format_of asked) (answered_at server.keys point moment asked))
 
 -- ---- answers of calls: what a call of the hub added and stored, and what its answer says
 

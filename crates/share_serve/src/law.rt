@@ -3,11 +3,14 @@ ghost use Rattle.share_serve.specs.Entitled.{ChangesAreGiven, FilesAreGiven, Lin
 ghost use Rattle.share_serve.specs.Laws.{AcknowledgementsArePuts, EndsTheSame, EqualViewsWriteTheSame, ReadsItsRequests, WritesItsResponses};
 ghost use Rattle.share_serve.specs.RefusalCauses.{ChangesHaveCauses, FaultsAreTold, FilesHaveCauses, LinksHaveCauses, NamesHaveCauses, StrangersAreRefused, VersionsHaveCauses};
 ghost use Rattle.share_serve.specs.Standing.{WhatIsAddedStands};
+ghost use Rattle.share_serve.specs.Taken.{EditsAreTaken, OffersAreTaken};
 ghost use Rattle.share_serve.specs.WholeSessions.{WholeRequestsAreAnswered};
 
 use file_ranges::law::part_has_asked;
 use http_message::law::one_reading;
-use share_hub::{commits_stand, edits_stand, refreshes_stand};
+use share_hub::{
+    commits_stand, edits_are_recorded, edits_stand, offers_are_committed, refreshes_stand,
+};
 
 /// A law: what requests leave written is their responses in order, and the points at which they are answered are beginnings of one
 /// history, each of the next, none before what the pass had seen.
@@ -34,6 +37,23 @@ pub fn what_is_added_stands()
     commits_stand();
     refreshes_stand();
     edits_stand();
+}
+
+/// A law: a provider's offer that is admitted after the log which its call finds, where nothing else is in its way, nobody else writes
+/// the store and it doesn't fail, is answered with 200 and the next version. Where memory is wanting for the response, the store has
+/// what it had, or a commit as that version.
+pub fn offers_are_taken()
+    ensures { OffersAreTaken }
+{
+    offers_are_committed();
+}
+
+/// A law: so is the administrator's edit that the catalogue takes after those which its call finds: it is answered with 200 and the
+/// number of the next record, or memory is wanting for the response.
+pub fn edits_are_taken()
+    ensures { EditsAreTaken }
+{
+    edits_are_recorded();
 }
 
 /// A law: whole sessions of the same bytes, moments and responses write the same, to their ends.

@@ -15,9 +15,10 @@ mod server;
 mod session;
 
 pub use law::{
-    acknowledgements_are_puts, ends_the_same, equal_views_write_the_same, reads_its_requests,
-    refusals_have_causes, turns_give_the_defined, what_is_added_stands, what_is_granted_is_given,
-    whole_requests_are_answered, writes_its_responses,
+    acknowledgements_are_puts, edits_are_taken, ends_the_same, equal_views_write_the_same,
+    offers_are_taken, reads_its_requests, refusals_have_causes, turns_give_the_defined,
+    what_is_added_stands, what_is_granted_is_given, whole_requests_are_answered,
+    writes_its_responses,
 };
 pub use serve::{SessionEnd, serve_conn};
 pub use server::Server;

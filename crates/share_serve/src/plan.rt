@@ -5,6 +5,7 @@ ghost use Rattle.log_store.specs.Loads.{Looked};
 ghost use Rattle.share_book.specs.Shown.{show};
 ghost use Rattle.share_book.specs.Views.{View};
 ghost use Rattle.share_reply.specs.Bodies.{reply_of};
+ghost use Rattle.share_reply.specs.Formats.{format_of};
 ghost use Rattle.share_reply.specs.Chains.{NextIsSpelt};
 ghost use Rattle.share_reply.specs.Replies.{answered, seen_for};
 ghost use Rattle.share_serve.specs.Responses.{refusal_response as refusal_is};
@@ -76,9 +77,9 @@ fn send_plan<W: Store, K: Sink>(
         Plan::Version(version) => {
             send_whole(alloc, sink, delivery, Ok(version_response(alloc, version)))
         }
-        Plan::Lines(version, lines) => {
-            of_sent(send_lines(alloc, sink, delivery, version, &lines))
-        }
+        Plan::Lines(version, format, lines) => of_sent(send_lines(
+            alloc, sink, delivery, version, format, &lines,
+        )),
         Plan::File(name, span) => {
             let sending = Sending {
                 alloc,
@@ -104,10 +105,10 @@ pub(crate) fn reply<W: Store, K: Sink>(
     ensures looked { Looked (W.objects store.old) (W.objects store.new) (W.alone store.old) (W.alone store.new) }
     ensures stored { W.stored store.new ≡ W.stored store.old }
     ensures later { (W.faults store.old ≤ W.faults store.new) × (K.faults sink.old ≤ K.faults sink.new) }
-    ensures sent { (view : Option View) → option_map show seen.now ≡ seen_for keys.now request.now view → Writes result delivery (λ r. ReplyIs (reply_of keys.now (answered keys.now view delivery.moment request.now)) r (shelved W.objects W.alone W.faults W.stored store.old) (shelved W.objects W.alone W.faults W.stored store.new) × NextIsSpelt keys.now (answered keys.now view delivery.moment request.now)) (shelved W.objects W.alone W.faults W.stored store.new ≡ shelved W.objects W.alone W.faults W.stored store.old) (K.holds sink.old) (K.holds sink.new) }
+    ensures sent { (view : Option View) → option_map show seen.now ≡ seen_for keys.now request.now view → Writes result delivery (λ r. ReplyIs (reply_of keys.now (format_of request.now) (answered keys.now view delivery.moment request.now)) r (shelved W.objects W.alone W.faults W.stored store.old) (shelved W.objects W.alone W.faults W.stored store.new) × NextIsSpelt keys.now (answered keys.now view delivery.moment request.now)) (shelved W.objects W.alone W.faults W.stored store.new ≡ shelved W.objects W.alone W.faults W.stored store.old) (K.holds sink.old) (K.holds sink.new) }
     ensures cause { DeliveryCause result (W.objects store.old) (W.faults store.old) (W.faults store.new) (K.faults sink.old) (K.faults sink.new) }
     ensures out { HasGoneOut result (K.kept sink.new) }
-    ensures cut { (view : Option View) → option_map show seen.now ≡ seen_for keys.now request.now view → CutOnly result (IsFile (reply_of keys.now (answered keys.now view delivery.moment request.now))) }
+    ensures cut { (view : Option View) → option_map show seen.now ≡ seen_for keys.now request.now view → CutOnly result (IsFile (reply_of keys.now (format_of request.now) (answered keys.now view delivery.moment request.now))) }
 {
     let now = Millis::of_small(delivery.moment);
     match plan_of(alloc, keys, request, now, seen) {

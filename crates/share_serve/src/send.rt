@@ -2,9 +2,9 @@
 ghost use Rattle.std.specs.Prelude.{◌≡◌, ◌≤◌, length, IfOk};
 ghost use Rattle.response_text.specs.declared.status.Status.TheVariants as status_is;
 ghost use Rattle.response_text.specs.declared.head.ContentType.TheVariants as content;
-ghost use Rattle.share_lines.specs.Printing.{body_text};
+ghost use Rattle.share_reply.specs.Formats.{body_of};
 ghost use Rattle.share_reply.specs.Planned.{text_at};
-ghost use Rattle.share_serve.specs.Responses.{body_sent, lines_response, response_head, response_text};
+ghost use Rattle.share_serve.specs.Responses.{body_sent, lines_form, lines_response, response_head, response_text};
 ghost use Rattle.share_serve.specs.Sends.{IsHandedOn, IsSent, RoseWhereUnsent, delivered_of};
 
 use crate::response::{Delivery, Response};
@@ -13,6 +13,7 @@ use response_text::head::{ContentType, ResponseHead};
 use response_text::head_text;
 use response_text::status::Status;
 use share_reply::LinePlan;
+use share_request::ResponseFormat;
 use std::alloc::{AllocError, Global};
 
 // What came of writing a text.
@@ -157,7 +158,7 @@ fn send_line<K: Sink>(
 fn send_each<K: Sink>(alloc: Global, sink: &mut K, lines: &LinePlan<'_>) -> Sent
     ensures later { K.faults sink.old ≤ K.faults sink.new }
     ensures cause { RoseWhereUnsent result (K.faults sink.old) (K.faults sink.new) }
-    ensures sent { IsSent result (body_text lines.now) (K.holds sink.old) (K.holds sink.new) }
+    ensures sent { IsSent result (body_of lines.now) (K.holds sink.old) (K.holds sink.new) }
 {
     let mut room = Vec::new(alloc);
     for n in 0..lines.count() {
@@ -180,7 +181,7 @@ fn send_body_lines<K: Sink>(
     ensures later { K.faults sink.old ≤ K.faults sink.new }
     ensures cause { RoseWhereUnsent result (K.faults sink.old) (K.faults sink.new) }
     ensures out { IsHandedOn result (K.kept sink.new) }
-    ensures sent { IsSent result (body_sent to_head (body_text lines.now)) (K.holds sink.old) (K.holds sink.new) }
+    ensures sent { IsSent result (body_sent to_head (body_of lines.now)) (K.holds sink.old) (K.holds sink.new) }
 {
     if to_head {
         return flush(sink);
@@ -191,25 +192,36 @@ fn send_body_lines<K: Sink>(
     }
 }
 
+// The form of a body of lines.
+fn lines_form(format: ResponseFormat) -> ContentType
+    ensures { result ≡ lines_form format }
+{
+    match format {
+        ResponseFormat::Parquet => ContentType::JsonLines,
+        ResponseFormat::Delta => ContentType::DeltaLines,
+    }
+}
+
 /// Writes the response that has the lines of a version of a table: their length is known first, and then one line is held at a time.
 pub(crate) fn send_lines<K: Sink>(
     alloc: Global,
     sink: &mut K,
     delivery: Delivery,
     version: u64,
+    format: ResponseFormat,
     lines: &LinePlan<'_>,
 ) -> Sent
     requires { delivery.moment ≤ 253_402_300_799_999 }
     ensures later { K.faults sink.old ≤ K.faults sink.new }
     ensures cause { RoseWhereUnsent result (K.faults sink.old) (K.faults sink.new) }
     ensures out { IsHandedOn result (K.kept sink.new) }
-    ensures sent { IsSent result (response_text delivery (lines_response version (body_text lines.now))) (K.holds sink.old) (K.holds sink.new) }
+    ensures sent { IsSent result (response_text delivery (lines_response format version (body_of lines.now))) (K.holds sink.old) (K.holds sink.new) }
 {
     let Ok(length) = lines.len(alloc) else {
         return Sent::NoMemory;
     };
     let status = Status::Ok(Some(version));
-    let Ok(head) = head_of(alloc, delivery, status, ContentType::JsonLines, length) else {
+    let Ok(head) = head_of(alloc, delivery, status, lines_form(format), length) else {
         return Sent::NoMemory;
     };
     match send_text(sink, &head) {

@@ -1,6 +1,6 @@
 use Rattle.std.proofs.Common.{◌≡◌, ◌-◌, ◌≤◌, ◌<◌, length, ap, sym, ◌∙◌, arith, option_map}
 use Rattle.std.specs.Prelude.{slice_get, option_to_list}
-use Rattle.share_lines.specs.declared.kinds.Line.TheVariants as line
+use Rattle.delta_lines.specs.declared.kinds.DeltaLine.TheVariants as line
 use Rattle.share_reply.specs.Planned.{content_lines}
 use Rattle.share_reply.proofs.Standing.{content_count, get_after, get_back}
 use Rattle.share_reply.proofs.lines.rest_at.Goals as goal

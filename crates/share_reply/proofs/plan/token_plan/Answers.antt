@@ -13,8 +13,8 @@ returns-then-is_expired-clause-reply c =
     let seen = c.in-Some.seen in
     let over = sym c.is_expired.ensures ∙ c.if-is_expired.true in
     c.refused-then-is_expired.ensures
-    ∙ ap (reply_of keys) (sym (is_over (is_expired seen.expires c.args.now) (answer_asked keys seen.recipient c.args.now c.args.asked.now) (show_found seen.found) over))
-    ∙ ap (λ (s : Option Seen). reply_of keys (answer_to keys c.args.now c.args.asked.now (option_map show s))) (sym c.in-Some.is)
+    ∙ ap (reply_of keys c.args.format) (sym (is_over (is_expired seen.expires c.args.now) (answer_asked keys seen.recipient c.args.now c.args.asked.now) (show_found seen.found) over))
+    ∙ ap (λ (s : Option Seen). reply_of keys c.args.format (answer_to keys c.args.now c.args.asked.now (option_map show s))) (sym c.in-Some.is)
 
 pub returns-then-is_expired-clause-spelt : goal.returns-then-is_expired-clause-spelt
 returns-then-is_expired-clause-spelt c =

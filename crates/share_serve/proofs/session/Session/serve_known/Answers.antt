@@ -3,7 +3,6 @@ use Rattle.share_serve.specs.CallerViews.{by_of}
 use Rattle.share_serve.specs.Callers.{By, by_request}
 use Rattle.share_serve.specs.Sides.{held, shelved}
 use Rattle.share_serve.specs.Turned.{IsGiven}
-use Rattle.share_serve.specs.Turns.{FollowsLink, IsFile}
 use Rattle.share_serve.proofs.Cuts.{cut_never, cut_then}
 use Rattle.share_serve.proofs.Holds.{replied}
 use Rattle.share_serve.proofs.session.Session.serve_known.Goals as goal

@@ -1,4 +1,4 @@
-use Rattle.std.proofs.Common.{◌≡◌, ◌⊎◌, Bool, true, refl, subst, ◌∙◌}
+use Rattle.std.proofs.Common.{Bool, true, refl, subst, ◌∙◌}
 use Rattle.std.specs.Bool.{OnTrue}
 use Rattle.http_message.proofs.FieldFacts.{by_err}
 use Rattle.share_request.specs.Requests.{request_in}

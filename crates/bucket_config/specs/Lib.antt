@@ -1,0 +1,4 @@
+pub mod Addresses
+pub mod Buckets
+pub mod Faults
+pub mod Words
