@@ -1,5 +1,6 @@
 // Calls of a client, where the command tells less of what they answer.
 use crate::lines::{compare_lines, link_of};
+use delta_lines::{DeltaFile, FileAction, delta_meta_text, delta_protocol_text};
 use edge_core::{Link, MemLink, MemSink};
 use itoa::Buffer;
 use json_tree::Text;
@@ -7,7 +8,7 @@ use row_files::{
     RowFault, RowFile, Told, list_at, number_at, push_words, sink_of, text_at, text_or_nothing,
 };
 use serde_json::Value;
-use share_client::{Client, ClientFault, QueryBody, Refusal, SharedTable, TableRead};
+use share_client::{Client, ClientFault, DeltaRead, QueryBody, Refusal, SharedTable, TableRead};
 use share_config::profile_of;
 use std::alloc::{AllocError, Global};
 
@@ -89,31 +90,73 @@ fn push_size(text: &mut String, ended: &Result<u64, ClientFault>) -> Result<(), 
 }
 
 // Appends the version, and how many pages and files were read.
+fn push_counts(
+    text: &mut String,
+    version: u64,
+    pages: u64,
+    files: usize,
+) -> Result<(), AllocError> {
+    push_count(text, "version ", version)?;
+    push_count(text, " pages ", pages)?;
+    push_count(text, " files ", files as u64)
+}
+
 fn push_read(text: &mut String, ended: &Result<TableRead, ClientFault>) -> Result<(), AllocError> {
     match ended {
-        Ok(read) => {
-            push_count(text, "version ", read.version)?;
-            push_count(text, " pages ", read.pages)?;
-            push_count(text, " files ", read.files.len() as u64)
-        }
+        Ok(read) => push_counts(text, read.version, read.pages, read.files.len()),
         Err(fault) => push_fault(text, fault),
     }
 }
 
+// Appends a file's path in the log, its link, and its size where it came in.
+fn push_file(text: &mut String, file: &DeltaFile) -> Result<(), AllocError> {
+    push_words(text, &["\n", file.id.as_str(), " ", file.url.as_str()])?;
+    match &file.action {
+        FileAction::Add(add) => push_count(text, " ", add.size.get()),
+        FileAction::Cdc(_) | FileAction::Remove(_) => Ok(()),
+    }
+}
+
+// Appends the numbers of what was read, then its protocol, its metadata and its files, one a line.
+fn push_delta(
+    alloc: Global,
+    text: &mut String,
+    ended: &Result<DeltaRead, ClientFault>,
+) -> Result<(), AllocError> {
+    let read = match ended {
+        Ok(read) => read,
+        Err(fault) => return push_fault(text, fault),
+    };
+    push_counts(text, read.version, read.pages, read.files.len())?;
+    let protocol = delta_protocol_text(alloc, &read.protocol)?;
+    let meta = delta_meta_text(alloc, &read.meta)?;
+    push_words(text, &["\n", protocol.as_str(), "\n", meta.as_str()])?;
+    for file in &read.files {
+        push_file(text, file)?;
+    }
+    Ok(())
+}
+
 fn push_queried<L: Link>(
     alloc: Global,
+    call: &str,
     client: &Client,
     link: &mut L,
     table: &SharedTable,
     body: &QueryBody,
     text: &mut String,
 ) -> Result<(), AllocError> {
-    push_read(text, &client.read_table(alloc, link, table, body))
+    if call == "delta" {
+        push_delta(alloc, text, &client.read_delta(alloc, link, table, body))
+    } else {
+        push_read(text, &client.read_table(alloc, link, table, body))
+    }
 }
 
-// Appends what a query of that body answers.
+// Appends what a query of that body answers, in the format of the call.
 fn push_query<L: Link>(
     alloc: Global,
+    call: &str,
     client: &Client,
     link: &mut L,
     table: &SharedTable,
@@ -121,7 +164,7 @@ fn push_query<L: Link>(
     text: &mut String,
 ) -> Result<(), AllocError> {
     match QueryBody::of(alloc, body)? {
-        Some(body) => push_queried(alloc, client, link, table, &body, text),
+        Some(body) => push_queried(alloc, call, client, link, table, &body, text),
         None => text.push_str("no query"),
     }
 }
@@ -168,6 +211,7 @@ fn push_pieces<L: Link>(
 fn push_table<L: Link>(
     file: &RowFile,
     row: &Value,
+    call: &str,
     client: &Client,
     link: &mut L,
     told: &mut Told,
@@ -175,7 +219,8 @@ fn push_table<L: Link>(
 ) {
     let body = told.characters(text_at(file, row, "body"));
     let table = table_of(file, row, told);
-    let read = push_query(file.alloc(), client, link, &table, body.as_str(), text);
+    let alloc = file.alloc();
+    let read = push_query(alloc, call, client, link, &table, body.as_str(), text);
     told.stored(read);
 }
 
@@ -212,8 +257,8 @@ pub(crate) fn compare_answer<L: Link>(
     told: &mut Told,
 ) {
     let mut text = String::new(file.alloc());
-    if call == "read" {
-        push_table(file, row, client, link, told, &mut text);
+    if call == "read" || call == "delta" {
+        push_table(file, row, call, client, link, told, &mut text);
     } else {
         let url = told.characters(text_at(file, row, "url"));
         let url = url.as_str();

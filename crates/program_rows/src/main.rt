@@ -4,8 +4,8 @@
 //! - A row with `words` runs a command: `in` is its input, `objects` those of the store, `lines` those of its link to peers, `desks` those
 //!   of a server, each with the `lines` of its door; `status`, `out` and `notes` are what comes of it. A desk that has `objects` has a
 //!   store of its own, with `foreign` and `store_fails`; `end` is how its worker ended.
-//! - A row with the `call` `fetch`, `size`, `pieces` or `read` has a client make it: `answer` and `out` are what comes of it.
-//! - A row with the `call` `served` fetches a file from a server in this process, one with `world` or `worlds` runs the pure machine.
+//! - A row with the `call` `fetch`, `size`, `pieces`, `read` or `delta` has a client make it: `answer` and `out` are what comes of it.
+//! - A row with the `call` `served` has a client ask a server in this process, one with `world` or `worlds` runs the pure machine.
 //! - Each other row has sessions of a server.
 //!
 //! What comes on a line stands `in` it, by default from port 8080 of `peer`; what it is to be told stands in `told`, and a line without

@@ -2,6 +2,7 @@ pub mod Asking
 pub mod Bodies
 pub mod Chains
 pub mod Clients
+pub mod DeltaPages
 pub mod Exchanges
 pub mod Files
 pub mod Listings

@@ -48,6 +48,10 @@ part_text target host range = front (codes "GET") target host None ++ range_line
 abbrev pub content_lines : List ℕ → List ℕ
 content_lines body = field_line (codes "Content-Type") (codes "application/json") ++ field_line (codes "Content-Length") (decimal (length body))
 
--- a request with a body of JSON
-abbrev pub post_text : (target host : List ℕ) → Option (List ℕ) → (body : List ℕ) → List ℕ
-post_text target host bearer body = front (codes "POST") target host bearer ++ content_lines body ++ close_lines ++ body
+-- the field that asks for the delta format (Delta Sharing PROTOCOL.md, "Delta Sharing Capabilities Header")
+abbrev pub capability_line : List ℕ
+capability_line = field_line (codes "delta-sharing-capabilities") (codes "responseformat=delta")
+
+-- a request with a body of JSON, and with more lines of fields
+abbrev pub post_text : (target host : List ℕ) → Option (List ℕ) → (more body : List ℕ) → List ℕ
+post_text target host bearer more body = front (codes "POST") target host bearer ++ content_lines body ++ more ++ close_lines ++ body

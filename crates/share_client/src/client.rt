@@ -7,7 +7,7 @@ ghost use Rattle.share_client.specs.Pieces.{PiecesAt};
 ghost use Rattle.share_client.specs.Servers.{server_in};
 ghost use Rattle.share_client.specs.Sides.{counts, HasCause, Known, Later};
 ghost use Rattle.share_client.specs.Sizes.{SizeCause, SizesAt};
-ghost use Rattle.share_client.specs.Tables.{ReadsChangesOf, ReadsTableOf};
+ghost use Rattle.share_client.specs.Tables.{ReadsChangesOf, ReadsDeltaOf, ReadsTableOf};
 ghost use Rattle.share_client.specs.Targets.{target_in};
 
 use crate::fetch::fetch_from;
@@ -18,10 +18,11 @@ use crate::size::size_from;
 use crate::table_request::TableRequest;
 use crate::tables::read_pages;
 use crate::target::target_of;
-use crate::{ClientFault, QueryBody, SharedTable, TableRead};
+use crate::{ClientFault, DeltaRead, QueryBody, SharedTable, TableRead};
+use delta_lines::DeltaFile;
 use edge_core::{Link, Sink};
 use share_config::Profile;
-use share_lines::Line;
+use share_lines::{FileLine, Line};
 use std::alloc::Global;
 
 /// The client of a recipient, which asks the server of its profile over the link that is lent for a call (Delta Sharing PROTOCOL.md,
@@ -80,13 +81,50 @@ impl Client {
     {
         match server_of(alloc, &self.profile) {
             Ok(server) => {
-                let mut files = Vec::new(alloc);
+                let mut files: Vec<FileLine> = Vec::new(alloc);
                 let request = TableRequest::Query(table, body);
                 match read_pages(alloc, link, &server, &request, &mut files) {
                     Ok((head, pages)) => Ok(TableRead {
                         version: head.version,
-                        meta: Line::MetaData(head.meta),
+                        meta: Line::MetaData(head.front),
                         files,
+                        pages,
+                    }),
+                    Err(fault) => Err(fault),
+                }
+            }
+            Err(_) => Err(ClientFault::NoMemory),
+        }
+    }
+
+    /// Reads a table by a query in the delta format, in which each file comes with what the table's log says of it ("API Response Format
+    /// in Delta"). It asks and reads as `read_table` does, but with the field `delta-sharing-capabilities: responseformat=delta`, and
+    /// lines of that format: a protocol line and a metaData line, file lines, and perhaps an endStreamAction line. So an answer in the
+    /// parquet format is a bad reply.
+    ///
+    /// The faults are those of `read_table`. `PageChanged` comes where a page has another protocol line, too; but for the version its texts
+    /// are both lines, with a line feed between.
+    pub fn read_delta<L: Link>(
+        &self,
+        alloc: Global,
+        link: &mut L,
+        table: &SharedTable,
+        body: &QueryBody,
+    ) -> Result<DeltaRead, ClientFault>
+        ensures later { Later (counts L.faults L.read_faults L.write_faults link.old) (counts L.faults L.read_faults L.write_faults link.new) }
+        ensures cause { HasCause result (counts L.faults L.read_faults L.write_faults link.old) (counts L.faults L.read_faults L.write_faults link.new) }
+        ensures told { Known L.coming L.closed link.old link.new (ReadsDeltaOf (server_in (client_profile self.now)) table.now body.now result) }
+    {
+        match server_of(alloc, &self.profile) {
+            Ok(server) => {
+                let mut found: Vec<DeltaFile> = Vec::new(alloc);
+                let request = TableRequest::Delta(table, body);
+                match read_pages(alloc, link, &server, &request, &mut found) {
+                    Ok((head, pages)) => Ok(DeltaRead {
+                        version: head.version,
+                        protocol: head.front.protocol,
+                        meta: head.front.meta,
+                        files: found,
                         pages,
                     }),
                     Err(fault) => Err(fault),
@@ -114,7 +152,7 @@ impl Client {
     {
         match server_of(alloc, &self.profile) {
             Ok(server) => {
-                let mut changes = Vec::new(alloc);
+                let mut changes: Vec<Line> = Vec::new(alloc);
                 let request = TableRequest::Changes(table, from, to);
                 match read_pages(alloc, link, &server, &request, &mut changes) {
                     Ok((_head, _pages)) => Ok(changes),

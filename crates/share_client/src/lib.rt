@@ -4,6 +4,7 @@
 
 mod ask;
 mod client;
+mod delta_page;
 mod exchange;
 mod fault;
 mod fetch;
@@ -11,6 +12,7 @@ mod law;
 mod listing;
 mod lists;
 mod page_head;
+mod parquet_page;
 mod pieces;
 mod query_body;
 mod request;
@@ -26,9 +28,10 @@ mod target;
 
 pub use case_table::Refusal;
 pub use client::Client;
+pub use delta_lines::DeltaFile;
 pub use fault::ClientFault;
 pub use law::pieces_are_whole;
 pub use listing::SharedTable;
 pub use query_body::QueryBody;
 pub use share_lines::{FileLine, Line};
-pub use table_read::TableRead;
+pub use table_read::{DeltaRead, TableRead};

@@ -6,17 +6,16 @@ ghost use Rattle.share_client.specs.TableSteps.{Compares, IsBehind};
 use crate::ClientFault;
 use crate::target::text_of;
 use json_tree::Text;
-use share_lines::MetaLine;
 use std::alloc::Global;
 
 // What a page must have as the first page has it.
 #[derive(Drop)]
-pub(crate) struct PageHead {
+pub(crate) struct PageHead<F> {
     // The version, below 2^63.
     pub(crate) version: u64,
-    // The metadata.
-    pub(crate) meta: MetaLine,
-    // The text of its line.
+    // What stands in front of the files: the metadata, and what else the form has there.
+    pub(crate) front: F,
+    // The text of it.
     pub(crate) text: Text,
 }
 
@@ -40,7 +39,11 @@ fn compare_versions(alloc: Global, first: u64, other: u64) -> Result<(), ClientF
     compare(alloc, &first, &other)
 }
 
-fn compare_heads(alloc: Global, first: &PageHead, page: &PageHead) -> Result<(), ClientFault>
+fn compare_heads<F>(
+    alloc: Global,
+    first: &PageHead<F>,
+    page: &PageHead<F>,
+) -> Result<(), ClientFault>
     ensures { Compares (changed first.now page.now) result }
 {
     compare_versions(alloc, first.version, page.version)?;
@@ -48,10 +51,10 @@ fn compare_heads(alloc: Global, first: &PageHead, page: &PageHead) -> Result<(),
 }
 
 // The token behind a page that may come behind the first.
-pub(crate) fn token_behind(
+pub(crate) fn token_behind<F: Drop>(
     alloc: Global,
-    first: &PageHead,
-    page: (PageHead, Option<Text>),
+    first: &PageHead<F>,
+    page: (PageHead<F>, Option<Text>),
 ) -> Result<Option<Text>, ClientFault>
     ensures { IsBehind first.now page result }
 {

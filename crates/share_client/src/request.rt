@@ -109,18 +109,20 @@ fn push_content(alloc: Global, text: &mut String, body: &str) -> Result<(), Allo
     )?)
 }
 
-// A request with a body of JSON.
+// A request with a body of JSON, and with more lines of fields.
 pub(crate) fn post_text(
     alloc: Global,
     target: &str,
     host: &str,
     bearer: Option<&str>,
+    more: &str,
     body: &str,
 ) -> Result<String, AllocError>
-    ensures { IfOk result (λ t. string_bytes t ≡ post_text target.now host.now (option_copied bearer.entry) body.now) }
+    ensures { IfOk result (λ t. string_bytes t ≡ post_text target.now host.now (option_copied bearer.entry) more.now body.now) }
 {
     let mut text = front(alloc, "POST", target, host, bearer)?;
     push_content(alloc, &mut text, body)?;
+    text.push_str(more)?;
     push_close(&mut text)?;
     text.push_str(body)?;
     Ok(text)

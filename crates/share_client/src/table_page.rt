@@ -1,9 +1,10 @@
 // A page of a table's files or of its changes.
 ghost use Rattle.std.specs.Prelude.{◌≡◌, Option, IfOk, MatchBool, MatchOption, MatchResult, Some, None};
-ghost use Rattle.share_lines.specs.declared.kinds.Line.{Line};
+ghost use Rattle.json_tree.specs.Gives.{AnswersBy};
+ghost use Rattle.share_lines.specs.Bodies.{lacks_memory};
 ghost use Rattle.share_client.specs.Listings.{or_start};
 ghost use Rattle.share_client.specs.Reads.{GivesText, ReadsPage};
-ghost use Rattle.share_client.specs.TablePages.{after_meta, after_protocol, change_in, content_in, head_with, page_with, parts_in, table_page_in, token_of};
+ghost use Rattle.share_client.specs.TablePages.{Form, change_in, content_in, head_with, page_with, parts_in, table_page_in, token_of};
 ghost use Rattle.share_client.specs.TableSteps.{ReadsParts, ReadsTablePage};
 
 use crate::ClientFault;
@@ -11,22 +12,52 @@ use crate::exchange::Response;
 use crate::page_head::PageHead;
 use crate::table_version::version_in;
 use json_tree::{Text, unless_empty};
-use share_lines::{FileLine, Line, LinesFault, MetaLine, lines_of, meta_text};
+use share_lines::{EndLine, FileLine, Line, LinesFault};
 use std::alloc::{AllocError, Global};
 use std::collections::VecDeque;
 
+// A line of a page, by the form in which the page comes.
+pub(crate) trait PageLine: Sized + Drop {
+    // What stands in front of the files or changes.
+    type Front: Drop;
+
+    // The form.
+    ghost form: { Form Self Self.Front };
+
+    // The lines of a body.
+    fn lines(alloc: Global, bytes: &[u8]) -> Result<Vec<Self>, LinesFault>
+        ensures { AnswersBy lacks_memory (λ ls. ls.items) result (form.lines bytes.now) };
+
+    // Takes away what stands in front.
+    fn take_front(lines: &mut VecDeque<Self>) -> Option<Self::Front>
+        ensures { MatchOption result (form.front lines.old.items ≡ None) (λ f. form.front lines.old.items ≡ Some (f, lines.new.items)) };
+
+    // The text of that.
+    fn front_text(alloc: Global, front: &Self::Front) -> Result<Text, AllocError>
+        ensures { IfOk result (λ t. t ≡ form.text front.now) };
+
+    // The end, where the line is one.
+    fn end(self) -> Option<EndLine>
+        ensures { result ≡ form.ends self };
+}
+
 // What the pages of an answer have.
 pub(crate) trait Content: Sized + Drop {
+    // A line of such a page.
+    type Line: PageLine;
+
     // What is read of a line, if anything.
-    ghost reads: { Line → Option Self };
+    ghost reads: { Self.Line → Option Self };
 
     // What a line has, or the line where it has something else.
-    fn of_line(line: Line) -> Result<Self, Line>
+    fn of_line(line: Self::Line) -> Result<Self, Self::Line>
         ensures { MatchResult result (λ item. reads line ≡ Some item) (λ other. (reads line ≡ None) × (other ≡ line)) };
 }
 
 impl Content for FileLine {
     ghost use Rattle.share_client.specs.TablePages.{file_in};
+
+    type Line = Line;
 
     ghost reads = { file_in };
 
@@ -47,6 +78,8 @@ fn is_change(line: &Line) -> bool
 impl Content for Line {
     ghost use Rattle.share_client.specs.TablePages.{change_in};
 
+    type Line = Line;
+
     ghost reads = { change_in };
 
     fn of_line(line: Line) -> Result<Line, Line> {
@@ -58,35 +91,12 @@ impl Content for Line {
     }
 }
 
-// Takes the protocol away, which stands in front.
-fn take_protocol(lines: &mut VecDeque<Line>) -> bool
-    ensures { MatchBool result (after_protocol lines.old.items ≡ Some lines.new.items) (after_protocol lines.old.items ≡ None) }
-{
-    match lines.front() {
-        Some(Line::Protocol) => {}
-        _ => return false,
-    }
-    lines.pop_front();
-    true
-}
-
-// Takes the metadata away, which stands in front.
-fn take_meta(lines: &mut VecDeque<Line>) -> Option<MetaLine>
-    ensures { MatchOption result (after_meta lines.old.items ≡ None) (λ m. after_meta lines.old.items ≡ Some (m, lines.new.items)) }
-{
-    match lines.pop_front() {
-        Some(Line::MetaData(meta)) => Some(meta),
-        Some(_) => None,
-        None => None,
-    }
-}
-
 // The token of an end, which has to be the last line.
-fn end_of(line: Line, last: bool) -> Result<Option<Text>, ClientFault>
-    ensures { GivesText result (token_of line last) }
+fn token_of<P: PageLine>(line: P, last: bool) -> Result<Option<Text>, ClientFault>
+    ensures { GivesText result (token_of P.form line last) }
 {
-    match line {
-        Line::End(end) if last => Ok(unless_empty(end.token)),
+    match line.end() {
+        Some(end) if last => Ok(unless_empty(end.token)),
         _ => Err(ClientFault::BadReply { at: 0 }),
     }
 }
@@ -94,14 +104,14 @@ fn end_of(line: Line, last: bool) -> Result<Option<Text>, ClientFault>
 // Moves the files or changes behind those that were read before. The answer is the token of the end, if there is one.
 fn read_content<T: Content>(
     found: &mut Vec<T>,
-    mut lines: VecDeque<Line>,
+    mut lines: VecDeque<T::Line>,
 ) -> Result<Option<Text>, ClientFault>
-    ensures { ReadsPage found.old.items found.new.items (content_in T.reads lines.items) result }
+    ensures { ReadsPage found.old.items found.new.items (content_in T.Line.form T.reads lines.items) result }
 {
     while let Some(line) = lines.pop_front() {
         match T::of_line(line) {
             Ok(item) => found.push(item)?,
-            Err(line) => return end_of(line, lines.is_empty()),
+            Err(line) => return token_of(line, lines.is_empty()),
         }
     }
     Ok(None)
@@ -109,29 +119,30 @@ fn read_content<T: Content>(
 
 fn read_parts<T: Content>(
     found: &mut Vec<T>,
-    mut lines: VecDeque<Line>,
-) -> Result<(MetaLine, Option<Text>), ClientFault>
-    ensures { ReadsParts found.old.items found.new.items (parts_in T.reads lines.items) result }
+    mut lines: VecDeque<T::Line>,
+) -> Result<(<T::Line as PageLine>::Front, Option<Text>), ClientFault>
+    ensures { ReadsParts found.old.items found.new.items (parts_in T.Line.form T.reads lines.items) result }
 {
-    if !take_protocol(&mut lines) {
-        return Err(ClientFault::BadReply { at: 0 });
-    }
-    match take_meta(&mut lines) {
-        Some(meta) => match read_content(found, lines) {
-            Ok(token) => Ok((meta, token)),
+    match <T::Line as PageLine>::take_front(&mut lines) {
+        Some(front) => match read_content(found, lines) {
+            Ok(token) => Ok((front, token)),
             Err(fault) => Err(fault),
         },
         None => Err(ClientFault::BadReply { at: 0 }),
     }
 }
 
-fn head_of(alloc: Global, version: u64, meta: MetaLine) -> Result<PageHead, AllocError>
-    ensures { IfOk result (λ head. head ≡ head_with version meta) }
+fn head_of<P: PageLine>(
+    alloc: Global,
+    version: u64,
+    front: P::Front,
+) -> Result<PageHead<P::Front>, AllocError>
+    ensures { IfOk result (λ head. head ≡ head_with P.form version front) }
 {
-    let text = meta_text(alloc, &meta)?;
+    let text = P::front_text(alloc, &front)?;
     Ok(PageHead {
         version,
-        meta,
+        front,
         text,
     })
 }
@@ -141,12 +152,12 @@ fn read_page<T: Content>(
     alloc: Global,
     found: &mut Vec<T>,
     version: u64,
-    lines: VecDeque<Line>,
-) -> Result<(PageHead, Option<Text>), ClientFault>
-    ensures { ReadsTablePage found.old.items found.new.items (or_start (page_with T.reads version lines.items)) result }
+    lines: VecDeque<T::Line>,
+) -> Result<(PageHead<<T::Line as PageLine>::Front>, Option<Text>), ClientFault>
+    ensures { ReadsTablePage found.old.items found.new.items (or_start (page_with T.Line.form T.reads version lines.items)) result }
 {
     match read_parts(found, lines) {
-        Ok((meta, token)) => Ok((head_of(alloc, version, meta)?, token)),
+        Ok((front, token)) => Ok((head_of::<T::Line>(alloc, version, front)?, token)),
         Err(fault) => Err(fault),
     }
 }
@@ -156,14 +167,14 @@ pub(crate) fn read_table_page<T: Content>(
     alloc: Global,
     found: &mut Vec<T>,
     response: &Response,
-) -> Result<(PageHead, Option<Text>), ClientFault>
-    ensures { ReadsTablePage found.old.items found.new.items (table_page_in T.reads response.now) result }
+) -> Result<(PageHead<<T::Line as PageLine>::Front>, Option<Text>), ClientFault>
+    ensures { ReadsTablePage found.old.items found.new.items (table_page_in T.Line.form T.reads response.now) result }
 {
     let Some(version) = version_in(response) else {
         return Err(ClientFault::BadReply { at: 0 });
     };
-    match lines_of(alloc, response.body.as_slice()) {
-        Ok(lines) => read_page(alloc, found, version, VecDeque::from(lines.into_items())),
+    match <T::Line as PageLine>::lines(alloc, response.body.as_slice()) {
+        Ok(lines) => read_page(alloc, found, version, VecDeque::from(lines)),
         Err(LinesFault::Bad { at }) => Err(ClientFault::BadReply { at }),
         Err(LinesFault::NoMemory) => Err(ClientFault::NoMemory),
     }

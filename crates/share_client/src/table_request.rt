@@ -1,7 +1,8 @@
 // The requests for the pages of a table.
 ghost use Rattle.std.specs.Prelude.{◌≡◌, ◌++◌, IfOk, OnOk, decimal, string_bytes};
 ghost use Rattle.text_forms.specs.Escape.{escaped};
-ghost use Rattle.share_client.specs.TableRequests.{changes_text, later_token, query_text, request_text, table_route};
+ghost use Rattle.share_client.specs.TableRequests.{changes_text, later_token, query_with, request_text, table_route};
+ghost use Rattle.share_client.specs.Requests.{capability_line};
 
 use crate::SharedTable;
 use crate::query_body::{QueryBody, body_sent};
@@ -17,6 +18,8 @@ use text_forms::push_escaped;
 pub(crate) enum TableRequest<'a> {
     // Its files, by the body of a query.
     Query(&'a SharedTable, &'a QueryBody),
+    // The same in the delta format.
+    Delta(&'a SharedTable, &'a QueryBody),
     // Its changes from a version to another.
     Changes(&'a SharedTable, u64, u64),
 }
@@ -47,14 +50,22 @@ fn table_route(alloc: Global, table: &SharedTable) -> Result<String, AllocError>
     Ok(route)
 }
 
-fn query_text(
+// The field that asks for the delta format.
+fn capability_line() -> &'static str
+    ensures { result.now ≡ capability_line }
+{
+    "delta-sharing-capabilities: responseformat=delta\r\n"
+}
+
+fn query_with(
     alloc: Global,
+    more: &str,
     server: &Server,
     table: &SharedTable,
     body: &QueryBody,
     token: &Option<Text>,
 ) -> Result<String, AllocError>
-    ensures { IfOk result (λ t. string_bytes t ≡ query_text server.now table.now body.now token.now) }
+    ensures { IfOk result (λ t. string_bytes t ≡ query_with more.now server.now table.now body.now token.now) }
 {
     let mut route = table_route(alloc, table)?;
     route.push_str("/query")?;
@@ -65,6 +76,7 @@ fn query_text(
         &path,
         server.target.host_field.as_str(),
         Some(server.bearer.as_str()),
+        more,
         &body,
     )
 }
@@ -111,7 +123,15 @@ impl<'a> TableRequest<'a> {
         ensures { IfOk result (λ t. string_bytes t ≡ request_text server.now self.now token.now) }
     {
         match self {
-            TableRequest::Query(table, body) => query_text(alloc, server, table, body, token),
+            TableRequest::Query(table, body) => query_with(alloc, "", server, table, body, token),
+            TableRequest::Delta(table, body) => query_with(
+                alloc,
+                capability_line(),
+                server,
+                table,
+                body,
+                token,
+            ),
             TableRequest::Changes(table, from, to) => changes_text(
                 alloc, server, table, *from, *to, token,
             ),

@@ -9,7 +9,7 @@ use crate::ask::{Wanted, ask};
 use crate::lists::MOST_PAGES;
 use crate::page_head::{PageHead, token_behind};
 use crate::server::Server;
-use crate::table_page::{Content, read_table_page};
+use crate::table_page::{Content, PageLine, read_table_page};
 use crate::table_request::TableRequest;
 use edge_core::Link;
 use json_tree::Text;
@@ -24,10 +24,10 @@ fn table_turn<L: Link, T: Content>(
     request: &TableRequest,
     token: &Option<Text>,
     found: &mut Vec<T>,
-) -> Result<(PageHead, Option<Text>), ClientFault>
+) -> Result<(PageHead<<T::Line as PageLine>::Front>, Option<Text>), ClientFault>
     ensures later { Later (counts L.faults L.read_faults L.write_faults link.old) (counts L.faults L.read_faults L.write_faults link.new) }
     ensures cause { HasCause result (counts L.faults L.read_faults L.write_faults link.old) (counts L.faults L.read_faults L.write_faults link.new) }
-    ensures told { Known L.coming L.closed link.old link.new (TableTurn (table_paging T.reads server.now (request_text server.now request.now)) token.now found.old.items found.new.items result) }
+    ensures told { Known L.coming L.closed link.old link.new (TableTurn (table_paging T.Line.form T.reads server.now (request_text server.now request.now)) token.now found.old.items found.new.items result) }
 {
     let text = match request.text(alloc, server, token) {
         Ok(text) => text,
@@ -45,13 +45,13 @@ fn later_pages<L: Link, T: Content>(
     link: &mut L,
     server: &Server,
     request: &TableRequest,
-    first: &PageHead,
+    first: &PageHead<<T::Line as PageLine>::Front>,
     next: Text,
     found: &mut Vec<T>,
 ) -> Result<u64, ClientFault>
     ensures later { Later (counts L.faults L.read_faults L.write_faults link.old) (counts L.faults L.read_faults L.write_faults link.new) }
     ensures cause { HasCause result (counts L.faults L.read_faults L.write_faults link.old) (counts L.faults L.read_faults L.write_faults link.new) }
-    ensures told { Known L.coming L.closed link.old link.new (PagesBehind (table_paging T.reads server.now (request_text server.now request.now)) first.now next found.old.items found.new.items result) }
+    ensures told { Known L.coming L.closed link.old link.new (PagesBehind (table_paging T.Line.form T.reads server.now (request_text server.now request.now)) first.now next found.old.items found.new.items result) }
 {
     let mut token = Some(next);
     for number in 1..MOST_PAGES {
@@ -75,10 +75,10 @@ pub(crate) fn read_pages<L: Link, T: Content>(
     server: &Server,
     request: &TableRequest,
     found: &mut Vec<T>,
-) -> Result<(PageHead, u64), ClientFault>
+) -> Result<(PageHead<<T::Line as PageLine>::Front>, u64), ClientFault>
     ensures later { Later (counts L.faults L.read_faults L.write_faults link.old) (counts L.faults L.read_faults L.write_faults link.new) }
     ensures cause { HasCause result (counts L.faults L.read_faults L.write_faults link.old) (counts L.faults L.read_faults L.write_faults link.new) }
-    ensures told { Known L.coming L.closed link.old link.new (PagesOnto (table_paging T.reads server.now (request_text server.now request.now)) found.old.items found.new.items result) }
+    ensures told { Known L.coming L.closed link.old link.new (PagesOnto (table_paging T.Line.form T.reads server.now (request_text server.now request.now)) found.old.items found.new.items result) }
 {
     let (first, next) = match table_turn(alloc, link, server, request, &None, found) {
         Ok(page) => page,

@@ -13,7 +13,7 @@ loop-number-init g c =
     let reads = g.T.Content.reads in
     let server = c.args.server.now in
     let asked = request_text server c.args.request.now in
-    let paging = table_paging reads server asked in
+    let paging = table_paging g.T.Line.PageLine.form reads server asked in
     let first = c.args.first.now in
     let was = c.args.found.now.items in
     record {
@@ -21,7 +21,7 @@ loop-number-init g c =
       told =
           known_same g.L.Link.coming g.L.Link.closed c.args.link.now
           (GoesOn paging first (Some c.args.next) 1 (Some c.args.next) was was)
-          (λ s start before turn. first_page reads server asked before first c.args.next was start s turn);
+          (λ s start before turn. first_page g.T.Line.PageLine.form reads server asked before first c.args.next was start s turn);
     }
 
 pub returns-in-Err-clause-told : goal.returns-in-Err-clause-told
@@ -30,7 +30,7 @@ returns-in-Err-clause-told g c =
     let reads = g.T.Content.reads in
     let server = c.args.server.now in
     let asked = request_text server c.args.request.now in
-    let paging = table_paging reads server asked in
+    let paging = table_paging g.T.Line.PageLine.form reads server asked in
     let first = c.args.first.now in
     let was = c.args.found.now.items in
     let now = c.table_turn.new.found.items in
@@ -38,7 +38,7 @@ returns-in-Err-clause-told g c =
     (GoesOn paging first (Some c.args.next) l.number l.token was l.found.items)
     (TableTurn paging l.token l.found.items now (Err c.in-Err.fault))
     (PagesBehind paging first c.args.next was now (Err c.in-Err.fault))
-    (λ s t u a b start before turn. pages_stopped reads server asked before l.number (Some first) l.token c.in-Err.fault l.found.items now start t u (a start before turn) b)
+    (λ s t u a b start before turn. pages_stopped g.T.Line.PageLine.form reads server asked before l.number (Some first) l.token c.in-Err.fault l.found.items now start t u (a start before turn) b)
     l.invariant.told c.in-Err.ensures.told
 
 pub returns-in-Ok-None-clause-told : goal.returns-in-Ok-None-clause-told
@@ -47,7 +47,7 @@ returns-in-Ok-None-clause-told g c =
     let reads = g.T.Content.reads in
     let server = c.args.server.now in
     let asked = request_text server c.args.request.now in
-    let paging = table_paging reads server asked in
+    let paging = table_paging g.T.Line.PageLine.form reads server asked in
     let first = c.args.first.now in
     let was = c.args.found.now.items in
     let now = c.table_turn.new.found.items in
@@ -57,7 +57,7 @@ returns-in-Ok-None-clause-told g c =
     (GoesOn paging first (Some c.args.next) l.number l.token was l.found.items)
     (TableTurn paging l.token l.found.items now (Ok page))
     (PagesBehind paging first c.args.next was now (Ok (l.number + 1)))
-    (λ s t u a b start before turn. last_page reads server asked before l.number first l.token page l.found.items now start t u (a start before turn) b behind)
+    (λ s t u a b start before turn. last_page g.T.Line.PageLine.form reads server asked before l.number first l.token page l.found.items now start t u (a start before turn) b behind)
     l.invariant.told c.in-Ok.ensures.told
 
 pub returns-in-Err-token_behind-clause-told : goal.returns-in-Err-token_behind-clause-told
@@ -66,7 +66,7 @@ returns-in-Err-token_behind-clause-told g c =
     let reads = g.T.Content.reads in
     let server = c.args.server.now in
     let asked = request_text server c.args.request.now in
-    let paging = table_paging reads server asked in
+    let paging = table_paging g.T.Line.PageLine.form reads server asked in
     let first = c.args.first.now in
     let was = c.args.found.now.items in
     let now = c.table_turn.new.found.items in
@@ -76,7 +76,7 @@ returns-in-Err-token_behind-clause-told g c =
     (GoesOn paging first (Some c.args.next) l.number l.token was l.found.items)
     (TableTurn paging l.token l.found.items now (Ok page))
     (PagesBehind paging first c.args.next was now (Err e))
-    (λ s t u a b start before turn. page_changed reads server asked before l.number first l.token page e l.found.items now start t u (a start before turn) b c.in-Err-token_behind.ensures)
+    (λ s t u a b start before turn. page_changed g.T.Line.PageLine.form reads server asked before l.number first l.token page e l.found.items now start t u (a start before turn) b c.in-Err-token_behind.ensures)
     l.invariant.told c.in-Ok.ensures.told
 
 pub loop-number-preserved : goal.loop-number-preserved
@@ -85,7 +85,7 @@ loop-number-preserved g c =
     let reads = g.T.Content.reads in
     let server = c.args.server.now in
     let asked = request_text server c.args.request.now in
-    let paging = table_paging reads server asked in
+    let paging = table_paging g.T.Line.PageLine.form reads server asked in
     let first = c.args.first.now in
     let was = c.args.found.now.items in
     let now = c.table_turn.new.found.items in
@@ -99,7 +99,7 @@ loop-number-preserved g c =
           (GoesOn paging first (Some c.args.next) l.number l.token was l.found.items)
           (TableTurn paging l.token l.found.items now (Ok page))
           (GoesOn paging first (Some c.args.next) (l.number + 1) (Some next) was now)
-          (λ s t u a b start before turn. one_page_more reads server asked before l.number first l.token page next l.found.items now start t u (a start before turn) b behind)
+          (λ s t u a b start before turn. one_page_more g.T.Line.PageLine.form reads server asked before l.number first l.token page next l.found.items now start t u (a start before turn) b behind)
           l.invariant.told c.in-Ok.ensures.told;
     }
 
@@ -109,12 +109,12 @@ returns-clause-told g c =
     let reads = g.T.Content.reads in
     let server = c.args.server.now in
     let asked = request_text server c.args.request.now in
-    let paging = table_paging reads server asked in
+    let paging = table_paging g.T.Line.PageLine.form reads server asked in
     let first = c.args.first.now in
     let was = c.args.found.now.items in
     let many : l.number ≡ 100000 = omega (arith, c.loop-number-test.false, l.auto.number-end) in
     known_as g.L.Link.coming g.L.Link.closed c.args.link.now l.link
     (GoesOn paging first (Some c.args.next) l.number l.token was l.found.items)
     (PagesBehind paging first c.args.next was l.found.items (Err fault.TooManyPages))
-    (λ s t a start before turn. too_many_pages reads server asked before (Some first) l.token l.found.items start t (subst (λ n. ReachesPages paging n (Some first) l.token before l.found.items start t) many (a start before turn)))
+    (λ s t a start before turn. too_many_pages g.T.Line.PageLine.form reads server asked before (Some first) l.token l.found.items start t (subst (λ n. ReachesPages paging n (Some first) l.token before l.found.items start t) many (a start before turn)))
     l.invariant.told

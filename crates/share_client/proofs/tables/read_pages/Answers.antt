@@ -11,13 +11,13 @@ returns-in-Err-clause-told g c =
     let reads = g.T.Content.reads in
     let server = c.args.server.now in
     let asked = request_text server c.args.request.now in
-    let paging = table_paging reads server asked in
+    let paging = table_paging g.T.Line.PageLine.form reads server asked in
     let was = c.args.found.now.items in
     let mid = c.table_turn.new.found.items in
     let e = c.in-Err.fault in
     known_as g.L.Link.coming g.L.Link.closed c.args.link.now c.table_turn.new.link
     (TableTurn paging None was mid (Err e)) (PagesOnto paging was mid (Err e))
-    (λ s t a. none_came reads server asked was e mid s t a)
+    (λ s t a. none_came g.T.Line.PageLine.form reads server asked was e mid s t a)
     c.in-Err.ensures.told
 
 pub returns-in-Ok-later_pages-clause-told : goal.returns-in-Ok-later_pages-clause-told
@@ -25,7 +25,7 @@ returns-in-Ok-later_pages-clause-told g c =
     let reads = g.T.Content.reads in
     let server = c.args.server.now in
     let asked = request_text server c.args.request.now in
-    let paging = table_paging reads server asked in
+    let paging = table_paging g.T.Line.PageLine.form reads server asked in
     let was = c.args.found.now.items in
     let mid = c.table_turn.new.found.items in
     let now = c.later_pages.new.found.items in
@@ -42,7 +42,7 @@ returns-in-Err-later_pages-clause-told g c =
     let reads = g.T.Content.reads in
     let server = c.args.server.now in
     let asked = request_text server c.args.request.now in
-    let paging = table_paging reads server asked in
+    let paging = table_paging g.T.Line.PageLine.form reads server asked in
     let was = c.args.found.now.items in
     let mid = c.table_turn.new.found.items in
     let now = c.later_pages.new.found.items in
@@ -59,11 +59,11 @@ returns-in-None-clause-told g c =
     let reads = g.T.Content.reads in
     let server = c.args.server.now in
     let asked = request_text server c.args.request.now in
-    let paging = table_paging reads server asked in
+    let paging = table_paging g.T.Line.PageLine.form reads server asked in
     let was = c.args.found.now.items in
     let mid = c.table_turn.new.found.items in
     let page = c.in-Ok.page in
     known_as g.L.Link.coming g.L.Link.closed c.args.link.now c.table_turn.new.link
     (TableTurn paging None was mid (Ok page)) (PagesOnto paging was mid (Ok (page.0, 1)))
-    (λ s t a. only_page reads server asked was page.0 mid s t (subst (λ o. TableTurn paging None was mid (Ok (page.0, o)) s t) c.in-None.is a))
+    (λ s t a. only_page g.T.Line.PageLine.form reads server asked was page.0 mid s t (subst (λ o. TableTurn paging None was mid (Ok (page.0, o)) s t) c.in-None.is a))
     c.in-Ok.ensures.told

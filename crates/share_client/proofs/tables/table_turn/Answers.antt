@@ -18,8 +18,8 @@ returns-in-Ok-ask-clause-told g c =
     let spelt = c.as_str.ensures.value ∙ c.in-Ok.ensures in
     known_as g.L.Link.coming g.L.Link.closed c.args.link.now c.ask.new.link
     (Asks server.target text (Ok c.in-Ok-ask.response))
-    (TableTurn (table_paging g.T.Content.reads server asked) token was now c.read_table_page.result)
-    (λ s t came. page_came g.T.Content.reads server asked token text c.in-Ok-ask.response was now c.read_table_page.result s t spelt c.read_table_page.ensures came)
+    (TableTurn (table_paging g.T.Line.PageLine.form g.T.Content.reads server asked) token was now c.read_table_page.result)
+    (λ s t came. page_came g.T.Line.PageLine.form g.T.Content.reads server asked token text c.in-Ok-ask.response was now c.read_table_page.result s t spelt c.read_table_page.ensures came)
     c.in-Ok-ask.ensures.told
 
 pub returns-clause-told : goal.returns-clause-told
@@ -32,6 +32,6 @@ returns-clause-told g c =
     let spelt = c.as_str.ensures.value ∙ c.in-Ok.ensures in
     known_as g.L.Link.coming g.L.Link.closed c.args.link.now c.ask.new.link
     (Asks server.target text (Err c.in-Err-ask.fault))
-    (TableTurn (table_paging g.T.Content.reads server asked) token was was (Err c.in-Err-ask.fault))
-    (λ s t asks. page_failed g.T.Content.reads server asked token text c.in-Err-ask.fault was was s t spelt asks)
+    (TableTurn (table_paging g.T.Line.PageLine.form g.T.Content.reads server asked) token was was (Err c.in-Err-ask.fault))
+    (λ s t asks. page_failed g.T.Line.PageLine.form g.T.Content.reads server asked token text c.in-Err-ask.fault was was s t spelt asks)
     c.in-Err-ask.ensures.told

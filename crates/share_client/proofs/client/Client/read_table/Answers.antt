@@ -19,7 +19,7 @@ returns-in-Ok-read_pages-clause-told g c =
     let found = c.read_pages.new.found in
     let head = c.in-Ok-read_pages.head in
     let pages = c.in-Ok-read_pages.pages in
-    let read : TableRead = record { version = head.version; meta = line.MetaData head.meta; files = found; pages = pages } in
+    let read : TableRead = record { version = head.version; meta = line.MetaData head.front; files = found; pages = pages } in
     known_as g.L.Link.coming g.L.Link.closed c.args.link.now c.read_pages.new.link
     (PagesOnto paging was found.items (Ok (head, pages)))
     (ReadsTableOf (server_in profile) table body (Ok read))
