@@ -4,6 +4,7 @@
 mod decided;
 mod listed;
 mod signed;
+mod stored;
 
 use row_files::{RowFault, RowFile, Told, run_rows, text_at, word_at};
 use serde_json::Value;
@@ -19,6 +20,7 @@ fn answered(file: &RowFile, row: &Value) -> Result<Vec<u8>, RowFault> {
         Some("put") => decided::put_told(file, row),
         Some("get") => decided::get_told(file, row),
         Some("size") => decided::size_told(file, row),
+        Some("store") => stored::store_told(file, row),
         _ => Err(RowFault::Unknown("the call")),
     }
 }

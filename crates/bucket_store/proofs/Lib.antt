@@ -1,1 +1,10 @@
+mod Again
+mod Checking
+mod Exchanging
+mod Knowing
+mod Naming
+mod Paging
+mod Parting
+mod Sending
 mod Truth
+mod Untold

@@ -1,4 +1,11 @@
+pub mod Bounds
 pub mod Buckets
+pub mod Exchanges
+pub mod Folders
 pub mod Laws
 pub mod Looks
+pub mod Objects
 pub mod Puts
+pub mod Sides
+pub mod Stores
+pub mod Tries

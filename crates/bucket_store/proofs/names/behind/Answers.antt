@@ -1,0 +1,5 @@
+use Rattle.edge_core.proofs.Prefixes.{strips}
+use Rattle.bucket_store.proofs.names.behind.Goals as goal
+
+pub returns : goal.returns
+returns c = strips c.args.front.now c.args.text.now c.strip_prefix.result c.strip_prefix.ensures.cases
