@@ -1,0 +1,7 @@
+mod SameLemmas
+mod FileLemmas
+mod CommitLemmas
+pub mod Reaching
+mod TextLemmas
+mod Following
+mod Adding
